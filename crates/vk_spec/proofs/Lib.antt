@@ -1,0 +1,9 @@
+pub mod CountLemmas
+pub mod ListLemmas
+pub mod AnchorLemmas
+pub mod FileLemmas
+pub mod OrderLemmas
+pub mod RoomLemmas
+pub mod StateLemmas
+pub mod SinkLemmas
+pub mod ReadingLemmas

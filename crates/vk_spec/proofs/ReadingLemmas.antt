@@ -1,0 +1,62 @@
+-- Reading the members of a list one after the other, as a loop does.
+use Rattle.std.proofs.Common.{◌≡◌, ◌+◌, ◌<◌, ◌≤◌, ℕ, List, [], ◌∷◌, ◌++◌, length, drop, get_or, map, refl, ap, sym, ◌∙◌, append_assoc}
+use Rattle.std.specs.Prelude.{Option, Some, None, Result, Ok, Err}
+use Rattle.std.proofs.lemmas.List.{append-nil, drop_more, get_or-map, length-map, map-append}
+use Rattle.std.proofs.Math.ListN.{drop_of_length-le}
+use Rattle.vk_spec.specs.Reading.{◌>>=◌, read_each, Fails}
+
+-- what was read before, and what is still read
+abbrev pub with_front : {A F : Type 0} → List A → Result (List A) F → Result (List A) F
+with_front front read = read >>= λ xs. Ok (front ++ xs)
+
+regroup : {A F : Type 0} (front : List A) (x : A) (read : Result (List A) F) → with_front front (read >>= λ xs. Ok (x ∷ xs)) ≡ with_front (front ++ x ∷ []) read
+regroup front x (Ok xs) = ap Ok (sym (append_assoc front (x ∷ []) xs))
+regroup front x (Err f) = refl
+
+-- what is left to read from the place i on
+abbrev pub left_from : {X A F : Type 0} → (ℕ → X → Result A F) → ℕ → List X → Result (List A) F
+left_from f i xs = read_each f i (drop i xs)
+
+left_more : {X A F : Type 0} (f : ℕ → X → Result A F) (i : ℕ) (xs : List X) (d : X) → i < length xs → left_from f i xs ≡ (f i (get_or xs i d) >>= λ y. left_from f (i + 1) xs >>= λ ys. Ok (y ∷ ys))
+unfolding read_each
+left_more f i xs d within = ap (λ l. read_each f i l) (drop_more xs i d within)
+
+-- a member is read: the loop goes on
+pub goes_on : {X A F : Type 0} (f : ℕ → X → Result A F) (front : List A) (y : A) (i : ℕ) (xs : List X) (d : X) (total : Result (List A) F) → i < length xs → f i (get_or xs i d) ≡ Ok y
+    → with_front front (left_from f i xs) ≡ total → with_front (front ++ y ∷ []) (left_from f (i + 1) xs) ≡ total
+goes_on f front y i xs d total within read so_far =
+    let one : with_front front (left_from f i xs) ≡ with_front (front ++ y ∷ []) (left_from f (i + 1) xs) = rw (left_more f i xs d within, read) (regroup front y (left_from f (i + 1) xs)) in
+    sym one ∙ so_far
+
+-- a member has a fault: so has the list
+pub ends : {X A F : Type 0} (told : Option F) (f : ℕ → X → Result A F) (front : List A) (i : ℕ) (xs : List X) (d : X) (total : Result (List A) F) → i < length xs → Fails told (f i (get_or xs i d))
+    → with_front front (left_from f i xs) ≡ total → Fails told total
+ends None f front i xs d total within fails so_far = tt
+ends (Some fault) f front i xs d total within fails so_far =
+    let one : with_front front (left_from f i xs) ≡ Err fault = rw (left_more f i xs d within, fails) refl in
+    sym so_far ∙ one
+
+-- no member is left: the list is read
+pub is_done : {X A F : Type 0} (f : ℕ → X → Result A F) (front : List A) (i : ℕ) (xs : List X) (total : Result (List A) F) → length xs ≤ i → with_front front (left_from f i xs) ≡ total → total ≡ Ok front
+unfolding read_each
+is_done f front i xs total past so_far =
+    let one : with_front front (left_from f i xs) ≡ Ok front = rw (drop_of_length-le xs past) (ap Ok (append-nil front)) in
+    sym so_far ∙ one
+
+-- the same where a loop goes over values and keeps values that stand for what is read
+module _ {V X R A F : Type 0} (view : V → X) (out : R → A) (f : ℕ → X → Result A F) where
+  pub goes_on_by : (front : List R) (y : R) (i : ℕ) (vs : List V) (v : V) (total : Result (List A) F) → i < length vs → v ≡ get_or vs i v → f i (view v) ≡ Ok (out y)
+      → with_front (map out front) (left_from f i (map view vs)) ≡ total → with_front (map out (front ++ y ∷ [])) (left_from f (i + 1) (map view vs)) ≡ total
+  goes_on_by front y i vs v total within is read so_far =
+      rw (map-append out front (y ∷ []))
+      (goes_on f (map out front) (out y) i (map view vs) (view v) total (rw (length-map vs view) within)
+      (ap (f i) (get_or-map view vs i v (view v) within ∙ ap view (sym is)) ∙ read) so_far)
+
+  pub ends_by : (told : Option F) (front : List R) (i : ℕ) (vs : List V) (v : V) (total : Result (List A) F) → i < length vs → v ≡ get_or vs i v → Fails told (f i (view v))
+      → with_front (map out front) (left_from f i (map view vs)) ≡ total → Fails told total
+  ends_by told front i vs v total within is fails so_far =
+      ends told f (map out front) i (map view vs) (view v) total (rw (length-map vs view) within)
+      (rw (get_or-map view vs i v (view v) within, ← is) fails) so_far
+
+  pub is_done_by : (front : List R) (i : ℕ) (vs : List V) (total : Result (List A) F) → length vs ≤ i → with_front (map out front) (left_from f i (map view vs)) ≡ total → total ≡ Ok (map out front)
+  is_done_by front i vs total past so_far = is_done f (map out front) i (map view vs) total (rw (length-map vs view) past) so_far

@@ -1,0 +1,11 @@
+pub mod Counts
+pub mod Lists
+pub mod Paths
+pub mod Files
+pub mod States
+pub mod Calls
+pub mod Sinks
+pub mod Reading
+pub mod Versions
+pub mod Manifests
+pub mod Pages
