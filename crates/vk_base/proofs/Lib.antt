@@ -1,0 +1,4 @@
+pub mod NameLemmas
+pub mod PathLemmas
+pub mod PathLaws
+pub mod TokenLemmas

@@ -1,0 +1,7 @@
+pub mod Names
+pub mod NameFaults
+pub mod Paths
+pub mod PathReading
+pub mod PathFaults
+pub mod PathHash
+pub mod Tokens

@@ -1,0 +1,65 @@
+-- The rules of names, and the first place at which a text breaks one.
+use Rattle.std.specs.Prelude.{◌≡◌, ◌≢◌, ◌-◌, ◌≤◌, ◌<◌, ◌||◌, ◌&&◌, ◌==◌, ℕ, Bool, true, false, not, nat_lt, nat_le, List, length, take, slice_index, Option, Some, None, Result, Ok, Err, if◌then◌else◌}
+use Rattle.std.specs.List.{position, All}
+
+-- what a kind of names allows besides lower-case letters, digits, and hyphens inside
+pub record NameRule : Type 0 where
+  -- `_`, anywhere
+  pub underscore : Bool
+  -- a hyphen as the last byte
+  pub last_hyphen : Bool
+
+abbrev pub port_rule : NameRule
+port_rule = record { underscore = false; last_hyphen = false }
+
+-- the rule of features, triplets and agents
+abbrev pub word_rule : NameRule
+word_rule = record { underscore = true; last_hyphen = true }
+
+-- a to z, 0 to 9, `-`, and `_` where the rule allows it
+abbrev pub is_name_byte : NameRule → ℕ → Bool
+is_name_byte rule b = (nat_le 97 b && nat_le b 122) || (nat_le 48 b && nat_le b 57) || (b == 45) || (rule.underscore && b == 95)
+
+pub record IsName (rule : NameRule) (text : List ℕ) : Type 0 where
+  pub bytes : All (λ b. is_name_byte rule b ≡ true) text
+  pub some : 0 < length text
+  pub few : length text ≤ 200
+  pub first : slice_index text 0 ≢ 45
+  pub last : rule.last_hyphen ≡ false → slice_index text (length text - 1) ≢ 45
+
+-- the fault of a text whose first 200 bytes are right: it is too long, or empty, or ends with a hyphen
+abbrev pub end_fault : NameRule → List ℕ → Option ℕ
+end_fault rule text =
+    if nat_lt 200 (length text) then Some 200 else
+    if length text == 0 || (not rule.last_hyphen && slice_index text (length text - 1) == 45) then Some (length text) else None
+
+-- where a byte is found that no name has, there; else at the end
+abbrev pub fault_from : NameRule → List ℕ → Option ℕ → Option ℕ
+fault_from rule text (Some at) = Some at
+fault_from rule text None = end_fault rule text
+
+-- the place of the first byte that breaks the rule, or none
+abbrev pub name_fault : NameRule → List ℕ → Option ℕ
+name_fault rule text =
+    if slice_index text 0 == 45 then Some 0 else
+    fault_from rule text (position (λ b. not (is_name_byte rule b)) (take 200 text))
+
+-- nothing before this place breaks the rule
+pub record BreaksFirst (rule : NameRule) (text : List ℕ) (at : ℕ) : Type 0 where
+  pub within : at ≤ length text
+  pub few : at ≤ 200
+  pub before : (k : ℕ) → k < at → is_name_byte rule (slice_index text k) ≡ true
+  pub first : 0 < at → slice_index text 0 ≢ 45
+
+-- what is wrong with a name
+pub data NameWrong : Type 0 where
+  bad : ℕ → NameWrong
+  reserved : NameWrong
+
+-- a name is its text, unless the text has a fault
+abbrev pub named : List ℕ → Option ℕ → Result (List ℕ) NameWrong
+named text None = Ok text
+named text (Some at) = Err (bad at)
+
+abbrev pub reads_name : NameRule → List ℕ → Result (List ℕ) NameWrong
+reads_name rule text = named text (name_fault rule text)
