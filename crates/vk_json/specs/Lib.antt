@@ -1,0 +1,3 @@
+pub mod Documents
+pub mod DocumentView
+pub mod Looks

@@ -1,0 +1,55 @@
+ghost use Rattle.std.specs.Prelude.{◌≡◌, IfOk, IfErr, ◌<◌, length};
+ghost use Rattle.serde_json.specs.View.{view};
+ghost use Rattle.serde_json.specs.Errors.{IsMemory};
+ghost use Rattle.vk_spec.specs.Reading.{Gives};
+ghost use Rattle.vk_json.specs.Documents.{json_of, without_mark};
+ghost use Rattle.vk_json.specs.DocumentView.{doc_data, file_fault_of};
+
+use crate::faults::{FileFault, Why};
+use serde_json::Value;
+use std::alloc::Global;
+use vk_base::Text;
+
+/// A JSON document that was read.
+#[derive(Drop)]
+pub struct Doc {
+    value: Value,
+}
+
+impl Doc {
+    /// Reads a document; one leading byte order mark is passed over. `Wrong` with the place of the
+    /// whole and `Json` exactly where `serde_json` has no reading of the bytes (RFC 8259).
+    pub fn read(alloc: Global, bytes: &[u8]) -> Result<Doc, FileFault>
+        ensures { Gives doc_data file_fault_of result (json_of bytes.now) }
+    {
+        match Value::from_slice(alloc, without_mark(bytes)) {
+            Ok(value) => Ok(Doc { value }),
+            Err(e) => {
+                if e.is_memory() {
+                    return Err(FileFault::Memory);
+                }
+                Err(FileFault::Wrong {
+                    place: Text::new(alloc),
+                    why: Why::Json,
+                })
+            }
+        }
+    }
+
+    /// The value that was read, lent.
+    pub fn value(&self) -> &Value
+        ensures { view result.now ≡ doc_data self.now }
+    {
+        &self.value
+    }
+}
+
+// The bytes after a byte order mark, if they begin with one.
+fn without_mark(bytes: &[u8]) -> &[u8]
+    ensures { result.now ≡ without_mark bytes.now }
+{
+    match bytes {
+        [0xEF, 0xBB, 0xBF, rest @ ..] => rest,
+        _ => bytes,
+    }
+}

@@ -1,0 +1,13 @@
+//! JSON documents as `serde_json` reads them, and getters that answer by the value that was read.
+//! It promises upwards that bytes have one value or one fault, and that a getter loses nothing of it.
+#![tactic(auto)]
+
+mod documents;
+mod faults;
+mod getters;
+#[cfg(test)]
+mod tests;
+
+pub use documents::Doc;
+pub use faults::{FileFault, Why};
+pub use getters::{as_bool, as_number, as_text, items, keys, member};
