@@ -1,0 +1,55 @@
+-- A list cut at the first element that passes a test.
+use Rattle.std.proofs.Common.{◌≡◌, ◌+◌, ltb, ◌-◌, length-drop, ◌<◌, ◌≤◌, ℕ, Bool, true, false, List, [], ◌∷◌, length, take, drop, inl, inr, refl, ◌∙◌, arith}
+use Rattle.std.specs.Prelude.{Some, None}
+use Rattle.std.specs.List.{list_any, position, position_or_len, before_first, slice_split}
+use Rattle.std.proofs.lemmas.Bool.{cases_lt, cases_Bool, lt-ltb, le-ltb}
+use Rattle.std.proofs.lemmas.Bool.Decides.{nat_tests}
+use Rattle.std.proofs.lemmas.List.{take_all}
+use Rattle.std.proofs.lemmas.List.Sums.{fails_before_first}
+use Rattle.std.proofs.lemmas.List.Splits.{slice_split_none, slice_split_first}
+
+pub position-None : {X : Type 0} (p : X → Bool) (xs : List X) → position p xs ≡ None → length xs ≤ position_or_len p xs
+position-None p xs e =
+    elim (cases_lt (position_or_len p xs) (length xs)) [
+      | inl at ↦ (let yes = lt-ltb _ _ at in let e2 = rw yes at e in (cc))
+      | inr past ↦ past
+    ]
+
+pub position-Some : {X : Type 0} (p : X → Bool) (xs : List X) (i : ℕ) → position p xs ≡ Some i → (position_or_len p xs ≡ i) × (i < length xs)
+position-Some p xs i e =
+    elim (cases_lt (position_or_len p xs) (length xs)) [
+      | inl at ↦ (let yes = lt-ltb _ _ at in let e2 = rw yes at e in let same : position_or_len p xs ≡ i = cc in (same, rw (← same) at))
+      | inr past ↦ (let no_place = le-ltb _ _ past in let e2 = rw no_place at e in (cc))
+    ]
+
+-- nothing passes: the list is the one part
+pub uncut : {X : Type 0} (p : X → Bool) (xs : List X) → position p xs ≡ None → (before_first p xs ≡ xs) × (slice_split p xs ≡ xs ∷ [])
+uncut p xs e =
+    let past = position-None p xs e in
+    (take_all (position_or_len p xs) xs past, slice_split_none p xs (λ k d within. fails_before_first p xs k d (omega arith)))
+
+-- something passes: the first part ends there
+pub cut_at : {X : Type 0} (p : X → Bool) (xs : List X) (i : ℕ) (d : X) → position p xs ≡ Some i → slice_split p xs ≡ take i xs ∷ slice_split p (drop (i + 1) xs)
+cut_at p xs i d e =
+    let at = position-Some p xs i e in
+    let within : position_or_len p xs < length xs = rw at.0 at.1 in
+    rw at.0 at (slice_split_first p xs d within)
+
+-- what stands from a place on, as a range
+pub rest_from : {X : Type 0} (n : ℕ) (xs : List X) → take (length xs - n) (drop n xs) ≡ drop n xs
+rest_from n xs = take_all (length xs - n) (drop n xs) (rw length-drop (omega arith))
+
+-- an element passes exactly where there is a first one
+pub any_at : {X : Type 0} (p : X → Bool) (xs : List X) → list_any p xs ≡ ltb (position_or_len p xs) (length xs)
+any_at p [] = refl
+any_at p (x ∷ xs) =
+    elim (cases_Bool (p x)) [
+      | inl here ↦ rw (here, lt-ltb 0 (length (x ∷ xs)) (omega arith)) refl
+      | inr other ↦ rw (other, any_at p xs) (grind (arith, nat_tests))
+    ]
+
+pub none_passes : {X : Type 0} (p : X → Bool) (xs : List X) → position_or_len p xs ≡ length xs → (before_first p xs ≡ xs) × (list_any p xs ≡ false)
+none_passes p xs e = (take_all (position_or_len p xs) xs (omega (arith, e)), any_at p xs ∙ le-ltb _ _ (omega (arith, e)))
+
+pub one_passes : {X : Type 0} (p : X → Bool) (xs : List X) → position_or_len p xs < length xs → list_any p xs ≡ true
+one_passes p xs at = any_at p xs ∙ lt-ltb _ _ at

@@ -1,0 +1,11 @@
+mod CutLemmas
+mod DigitLemmas
+mod NumberLemmas
+mod SuffixLemmas
+mod FaultLemmas
+mod DateLemmas
+mod OrderLemmas
+mod SameTextLemmas
+mod TestLemmas
+mod ApartLemmas
+mod RefusedLemmas

@@ -1,0 +1,201 @@
+-- The order and its test say the same, and what each answer of the test says.
+use Rattle.std.proofs.Common.{◌≡◌, ◌≤◌, ◌||◌, ◌↔◌, ℕ, true, false, List, Option, Some, None, inl, inr, refl, ap, sym, ◌∙◌, arith}
+use Rattle.std.specs.Prelude.{nat_eq}
+use Rattle.std.specs.declared.cmp.Ordering.{Ordering}
+use Rattle.std.specs.declared.cmp.Ordering.TheVariants.{Less, Equal, Greater}
+use Rattle.std.specs.Bool.{Decides}
+use Rattle.std.specs.Ordering.{nat_cmp, ordering_reverse, is_some_and, is_le}
+use Rattle.std.specs.Cmp.Lexicographic.{pointwise}
+use Rattle.std.proofs.lemmas.Bool.{cases_Bool, cases_order, or_cases, or_right}
+use Rattle.std.proofs.lemmas.Bool.Decides.{Decides-eqb, nat_tests}
+use Rattle.std.proofs.lemmas.Cmp.{tied_back}
+use Rattle.std.proofs.lemmas.Slice.Eq.{slice_eq-Decides}
+use Rattle.vk_spec.specs.Versions.{Class, Version}
+use Rattle.vk_spec.specs.Versions as plain
+use Rattle.vk_version.specs.Readings.{IsVersion}
+use Rattle.vk_version.specs.Orders.{AtMost, Below, Unrelated, rank_cmp, is_date, tie_cmp, unless_tied, is_same_class, order_of, at_most}
+use Rattle.vk_version.proofs.OrderLemmas.{Ordered, lower, tied, IsTied, ordered_from, ordered_to, rank_total, AtMost-refl, date_parts}
+use Rattle.vk_version.proofs.SameTextLemmas.{same_dates}
+
+-- ---- antisymmetry
+
+same_version : (v w : Version) → v.class ≡ w.class → v.text ≡ w.text → v.port ≡ w.port → v ≡ w
+same_version v w c t p = λ i. record { class = c i; text = t i; port = p i }
+
+tied_text : (v w : Version) → IsVersion v → IsVersion w → v.class ≡ w.class → rank_cmp v w ≡ Equal → IsTied v w → v.text ≡ w.text
+tied_text v w iv iw c r (inl date) = let d = date_parts v w date (sym c ∙ date) r in same_dates v w iv iw date (sym c ∙ date) d.0 d.1
+tied_text v w iv iw c r (inr same) = same
+
+ordered_anti : (v w : Version) → IsVersion v → IsVersion w → Ordered v w → Ordered w v → v ≡ w
+ordered_anti v w iv iw (lower c r) (lower d s) = (let clash : Less ≡ Greater = sym r ∙ rank_total.antisymm v w ∙ ap ordering_reverse s in (cc))
+ordered_anti v w iv iw (lower c r) (tied d s t le) = (let clash : Less ≡ Equal = sym r ∙ rank_total.antisymm v w ∙ ap ordering_reverse s in (cc))
+ordered_anti v w iv iw (tied c r t le) (lower d s) = (let clash : Equal ≡ Greater = sym r ∙ rank_total.antisymm v w ∙ ap ordering_reverse s in (cc))
+ordered_anti v w iv iw (tied c r t le) (tied d s t2 le2) = same_version v w c (tied_text v w iv iw c r t) (omega arith)
+
+pub AtMost-antisym : (v w : Version) → IsVersion v → IsVersion w → AtMost v w → AtMost w v → v ≡ w
+AtMost-antisym v w iv iw h k = ordered_anti v w iv iw (ordered_from v w h) (ordered_from w v k)
+
+-- ---- what the test says
+
+-- what each answer means
+abbrev pub Says : Version → Version → Option Ordering → Type 0
+Says v w (Some Less) = AtMost v w × (AtMost w v → ⊥)
+Says v w (Some Equal) = AtMost v w × AtMost w v
+Says v w (Some Greater) = (AtMost v w → ⊥) × AtMost w v
+Says v w None = Unrelated v w
+
+class_true : (c d : Class) → is_same_class c d ≡ true → c ≡ d
+class_true plain.dot plain.dot e = refl
+class_true plain.dot plain.date e = (cc)
+class_true plain.dot plain.text e = (cc)
+class_true plain.date plain.dot e = (cc)
+class_true plain.date plain.date e = refl
+class_true plain.date plain.text e = (cc)
+class_true plain.text plain.dot e = (cc)
+class_true plain.text plain.date e = (cc)
+class_true plain.text plain.text e = refl
+
+class_self : (c : Class) → is_same_class c c ≡ true
+class_self plain.dot = refl
+class_self plain.date = refl
+class_self plain.text = refl
+
+class_false : (c d : Class) → is_same_class c d ≡ false → c ≡ d → ⊥
+class_false c d e same = (let yes : is_same_class c d ≡ true = rw same (class_self d) in let clash : true ≡ false = sym yes ∙ e in (cc))
+
+pub ordered_class : (v w : Version) → Ordered v w → v.class ≡ w.class
+ordered_class v w (lower c r) = c
+ordered_class v w (tied c r t le) = c
+
+-- one that comes later isn't ordered first
+not_later : (v w : Version) → rank_cmp v w ≡ Greater → Ordered v w → ⊥
+not_later v w g (lower c r) = (let clash : Greater ≡ Less = sym g ∙ r in (cc))
+not_later v w g (tied c r t le) = (let clash : Greater ≡ Equal = sym g ∙ r in (cc))
+
+date_true : (c : Class) → is_date c ≡ true → c ≡ plain.date
+date_true plain.dot e = (cc)
+date_true plain.date e = refl
+date_true plain.text e = (cc)
+
+texts_decide : (xs ys : List ℕ) → Decides (pointwise nat_eq xs ys) (xs ≡ ys)
+texts_decide xs ys = slice_eq-Decides Decides-eqb xs ys (pointwise nat_eq xs ys) refl
+
+tied_true : (v w : Version) → (is_date v.class || pointwise nat_eq v.text w.text) ≡ true → IsTied v w
+tied_true v w e =
+    elim (or_cases (is_date v.class) (pointwise nat_eq v.text w.text) e) [
+      | inl date ↦ inl (date_true v.class date)
+      | inr same ↦ inr ((texts_decide v.text w.text).0 same)
+    ]
+
+tied_false : (v w : Version) → (is_date v.class || pointwise nat_eq v.text w.text) ≡ false → IsTied v w → ⊥
+tied_false v w e (inl date) = (let yes : (is_date v.class || pointwise nat_eq v.text w.text) ≡ true = rw date refl in let clash : true ≡ false = sym yes ∙ e in (cc))
+tied_false v w e (inr same) =
+    (let yes = or_right (is_date v.class) (pointwise nat_eq v.text w.text) ((texts_decide v.text w.text).1 same) in let clash : true ≡ false = sym yes ∙ e in (cc))
+
+tied_back_too : (v w : Version) → v.class ≡ w.class → IsTied v w → IsTied w v
+tied_back_too v w c (inl date) = inl (sym c ∙ date)
+tied_back_too v w c (inr same) = inr (sym same)
+
+-- ordered first, of one rank: tied, and the port-version isn't greater
+pub of_one_rank : (v w : Version) → rank_cmp v w ≡ Equal → Ordered v w → IsTied v w × (v.port ≤ w.port)
+of_one_rank v w r (lower c s) = (let clash : Equal ≡ Less = sym r ∙ s in (cc))
+of_one_rank v w r (tied c s t le) = (t, le)
+
+says_tied : (v w : Version) → v.class ≡ w.class → rank_cmp v w ≡ Equal → IsTied v w → Says v w (Some (nat_cmp v.port w.port))
+says_tied v w c r t =
+    let back = tied_back rank_total v w r in
+    let t_back = tied_back_too v w c t in
+    elim (cases_order v.port w.port) [
+      | inl same ↦
+          let e : nat_cmp v.port w.port ≡ Equal = grind (arith, nat_tests) in
+          rw e (ordered_to v w (tied c r t (omega arith)), ordered_to w v (tied (sym c) back t_back (omega arith)))
+      | inr other ↦ elim other [
+        | inl lt ↦
+            let e : nat_cmp v.port w.port ≡ Less = grind (arith, nat_tests) in
+            rw e (ordered_to v w (tied c r t (omega arith)), (λ h. let le = (of_one_rank w v back (ordered_from w v h)).1 in absurd (omega arith)))
+        | inr gt ↦
+            let e : nat_cmp v.port w.port ≡ Greater = grind (arith, nat_tests) in
+            rw e ((λ h. let le = (of_one_rank v w r (ordered_from v w h)).1 in absurd (omega arith)), ordered_to w v (tied (sym c) back t_back (omega arith)))
+      ]
+    ]
+
+says_tie : (v w : Version) → v.class ≡ w.class → rank_cmp v w ≡ Equal → Says v w (tie_cmp v w)
+says_tie v w c r =
+    elim (cases_Bool (is_date v.class || pointwise nat_eq v.text w.text)) [
+      | inl tie ↦ rw tie (says_tied v w c r (tied_true v w tie))
+      | inr none ↦
+          let back = tied_back rank_total v w r in
+          rw none (
+            (λ h. tied_false v w none (of_one_rank v w r (ordered_from v w h)).0),
+            (λ h. tied_false v w none (tied_back_too w v (sym c) (of_one_rank w v back (ordered_from w v h)).0)),
+          )
+    ]
+
+says_rank : (o : Ordering) (v w : Version) → v.class ≡ w.class → rank_cmp v w ≡ o → Says v w (unless_tied o (tie_cmp v w))
+says_rank Less v w c r =
+    let back : rank_cmp w v ≡ Greater = rank_total.antisymm w v ∙ ap ordering_reverse r in
+    (ordered_to v w (lower c r), (λ h. not_later w v back (ordered_from w v h)))
+says_rank Equal v w c r = says_tie v w c r
+says_rank Greater v w c r =
+    let back : rank_cmp w v ≡ Less = rank_total.antisymm w v ∙ ap ordering_reverse r in
+    ((λ h. not_later v w r (ordered_from v w h)), ordered_to w v (lower (sym c) back))
+
+pub says : (v w : Version) → Says v w (order_of v w)
+says v w =
+    elim (cases_Bool (is_same_class v.class w.class)) [
+      | inl same ↦ rw same (says_rank (rank_cmp v w) v w (class_true v.class w.class same) refl)
+      | inr other ↦ rw other (
+        (λ h. class_false v.class w.class other (ordered_class v w (ordered_from v w h))),
+        (λ h. class_false v.class w.class other (sym (ordered_class w v (ordered_from w v h)))),
+      )
+    ]
+
+-- ---- the test and the relation
+
+test_says : (v w : Version) (answer : Option Ordering) → Says v w answer → (is_some_and is_le answer ≡ true) ↔ AtMost v w
+test_says v w (Some Less) s = ((λ e. s.0), (λ h. refl))
+test_says v w (Some Equal) s = ((λ e. s.0), (λ h. refl))
+test_says v w (Some Greater) s = ((λ e. (cc)), (λ h. absurd (s.0 h)))
+test_says v w None s = ((λ e. (cc)), (λ h. absurd (s.0 h)))
+
+pub at_most_is : (v w : Version) → (at_most v w ≡ true) ↔ AtMost v w
+at_most_is v w = test_says v w (order_of v w) (says v w)
+
+AtMost-same : (v w : Version) → v ≡ w → AtMost v w
+AtMost-same v w e = rw e (AtMost-refl w)
+
+-- each answer comes exactly where its meaning holds
+pub record Answers (v w : Version) (answer : Option Ordering) : Type 0 where
+  pub less : (answer ≡ Some Less) ↔ Below v w
+  pub equal : (answer ≡ Some Equal) ↔ (v ≡ w)
+  pub greater : (answer ≡ Some Greater) ↔ Below w v
+  pub none : (answer ≡ None) ↔ Unrelated v w
+
+answers_says : (v w : Version) → IsVersion v → IsVersion w → (answer : Option Ordering) → Says v w answer → Answers v w answer
+answers_says v w iv iw (Some Less) s = record {
+  less = ((λ e. (s.0, (λ same. s.1 (AtMost-same w v (sym same))))), (λ b. refl));
+  equal = ((λ e. (cc)), (λ same. absurd (s.1 (AtMost-same w v (sym same)))));
+  greater = ((λ e. (cc)), (λ b. absurd (s.1 b.0)));
+  none = ((λ e. (cc)), (λ u. absurd (u.0 s.0)));
+}
+answers_says v w iv iw (Some Equal) s = record {
+  less = ((λ e. (cc)), (λ b. absurd (b.1 (AtMost-antisym v w iv iw s.0 s.1))));
+  equal = ((λ e. AtMost-antisym v w iv iw s.0 s.1), (λ same. refl));
+  greater = ((λ e. (cc)), (λ b. absurd (b.1 (AtMost-antisym w v iw iv s.1 s.0))));
+  none = ((λ e. (cc)), (λ u. absurd (u.0 s.0)));
+}
+answers_says v w iv iw (Some Greater) s = record {
+  less = ((λ e. (cc)), (λ b. absurd (s.0 b.0)));
+  equal = ((λ e. (cc)), (λ same. absurd (s.0 (AtMost-same v w same))));
+  greater = ((λ e. (s.1, (λ same. s.0 (AtMost-same v w (sym same))))), (λ b. refl));
+  none = ((λ e. (cc)), (λ u. absurd (u.1 s.1)));
+}
+answers_says v w iv iw None s = record {
+  less = ((λ e. (cc)), (λ b. absurd (s.0 b.0)));
+  equal = ((λ e. (cc)), (λ same. absurd (s.0 (AtMost-same v w same))));
+  greater = ((λ e. (cc)), (λ b. absurd (s.1 b.0)));
+  none = ((λ e. s), (λ u. refl));
+}
+
+pub answers : (v w : Version) → IsVersion v → IsVersion w → (answer : Option Ordering) → answer ≡ order_of v w → Answers v w answer
+answers v w iv iw answer e = rw e (answers_says v w iv iw (order_of v w) (says v w))

@@ -1,0 +1,78 @@
+//! What follows from the definitions alone: each function's contract is a law, and its body is empty.
+
+ghost use Rattle.std.specs.Prelude.{◌≡◌, ◌≢◌, ◌<◌, ◌≤◌, ◌^◌, pos, ◌↔◌, ◌∷◌, [], ℕ, List, Some, Ok, Err, IsTrue};
+ghost use Rattle.std.specs.List.{Contains};
+ghost use Rattle.semver.specs.Order.{parts};
+ghost use Rattle.semver.specs.Parse.{Parts, version_parts};
+ghost use Rattle.jiff.specs.Words.{IsDate};
+ghost use Rattle.vk_spec.specs.Versions.{Version};
+ghost use Rattle.vk_spec.specs.Versions as plain;
+ghost use Rattle.vk_version.specs.Schemes as the;
+ghost use Rattle.vk_version.specs.Texts.{HasSuffix, IsPadded, core_of, day_of, has_day, is_number, later_numbers, later_parts, number_of, numbers_in, pre_in, suffix_of};
+ghost use Rattle.vk_version.specs.Readings.{IsVersion, fault_under, reads_version};
+ghost use Rattle.vk_version.specs.Orders.{AtMost, BothAre, Unrelated, at_most, numbers_of, pre_of};
+
+/// A version is at most itself.
+pub fn reflexive()
+    ensures { (v : Version) → AtMost v v }
+{}
+
+/// What is at most a version is at most all that this one is at most.
+pub fn transitive()
+    ensures { (u v w : Version) → AtMost u v → AtMost v w → AtMost u w }
+{}
+
+/// Two versions that are at most each other are the same: class, text and port-version.
+pub fn antisymmetric()
+    ensures { (v w : Version) → IsVersion v → IsVersion w → AtMost v w → AtMost w v → v ≡ w }
+{}
+
+/// The test says what the relation says.
+pub fn tested()
+    ensures { (v w : Version) → IsTrue (at_most v w) ↔ AtMost v w }
+{}
+
+/// Versions of different classes are unrelated.
+pub fn classes_apart()
+    ensures { (v w : Version) → v.class ≢ w.class → Unrelated v w }
+{}
+
+/// Different texts of one precedence are unrelated, whatever their port-versions.
+pub fn texts_apart()
+    ensures dotted { (v w : Version) → BothAre plain.dot v w → numbers_of v ≡ numbers_of w → pre_of v ≡ pre_of w → v.text ≢ w.text → Unrelated v w }
+    ensures strings { (v w : Version) → BothAre plain.text v w → v.text ≢ w.text → Unrelated v w }
+{}
+
+/// Two dates with the same day and numbers have the same text, so no two dates are unrelated.
+pub fn dates_together()
+    ensures related { (v w : Version) → BothAre plain.date v w → Unrelated v w → ⊥ }
+    ensures texts { (v w : Version) → IsVersion v → IsVersion w → BothAre plain.date v w → day_of v.text ≡ day_of w.text → later_numbers v.text ≡ later_numbers w.text → v.text ≡ w.text }
+{}
+
+/// A part that goes on after a leading zero is no number, so a text with one has no reading.
+pub fn padded_numbers_are_refused()
+    ensures relaxed { (text part : List ℕ) (port : ℕ) → IsPadded part → Contains (parts (core_of text)) part → reads_version the.relaxed text port ≡ Err the.shape }
+    ensures semver { (text part : List ℕ) (port : ℕ) → IsPadded part → Contains (parts (core_of text)) part → reads_version the.semver text port ≡ Err the.shape }
+    ensures date { (text part : List ℕ) (port : ℕ) → IsPadded part → Contains (later_parts text) part → reads_version the.date text port ≡ Err the.shape }
+{}
+
+/// Two texts of one number are the same text.
+pub fn numbers_have_one_text()
+    ensures { (one other : List ℕ) → IsTrue (is_number one) → IsTrue (is_number other) → number_of one < 2 ^ 64 → number_of one ≡ number_of other → one ≡ other }
+{}
+
+/// The fault of a suffix stands exactly where numbers joined by dots go on with `-` or `+`.
+pub fn suffixes()
+    ensures { (text : List ℕ) → (fault_under the.relaxed text ≡ Some the.suffix) ↔ HasSuffix text }
+{}
+
+/// The days that a date may have are those of the calendar, in the years 0000 to 9999.
+pub fn days()
+    ensures { (year month day : ℕ) → year ≤ 9999 → IsTrue (has_day (year ∷ month ∷ day ∷ [])) ↔ IsDate (pos year) (pos month) (pos day) }
+{}
+
+/// What the order compares of a semantic version is what the standard's reader finds in it.
+pub fn semantic_parts()
+    ensures numbers { (text : List ℕ) (found : Parts) → version_parts text ≡ Ok found → numbers_in (core_of text) ≡ found.0 ∷ found.1 ∷ found.2 ∷ [] }
+    ensures pre_release { (text : List ℕ) (found : Parts) → version_parts text ≡ Ok found → pre_in (suffix_of text) ≡ found.3 }
+{}

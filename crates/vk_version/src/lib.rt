@@ -1,0 +1,20 @@
+//! Versions: four schemes of version texts, and the partial order on what they read.
+//! It promises upwards that a text is a version exactly where its scheme's rule says so, and that
+//! two versions compare exactly as the order says.
+#![tactic(auto)]
+
+mod asks;
+mod days;
+mod faults;
+pub mod laws;
+mod numbers;
+mod plains;
+mod schemes;
+#[cfg(test)]
+mod tests;
+mod versions;
+
+pub use asks::{Ask, read_ask};
+pub use faults::VersionFault;
+pub use schemes::{Class, Scheme};
+pub use versions::{Version, order, read};
