@@ -1,0 +1,4 @@
+pub mod Answers
+pub mod Schedules
+pub mod MemSinks
+pub mod MemTrees

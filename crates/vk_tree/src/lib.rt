@@ -1,0 +1,22 @@
+//! The world outside: a tree of files and a sink of bytes, by what is known of each, and both in
+//! memory. It promises upwards that a failure is told only where a count of faults may have risen,
+//! and that a count that rose forces the answer which tells it.
+#![tactic(auto)]
+
+mod buffers;
+mod disks;
+mod mem_sinks;
+mod mem_trees;
+mod schedules;
+mod sending;
+mod sinks;
+mod trees;
+
+pub use mem_sinks::MemSink;
+pub use mem_trees::MemTree;
+pub use sending::{OutStop, send};
+pub use sinks::{Sink, SinkFailed};
+pub use trees::{ReadFault, Tree};
+
+#[cfg(test)]
+mod tests;

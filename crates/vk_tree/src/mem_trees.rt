@@ -1,0 +1,164 @@
+ghost use Rattle.std.specs.Prelude.{◌≡◌, ◌↔◌, ◌++◌, IsTrue, IfOk, OnOk, OnErr, Some, option_map, false};
+ghost use Rattle.std.specs.FinMap as map;
+ghost use Rattle.vk_spec.specs.Files.{HasRoomFor};
+ghost use Rattle.vk_spec.specs.Calls.{Reads, ReadsFile, NoLonger, is_failed, noted};
+ghost use Rattle.vk_tree.specs.Answers.{read_answer};
+ghost use Rattle.vk_tree.specs.Schedules.{with_listed, with_stop};
+ghost use Rattle.vk_tree.specs.MemTrees.{IsNewTree, MemCalls, mem_files, mem_log, mem_schedule, mem_state, with_file, with_schedule};
+
+use crate::disks::Disk;
+use crate::schedules::Schedule;
+use crate::trees::{ReadFault, Tree};
+use std::alloc::{AllocError, AllocFailed, Global};
+use vk_base::{List, Memory, TreePath};
+
+/// A tree in memory that tells its files.
+#[derive(Drop)]
+pub struct MemTree {
+    alloc: Global,
+    disk: Disk,
+    log: List<TreePath>,
+    changes: u64,
+    faults: u64,
+    schedule: Schedule,
+}
+
+impl MemTree {
+    /// A tree without files: its log is empty, all its counts are 0, and no call is to fail.
+    pub fn new(alloc: Global) -> Result<MemTree, Memory>
+        ensures { IfOk result (λ m. IsNewTree m) }
+    {
+        Ok(MemTree {
+            alloc,
+            disk: Disk::new(alloc),
+            log: List::new(alloc),
+            changes: 0,
+            faults: 0,
+            schedule: Schedule::new(alloc),
+        })
+    }
+
+    /// Puts a file at a path above and below which no file stands. It counts as no call, and
+    /// raises no count.
+    pub fn put(&mut self, path: &TreePath, bytes: &[u8]) -> Result<(), Memory>
+        requires { HasRoomFor path.now (mem_files self.old) }
+        ensures ok { OnOk result (mem_state self.new ≡ with_file path.now bytes.now (mem_state self.old)) }
+        ensures err { OnErr result (mem_state self.new ≡ mem_state self.old) }
+        ensures schedule { mem_schedule self.new ≡ mem_schedule self.old }
+    {
+        let path = path.clone()?;
+        let held = List::from_slice(self.alloc, bytes)?;
+        self.disk.put(path, held)?;
+        Ok(())
+    }
+
+    /// Whether a file may be put at a path: none stands above it or below it. Takes no memory, and
+    /// looks at two files alone.
+    pub fn has_room(&self, path: &TreePath) -> bool
+        ensures { IsTrue result ↔ HasRoomFor path.now (mem_files self.now) }
+    {
+        self.disk.has_room(path)
+    }
+
+    /// The calls with these numbers fail, counted from 1 over every call of the trait but
+    /// `faults`, in place of those named before. The calls are counted on.
+    pub fn fail_at(&mut self, calls: &[u64]) -> Result<(), Memory>
+        ensures ok { OnOk result (self.new ≡ with_schedule (with_listed calls.now (mem_schedule self.old)) self.old) }
+        ensures err { OnErr result (self.new ≡ self.old) }
+    {
+        self.schedule.list(self.alloc, calls)?;
+        Ok(())
+    }
+
+    /// That call and every later one fails, in place of the call named before; `u64::MAX` names
+    /// none. Takes no memory.
+    pub fn stop_at(&mut self, call: u64)
+        ensures { self.new ≡ with_schedule (with_stop call (mem_schedule self.old)) self.old }
+    {
+        self.schedule.stop_at(call);
+    }
+
+    /// The bytes of the file at a path; `None` exactly where no file stands there.
+    /// Takes no memory.
+    pub fn file(&self, path: &TreePath) -> Option<&[u8]>
+        ensures { option_map (λ b. b.now) result ≡ map.get (mem_files self.now) path.now }
+    {
+        match self.disk.get(path) {
+            Some(bytes) => Some(bytes.as_slice()),
+            None => None,
+        }
+    }
+
+    /// The paths that it was asked to read, in order, but those of calls that failed or lacked
+    /// memory. Takes no memory.
+    pub fn logged(&self) -> &List<TreePath>
+        ensures { result.now ≡ mem_log self.now }
+    {
+        &self.log
+    }
+
+    /// How many writes, renames and removals succeeded. Takes no memory.
+    pub fn changed(&self) -> u64
+        ensures { result ≡ (mem_state self.now).changes }
+    {
+        self.changes
+    }
+}
+
+// What a read answers by what stands there.
+fn look(disk: &Disk, path: &TreePath, limit: u64) -> Result<List<u8>, ReadFault>
+    ensures found { ReadsFile (map.get disk.now path.now) limit (read_answer result) }
+    ensures small { NoLonger limit (read_answer result) }
+    ensures calm { is_failed (read_answer result) ≡ false }
+{
+    match disk.get(path) {
+        None => Err(ReadFault::Missing),
+        Some(bytes) => {
+            if bytes.len() as u64 > limit {
+                return Err(ReadFault::TooLarge);
+            }
+            Ok(bytes.clone()?)
+        }
+    }
+}
+
+// Looks, and notes the path where the answer tells what stands there.
+fn look_noted(
+    disk: &Disk,
+    log: &mut List<TreePath>,
+    path: &TreePath,
+    limit: u64,
+) -> Result<List<u8>, ReadFault>
+    ensures found { ReadsFile (map.get disk.now path.now) limit (read_answer result) }
+    ensures small { NoLonger limit (read_answer result) }
+    ensures calm { is_failed (read_answer result) ≡ false }
+    ensures noted { log.new ≡ log.old ++ noted path.now (read_answer result) }
+{
+    let asked = path.clone()?;
+    let found = look(disk, path, limit);
+    if let Err(ReadFault::Memory) = found {
+        return Err(ReadFault::Memory);
+    }
+    log.push(asked)?;
+    found
+}
+
+impl Tree for MemTree {
+    ghost state = { mem_state };
+
+    fn read(&mut self, path: &TreePath, limit: u64) -> Result<List<u8>, ReadFault>
+        ensures reads { Reads path.now limit (read_answer result) (mem_state self.old) (mem_state self.new) }
+        ensures exact { MemCalls (is_failed (read_answer result)) self.old self.new }
+    {
+        self.disk.known();
+        if self.schedule.next_is_wrong() {
+            self.faults = self.faults.saturating_add(1);
+            return Err(ReadFault::Failed);
+        }
+        look_noted(&self.disk, &mut self.log, path, limit)
+    }
+
+    fn faults(&self) -> u64 {
+        self.faults
+    }
+}
