@@ -1,0 +1,14 @@
+pub mod Fronts
+pub mod Orders
+pub mod PlainFaults
+pub mod PlainForms
+pub mod PlainPlans
+pub mod PlainViews
+pub mod Requests
+pub mod WordViews
+pub mod ShortReports
+pub mod Answers
+pub mod Runs
+pub mod Ends
+pub mod TreeReadings
+pub mod Unbuilt

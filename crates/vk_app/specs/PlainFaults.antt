@@ -1,0 +1,16 @@
+-- The errors of the readers as plain data.
+use Rattle.std.specs.Prelude.{Option, Some, None}
+use Rattle.vk_app.specs.declared.stops.PlainFault.{PlainFault}
+use Rattle.vk_app.specs.declared.stops.PlainFault.TheVariants as plain_fault
+use Rattle.vk_app.specs.declared.stops.WordsFault.{WordsFault}
+use Rattle.vk_app.specs.declared.stops.WordsFault.TheVariants as words_fault
+
+-- the one fault of a document, unless memory was wanting
+abbrev pub plain_fault_of : PlainFault → Option (Unit {0})
+plain_fault_of plain_fault.NotPlain = Some tt
+plain_fault_of plain_fault.Memory = None
+
+-- the one fault of the words, unless memory was wanting
+abbrev pub words_fault_of : WordsFault → Option (Unit {0})
+words_fault_of words_fault.Form = Some tt
+words_fault_of words_fault.Memory = None

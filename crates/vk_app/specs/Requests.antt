@@ -1,0 +1,61 @@
+-- What the words ask for.
+use Rattle.std.specs.Prelude.{ℕ, Bool, true, false, List, [], ◌∷◌, Option, Result, Ok, Err, codes}
+use Rattle.std.specs.Result.{result_ok}
+use Rattle.std.specs.Str.{bytes_eq}
+use Rattle.vk_spec.specs.Reading.{◌>>=◌, or_fault}
+use Rattle.vk_base.specs.Names.{reads_name, word_rule}
+use Rattle.vk_base.specs.PathReading.{path_of}
+use Rattle.vk_spec.specs.Paths.{Path}
+use Rattle.vk_app.specs.Fronts.{after}
+
+-- a word of the command line: its bytes, or none where it isn't UTF-8
+abbrev pub Words : Type 0
+Words = List (Option (List ℕ))
+
+-- the target triplet; the overlay folder is read, and not looked into yet
+pub record Request : Type 0 where
+  pub triplet : List ℕ
+
+-- a value, or the one fault: the words are of no form
+abbrev pub Form : Type 0 → Type 0
+Form A = Result A (Unit {0})
+
+abbrev pub formed : {A F : Type 0} → Result A F → Form A
+formed (Ok x) = Ok x
+formed (Err wrong) = Err tt
+
+abbrev pub same : Bool → Form (Unit {0})
+same true = Ok tt
+same false = Err tt
+
+-- what stands after an option's name and `=`
+unfoldable pub value_after : List ℕ → Option (List ℕ) → Form (List ℕ)
+value_after option word = or_fault tt word >>= λ text. or_fault tt (after option text)
+
+-- the word that says the command
+unfoldable pub command_of : Option (List ℕ) → Form (Unit {0})
+command_of word = or_fault tt word >>= λ text. same (bytes_eq text (codes "plan"))
+
+-- the target that `--triplet=` names
+unfoldable pub target_of : Option (List ℕ) → Form (List ℕ)
+target_of word = value_after (codes "--triplet=") word >>= λ value. formed (reads_name word_rule value)
+
+-- the folder of triplets that `--overlay-triplets=` has
+unfoldable pub overlay_of : Option (List ℕ) → Form Path
+overlay_of word = value_after (codes "--overlay-triplets=") word >>= λ value. formed (path_of value)
+
+unfoldable pub plan_request : Option (List ℕ) → Option (List ℕ) → Option (List ℕ) → Form Request
+plan_request first second third = do
+  command ← command_of first
+  target ← target_of second
+  overlay ← overlay_of third
+  Ok (record { triplet = target })
+
+-- `plan`, `--triplet=NAME`, `--overlay-triplets=DIR`: these three, and in this order
+abbrev pub reads_request : Words → Form Request
+reads_request (first ∷ second ∷ third ∷ []) = plan_request first second third
+reads_request words = Err tt
+
+-- what the words ask for, where they are of the form
+abbrev pub request_of : Words → Option Request
+request_of words = result_ok (reads_request words)

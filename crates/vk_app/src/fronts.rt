@@ -1,0 +1,9 @@
+ghost use Rattle.std.specs.Prelude.{◌≡◌, option_map};
+ghost use Rattle.vk_app.specs.Fronts.{after};
+
+/// What is left of a text after a front, where it begins with it.
+pub fn after<'a>(text: &'a str, front: &str) -> Option<&'a str>
+    ensures { option_map (λ rest. rest.now) result ≡ after front.now text.now }
+{
+    text.strip_prefix(front)
+}
