@@ -1,0 +1,70 @@
+//! The program: makes the words, the tree over the host's files and the two sinks over its
+//! standard streams, calls `run`, and ends with its status.
+#![tactic(auto)]
+
+mod files;
+mod streams;
+
+ghost use Rattle.std.specs.Prelude.{◌<◌, ◌^◌, length, IfOk};
+
+use files::FileTree;
+use std::alloc::Global;
+use std::env;
+use std::io::ErrorKind;
+use std::process::ExitCode;
+use streams::OutSink;
+use vk_app::run;
+use vk_base::{List, Memory, Text, Word};
+use vk_tree::send;
+
+// The one word that isn't text, in place of words that can't be had.
+fn not_text(alloc: Global) -> Result<List<Word>, Memory>
+    ensures { IfOk result (λ words. length words < 2 ^ 32) }
+{
+    let mut words = List::new(alloc);
+    words.push(Word::NotText)?;
+    Ok(words)
+}
+
+fn all_words(alloc: Global, args: env::Args) -> Result<List<Word>, Memory> {
+    let mut words = List::new(alloc);
+    for arg in args.skip(1) {
+        words.push(Word::Text(Text::from_string(arg)))?;
+    }
+    Ok(words)
+}
+
+// The words after the program's name.
+fn words_of(rt: &HostRuntime) -> Result<List<Word>, Memory>
+    ensures { IfOk result (λ words. length words < 2 ^ 32) }
+{
+    let words = match env::args(rt) {
+        Ok(args) => all_words(rt.alloc(), args)?,
+        Err(e) => {
+            if e.kind() == ErrorKind::OutOfMemory {
+                return Err(Memory);
+            }
+            return not_text(rt.alloc());
+        }
+    };
+    if words.len() >= 1 << 32 {
+        return not_text(rt.alloc());
+    }
+    Ok(words)
+}
+
+fn main(rt: HostRuntime) -> ExitCode {
+    let alloc = rt.alloc();
+    let mut out = OutSink::new(rt.stdout());
+    let mut err = OutSink::new(rt.stderr());
+    match words_of(&rt) {
+        Ok(words) => {
+            let ran = run(alloc, &words, FileTree::new(rt), &mut out, &mut err);
+            ExitCode::from(ran.status)
+        }
+        Err(Memory) => match send(&mut err, b"memory\n") {
+            Ok(()) => ExitCode::from(3),
+            Err(_) => ExitCode::from(5),
+        },
+    }
+}
