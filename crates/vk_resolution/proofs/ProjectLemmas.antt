@@ -1,0 +1,162 @@
+-- Each worked project, computed.
+use Rattle.std.proofs.Common.{◌≡◌, ◌∙◌, ℕ, List, refl, ap}
+use Rattle.std.specs.Prelude.{Some, option_map}
+use Rattle.vk_resolution.specs.Asking.{Fact, fact_key}
+use Rattle.vk_resolution.specs.Consequences.{Inputs, rules_of}
+use Rattle.vk_resolution.specs.Reasons.{Reason, IsReasons, facts_of}
+use Rattle.vk_resolution.specs.Outcomes.{Printing}
+use Rattle.vk_resolution.specs.Computed.{outcome_by, off_list_by, reasons_by, if_closed, round}
+use Rattle.vk_resolution.specs.Examples.{Report, report_of, Reports, needs_in, HasNeeds, ReportsAlone}
+use Rattle.vk_resolution.specs.Projects
+use Rattle.vk_resolution.proofs.FactLemmas.{fact_key-IsKey}
+use Rattle.vk_resolution.proofs.Soundness.{outcome_is, map_some, closed_round, reasons_are}
+use Rattle.vk_resolution.proofs.OffLists.{off_listed}
+use Rattle.vk_resolution.proofs.Uniqueness.{outcome_is_one}
+
+-- what is computed is reported
+reports : (inputs : Inputs) (report : Report) → off_list_by inputs.setting 5 ≡ Some inputs.setting.off → ((bytes : Printing) → option_map report_of (outcome_by inputs bytes 12) ≡ Some report) → Reports inputs report
+reports inputs report off computed = record {
+  off = off_listed inputs.setting 5 off;
+  outcome = λ bytes. (let r = map_some report_of (outcome_by inputs bytes 12) report (computed bytes) in (r.0, outcome_is inputs bytes 12 r.0 r.1, r.2));
+}
+
+-- the reasons that are computed are the reasons
+reasons : (inputs : Inputs) (facts : List Fact) (lines : List Reason) → if_closed (rules_of inputs) fact_key (round (rules_of inputs) fact_key 12) ≡ Some facts → reasons_by inputs facts ≡ Some lines → IsReasons inputs lines
+reasons inputs facts lines closed computed = (reasons_are inputs facts lines (closed_round (rules_of inputs) fact_key fact_key-IsKey 12 facts closed) computed).1
+
+pub raised_minimum_line_by_line : IsReasons Projects.raised_minimum Projects.raised_minimum_reasons
+raised_minimum_line_by_line = reasons Projects.raised_minimum (facts_of Projects.raised_minimum_reasons) Projects.raised_minimum_reasons refl refl
+
+pub smallest : Reports Projects.smallest Projects.smallest_report
+smallest = reports Projects.smallest Projects.smallest_report refl (λ bytes. refl)
+
+pub raised_minimum : Reports Projects.raised_minimum Projects.raised_minimum_report
+raised_minimum = reports Projects.raised_minimum Projects.raised_minimum_report refl (λ bytes. refl)
+
+pub superseded_minimum : Reports Projects.superseded_minimum Projects.superseded_minimum_report
+superseded_minimum = reports Projects.superseded_minimum Projects.superseded_minimum_report refl (λ bytes. refl)
+
+pub superseded_reach : Reports Projects.superseded_reach Projects.superseded_reach_report
+superseded_reach = reports Projects.superseded_reach Projects.superseded_reach_report refl (λ bytes. refl)
+
+pub conflict : Reports Projects.conflict Projects.conflict_report
+conflict = reports Projects.conflict Projects.conflict_report refl (λ bytes. refl)
+
+pub overridden : Reports Projects.overridden Projects.overridden_report
+overridden = reports Projects.overridden Projects.overridden_report refl (λ bytes. refl)
+
+pub unrelated_builds : Reports Projects.unrelated_builds Projects.unrelated_builds_report
+unrelated_builds = reports Projects.unrelated_builds Projects.unrelated_builds_report refl (λ bytes. refl)
+
+pub builds_with_floor : Reports Projects.builds_with_floor Projects.builds_with_floor_report
+builds_with_floor = reports Projects.builds_with_floor Projects.builds_with_floor_report refl (λ bytes. refl)
+
+pub missing_minimum : Reports Projects.missing_minimum Projects.missing_minimum_report
+missing_minimum = reports Projects.missing_minimum Projects.missing_minimum_report refl (λ bytes. refl)
+
+pub new_feature : Reports Projects.new_feature Projects.new_feature_report
+new_feature = reports Projects.new_feature Projects.new_feature_report refl (λ bytes. refl)
+
+pub dropped_feature : Reports Projects.dropped_feature Projects.dropped_feature_report
+dropped_feature = reports Projects.dropped_feature Projects.dropped_feature_report refl (λ bytes. refl)
+
+pub off_by_root : Reports Projects.off_by_root Projects.off_by_root_report
+off_by_root = reports Projects.off_by_root Projects.off_by_root_report refl (λ bytes. refl)
+
+pub off_by_port : Reports Projects.off_by_port Projects.off_by_port_report
+off_by_port = reports Projects.off_by_port Projects.off_by_port_report refl (λ bytes. refl)
+
+pub off_where_it_applies : Reports Projects.off_where_it_applies Projects.off_where_it_applies_report
+off_where_it_applies = reports Projects.off_where_it_applies Projects.off_where_it_applies_report refl (λ bytes. refl)
+
+pub cross_build : Reports Projects.cross_build Projects.cross_build_report
+cross_build = reports Projects.cross_build Projects.cross_build_report refl (λ bytes. refl)
+
+pub native_build : Reports Projects.native_build Projects.native_build_report
+native_build = reports Projects.native_build Projects.native_build_report refl (λ bytes. refl)
+
+pub cycle : Reports Projects.cycle Projects.cycle_report
+cycle = reports Projects.cycle Projects.cycle_report refl (λ bytes. refl)
+
+pub two_cycles : Reports Projects.two_cycles Projects.two_cycles_report
+two_cycles = reports Projects.two_cycles Projects.two_cycles_report refl (λ bytes. refl)
+
+pub own_feature : Reports Projects.own_feature Projects.own_feature_report
+own_feature = reports Projects.own_feature Projects.own_feature_report refl (λ bytes. refl)
+
+pub unserved : Reports Projects.unserved Projects.unserved_report
+unserved = reports Projects.unserved Projects.unserved_report refl (λ bytes. refl)
+
+pub overlaid_port : Reports Projects.overlaid_port Projects.overlaid_port_report
+overlaid_port = reports Projects.overlaid_port Projects.overlaid_port_report refl (λ bytes. refl)
+
+pub unsupported_port : Reports Projects.unsupported_port Projects.unsupported_port_report
+unsupported_port = reports Projects.unsupported_port Projects.unsupported_port_report refl (λ bytes. refl)
+
+pub realistic : Reports Projects.realistic Projects.realistic_report
+realistic = reports Projects.realistic Projects.realistic_report refl (λ bytes. refl)
+
+pub damaged_manifest : Reports Projects.damaged_manifest Projects.damaged_manifest_report
+damaged_manifest = reports Projects.damaged_manifest Projects.damaged_manifest_report refl (λ bytes. refl)
+
+pub other_manifest : Reports Projects.other_manifest Projects.other_manifest_report
+other_manifest = reports Projects.other_manifest Projects.other_manifest_report refl (λ bytes. refl)
+
+pub no_table : Reports Projects.no_table Projects.no_table_report
+no_table = reports Projects.no_table Projects.no_table_report refl (λ bytes. refl)
+
+pub stale_baseline : Reports Projects.stale_baseline Projects.stale_baseline_report
+stale_baseline = reports Projects.stale_baseline Projects.stale_baseline_report refl (λ bytes. refl)
+
+pub host_platform : Reports Projects.host_platform Projects.host_platform_report
+host_platform = reports Projects.host_platform Projects.host_platform_report refl (λ bytes. refl)
+
+pub on_by_another : Reports Projects.on_by_another Projects.on_by_another_report
+on_by_another = reports Projects.on_by_another Projects.on_by_another_report refl (λ bytes. refl)
+
+pub named_feature : Reports Projects.named_feature Projects.named_feature_report
+named_feature = reports Projects.named_feature Projects.named_feature_report refl (λ bytes. refl)
+
+pub default_feature : Reports Projects.default_feature Projects.default_feature_report
+default_feature = reports Projects.default_feature Projects.default_feature_report refl (λ bytes. refl)
+
+pub unsupported_feature : Reports Projects.unsupported_feature Projects.unsupported_feature_report
+unsupported_feature = reports Projects.unsupported_feature Projects.unsupported_feature_report refl (λ bytes. refl)
+
+pub missing_feature : Reports Projects.missing_feature Projects.missing_feature_report
+missing_feature = reports Projects.missing_feature Projects.missing_feature_report refl (λ bytes. refl)
+
+pub own_minimum : Reports Projects.own_minimum Projects.own_minimum_report
+own_minimum = reports Projects.own_minimum Projects.own_minimum_report refl (λ bytes. refl)
+
+pub named_root : Reports Projects.named_root Projects.named_root_report
+named_root = reports Projects.named_root Projects.named_root_report refl (λ bytes. refl)
+
+pub below_baseline : Reports Projects.below_baseline Projects.below_baseline_report
+below_baseline = reports Projects.below_baseline Projects.below_baseline_report refl (λ bytes. refl)
+
+pub no_baseline_entry : Reports Projects.no_baseline_entry Projects.no_baseline_entry_report
+no_baseline_entry = reports Projects.no_baseline_entry Projects.no_baseline_entry_report refl (λ bytes. refl)
+
+pub failed_override : Reports Projects.failed_override Projects.failed_override_report
+failed_override = reports Projects.failed_override Projects.failed_override_report refl (λ bytes. refl)
+
+pub other_overlay : Reports Projects.other_overlay Projects.other_overlay_report
+other_overlay = reports Projects.other_overlay Projects.other_overlay_report refl (λ bytes. refl)
+
+pub damaged_overlay : Reports Projects.damaged_overlay Projects.damaged_overlay_report
+damaged_overlay = reports Projects.damaged_overlay Projects.damaged_overlay_report refl (λ bytes. refl)
+
+needs : (inputs : Inputs) (listed : List (List ℕ)) → ((bytes : Printing) → option_map needs_in (outcome_by inputs bytes 12) ≡ Some listed) → HasNeeds inputs listed
+needs inputs listed computed bytes = let r = map_some needs_in (outcome_by inputs bytes 12) listed (computed bytes) in (r.0, outcome_is inputs bytes 12 r.0 r.1, r.2)
+
+pub realistic_needs : HasNeeds Projects.realistic Projects.realistic_needs
+realistic_needs = needs Projects.realistic Projects.realistic_needs (λ bytes. refl)
+
+pub reports_alone : ReportsAlone
+reports_alone inputs report reports bytes apart o is =
+    let r = reports.outcome bytes in
+    ap report_of (outcome_is_one inputs bytes apart o r.0 is r.1) ∙ r.2
+
+pub early_feature : Reports Projects.early_feature Projects.early_feature_report
+early_feature = reports Projects.early_feature Projects.early_feature_report refl (λ bytes. refl)

@@ -1,0 +1,11 @@
+use Rattle.vk_resolution.proofs.ProjectLemmas.{cycle, two_cycles, own_feature}
+use Rattle.vk_resolution.proofs.projects.cycles.Goals as goal
+
+pub returns-clause-three : goal.returns-clause-three
+returns-clause-three c = cycle
+
+pub returns-clause-two : goal.returns-clause-two
+returns-clause-two c = two_cycles
+
+pub returns-clause-own : goal.returns-clause-own
+returns-clause-own c = own_feature

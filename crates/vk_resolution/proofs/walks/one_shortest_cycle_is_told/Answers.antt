@@ -1,0 +1,11 @@
+use Rattle.vk_resolution.proofs.WalkLemmas.{cycle_exists, cycle_is_one, cycle_is_shortest}
+use Rattle.vk_resolution.proofs.walks.one_shortest_cycle_is_told.Goals as goal
+
+pub returns-clause-exists : goal.returns-clause-exists
+returns-clause-exists c = cycle_exists
+
+pub returns-clause-one : goal.returns-clause-one
+returns-clause-one c = cycle_is_one
+
+pub returns-clause-shortest : goal.returns-clause-shortest
+returns-clause-shortest c = cycle_is_shortest

@@ -1,0 +1,647 @@
+-- Worked projects: the setting and the pages of each, and what it prints.
+use Rattle.std.specs.Prelude.{ℕ, Bool, true, false, List, [], ◌∷◌, Some, None, Ok, Err, codes, not, ◌&&◌}
+use Rattle.vk_spec.specs.Paths.{Path}
+use Rattle.vk_spec.specs.Versions.{Version, date, text}
+use Rattle.vk_spec.specs.Manifests.{Manifest, Dependency, Feature, Override}
+use Rattle.vk_spec.specs.Pages.{name as field_name, text as field_text, Wrong, no_registry, no_baseline, bad_file, disagrees, overlay, override, Row, Page}
+use Rattle.vk_resolution.specs.Keys.{core}
+use Rattle.vk_resolution.specs.Settings.{Condition, root, inst}
+use Rattle.vk_resolution.specs.Asking.{need, floor, visit}
+use Rattle.vk_resolution.specs.Consequences.{Inputs, by_root, by_baseline, by_minimum, by_one, by_two}
+use Rattle.vk_resolution.specs.Reasons.{Reason}
+use Rattle.vk_resolution.specs.Faults.{troubled, lacks_registry, lacks_baseline, unreadable, lacks_version, differs, conflicts, lacks_feature, isnt_supported, has_cycle}
+use Rattle.vk_resolution.specs.Examples.{always, has_mark, version, ask, on, at_least, use_of, manifest, release, listed, pages_of, root_with, setting, x64_linux, arm64_linux, project, x64, at_most, Line, Report, plans, refuses}
+
+-- the ports and features of these projects, and their versions
+abbrev pub a : List ℕ
+a = codes "a"
+
+abbrev pub b : List ℕ
+b = codes "b"
+
+abbrev pub c : List ℕ
+c = codes "c"
+
+abbrev pub d : List ℕ
+d = codes "d"
+
+abbrev pub e : List ℕ
+e = codes "e"
+
+abbrev pub f : List ℕ
+f = codes "f"
+
+abbrev pub g : List ℕ
+g = codes "g"
+
+abbrev pub p : List ℕ
+p = codes "p"
+
+abbrev pub q : List ℕ
+q = codes "q"
+
+abbrev pub r : List ℕ
+r = codes "r"
+
+abbrev pub s : List ℕ
+s = codes "s"
+
+abbrev pub t : List ℕ
+t = codes "t"
+
+abbrev pub u : List ℕ
+u = codes "u"
+
+abbrev pub w : List ℕ
+w = codes "w"
+
+abbrev pub x : List ℕ
+x = codes "x"
+
+abbrev pub y : List ℕ
+y = codes "y"
+
+abbrev pub one : List ℕ
+one = codes "1"
+
+abbrev pub three : List ℕ
+three = codes "3"
+
+abbrev pub one_dot : List ℕ
+one_dot = codes "1.0"
+
+abbrev pub two_dot : List ℕ
+two_dot = codes "2.0"
+
+-- a plan line for x64-linux with `core` alone
+abbrev pub planned_line : List ℕ → List ℕ → ℕ → Line
+planned_line port v n = record { port = port; triplet = codes "x64-linux"; version = v; number = n; features = core ∷ [] }
+
+-- a plan line with more features
+abbrev pub line_with : List ℕ → List ℕ → ℕ → List (List ℕ) → Line
+line_with port v n fs = record { port = port; triplet = codes "x64-linux"; version = v; number = n; features = core ∷ fs }
+
+-- a port with one version, 1
+abbrev pub single : List ℕ → List (Dependency Condition) → List ℕ × Page Condition
+single port ds = (port, listed one (release port one ds ∷ []))
+
+-- the smallest project asks for nothing
+abbrev pub smallest : Inputs
+smallest = project [] (pages_of [])
+
+abbrev pub smallest_report : Report
+smallest_report = plans [] 2
+
+-- a raised minimum: b is 1.1 by its baseline, and a asks for 1.2
+abbrev pub raised_minimum : Inputs
+raised_minimum = project (on a ∷ []) (pages_of (
+    (a, listed one_dot (release a one_dot (at_least b (codes "1.2") ∷ []) ∷ []))
+    ∷ (b, listed (codes "1.1") (release b (codes "1.1") [] ∷ release b (codes "1.2") [] ∷ release b (codes "1.3") [] ∷ []))
+    ∷ []))
+
+abbrev pub raised_minimum_report : Report
+raised_minimum_report = plans (planned_line b (codes "1.2") 10 ∷ planned_line a one_dot 5 ∷ []) 15
+
+-- its reasons, line by line
+abbrev pub default : List ℕ
+default = codes "default"
+
+abbrev pub raised_minimum_reasons : List Reason
+raised_minimum_reasons =
+    record { fact = need (root (codes "x64-linux")) core; cause = by_root }
+    ∷ record { fact = need (root (codes "x64-linux")) default; cause = by_root }
+    ∷ record { fact = need (inst (x64 a)) core; cause = by_one 1 }
+    ∷ record { fact = need (inst (x64 a)) default; cause = by_one 1 }
+    ∷ record { fact = floor a (ask one_dot); cause = by_baseline 3 }
+    ∷ record { fact = visit (x64 a) core (ask one_dot); cause = by_two 3 5 }
+    ∷ record { fact = visit (x64 a) default (ask one_dot); cause = by_two 4 5 }
+    ∷ record { fact = need (inst (x64 b)) core; cause = by_one 6 }
+    ∷ record { fact = need (inst (x64 b)) default; cause = by_one 6 }
+    ∷ record { fact = floor b (ask (codes "1.2")); cause = by_minimum 6 }
+    ∷ record { fact = floor b (ask (codes "1.1")); cause = by_baseline 8 }
+    ∷ record { fact = visit (x64 b) core (ask (codes "1.2")); cause = by_two 8 10 }
+    ∷ record { fact = visit (x64 b) default (ask (codes "1.2")); cause = by_two 9 10 }
+    ∷ record { fact = visit (x64 b) core (ask (codes "1.1")); cause = by_two 8 11 }
+    ∷ record { fact = visit (x64 b) default (ask (codes "1.1")); cause = by_two 9 11 }
+    ∷ []
+
+-- a's baseline version is superseded, and the minimum that it alone asks still counts
+abbrev pub superseded : List (Dependency Condition) → Inputs
+superseded ds = project ds (pages_of (
+    (a, listed one_dot (release a one_dot (at_least b three ∷ []) ∷ release a two_dot [] ∷ []))
+    ∷ (b, listed one (release b one [] ∷ release b three [] ∷ []))
+    ∷ single c (at_least a two_dot ∷ [])
+    ∷ []))
+
+abbrev pub superseded_minimum : Inputs
+superseded_minimum = superseded (on a ∷ on b ∷ on c ∷ [])
+
+abbrev pub superseded_minimum_report : Report
+superseded_minimum_report = plans (planned_line a two_dot 18 ∷ planned_line b three 19 ∷ planned_line c one 11 ∷ []) 23
+
+-- b is reached only from the superseded version, and isn't planned
+abbrev pub superseded_reach : Inputs
+superseded_reach = superseded (on a ∷ on c ∷ [])
+
+abbrev pub superseded_reach_report : Report
+superseded_reach_report = plans (planned_line a two_dot 15 ∷ planned_line c one 8 ∷ []) 23
+
+-- two texts of `version-string` are unrelated
+abbrev pub text_version : List ℕ → Version
+text_version v = record { class = text; text = v; port = 0 }
+
+abbrev pub text_release : List ℕ → List ℕ → Row Condition
+text_release port v = record { version = text_version v; manifest = Ok (manifest port (text_version v) []) }
+
+abbrev pub alpha : List ℕ
+alpha = codes "alpha"
+
+abbrev pub beta : List ℕ
+beta = codes "beta"
+
+abbrev pub conflict : Inputs
+conflict = project (on p ∷ on q ∷ []) (pages_of (
+    single p (on s ∷ [])
+    ∷ single q (at_least s beta ∷ [])
+    ∷ (s, listed alpha (text_release s alpha ∷ text_release s beta ∷ []))
+    ∷ []))
+
+abbrev pub conflict_report : Report
+conflict_report = refuses (conflicts s (text_version alpha) 16 (text_version beta) 15 ∷ []) 20
+
+-- an override settles it
+abbrev pub root_overriding : List (Dependency Condition) → List ℕ → List ℕ → Manifest Condition
+root_overriding ds port v = record {
+  name = None;
+  version = None;
+  supports = always;
+  dependencies = ds;
+  default_features = [];
+  features = [];
+  overrides = record { name = port; ask = ask v } ∷ [];
+}
+
+abbrev pub overridden : Inputs
+overridden = record {
+  setting = setting (root_overriding (on p ∷ on q ∷ []) s alpha) x64_linux x64_linux [];
+  pages = pages_of (
+      single p (on s ∷ [])
+      ∷ single q (at_least s beta ∷ [])
+      ∷ (s, record { given = Ok (override (ask alpha)); rows = text_release s alpha ∷ text_release s beta ∷ [] })
+      ∷ []);
+  at_most = at_most;
+}
+
+abbrev pub overridden_report : Report
+overridden_report = plans (planned_line s alpha 15 ∷ planned_line p one 7 ∷ planned_line q one 8 ∷ []) 17
+
+-- two dotted texts with the same numbers are unrelated, and a version above both is no floor
+abbrev pub plus_a : List ℕ
+plus_a = codes "1.0.0+a"
+
+abbrev pub plus_b : List ℕ
+plus_b = codes "1.0.0+b"
+
+abbrev pub two_zeros : List ℕ
+two_zeros = codes "2.0.0"
+
+abbrev pub builds : List (Dependency Condition) → Inputs
+builds ds = project ds (pages_of (
+    single p (on s ∷ [])
+    ∷ single q (at_least s plus_b ∷ [])
+    ∷ single r (at_least s two_zeros ∷ [])
+    ∷ (s, listed plus_a (release s plus_a [] ∷ release s plus_b [] ∷ release s two_zeros [] ∷ []))
+    ∷ []))
+
+abbrev pub unrelated_builds : Inputs
+unrelated_builds = builds (on p ∷ on q ∷ [])
+
+abbrev pub unrelated_builds_report : Report
+unrelated_builds_report = refuses (conflicts s (version plus_a) 16 (version plus_b) 15 ∷ []) 20
+
+abbrev pub builds_with_floor : Inputs
+builds_with_floor = builds (on p ∷ on q ∷ on r ∷ [])
+
+abbrev pub builds_with_floor_report : Report
+builds_with_floor_report = plans (planned_line s two_zeros 21 ∷ planned_line p one 9 ∷ planned_line q one 10 ∷ planned_line r one 11 ∷ []) 28
+
+-- a minimum that the table lacks
+abbrev pub missing_minimum : Inputs
+missing_minimum = project (at_least b (codes "0.9") ∷ []) (pages_of ((b, listed one_dot (release b one_dot [] ∷ [])) ∷ []))
+
+abbrev pub missing_minimum_report : Report
+missing_minimum_report = refuses (troubled (lacks_version b (ask (codes "0.9"))) 5 ∷ []) 8
+
+-- a feature that only one version has
+abbrev pub feature : List ℕ → List (Dependency Condition) → Feature Condition
+feature name ds = record { name = name; dependencies = ds; supports = always }
+
+abbrev pub release_with : List ℕ → List ℕ → List (Feature Condition) → Row Condition
+release_with port v fs = record {
+  version = version v;
+  manifest = Ok (record { name = Some port; version = Some (version v); supports = always; dependencies = []; default_features = []; features = fs; overrides = [] });
+}
+
+abbrev pub with_features : Dependency Condition → List ℕ → Dependency Condition
+with_features dep name = record { name = dep.name; defaults = dep.defaults; features = use_of name ∷ []; host = dep.host; platform = dep.platform; minimum = dep.minimum }
+
+abbrev pub one_version_feature : List (Feature Condition) → List (Feature Condition) → Inputs
+one_version_feature before after = project (with_features (on a) x ∷ on c ∷ []) (pages_of (
+    single c (at_least a two_dot ∷ [])
+    ∷ (a, listed one_dot (release_with a one_dot before ∷ release_with a two_dot after ∷ []))
+    ∷ []))
+
+abbrev pub new_feature : Inputs
+new_feature = one_version_feature [] (feature x [] ∷ [])
+
+abbrev pub new_feature_report : Report
+new_feature_report = plans (line_with a two_dot 15 (x ∷ []) ∷ planned_line c one 9 ∷ []) 18
+
+abbrev pub dropped_feature : Inputs
+dropped_feature = one_version_feature (feature x [] ∷ []) []
+
+abbrev pub dropped_feature_report : Report
+dropped_feature_report = refuses (lacks_feature (inst (x64 a)) x (Some (version two_dot)) 5 ∷ []) 18
+
+-- default features: only the root can switch them off
+abbrev pub without_defaults : Dependency Condition → Dependency Condition
+without_defaults dep = record { name = dep.name; defaults = false; features = dep.features; host = dep.host; platform = dep.platform; minimum = dep.minimum }
+
+abbrev pub where_marked : Dependency Condition → List ℕ → Dependency Condition
+where_marked dep m = record { name = dep.name; defaults = dep.defaults; features = dep.features; host = dep.host; platform = has_mark m; minimum = dep.minimum }
+
+abbrev pub d_page : List ℕ × Page Condition
+d_page = (
+  d,
+  listed one (record {
+    version = version one;
+    manifest = Ok (record { name = Some d; version = Some (version one); supports = always; dependencies = []; default_features = use_of f ∷ []; features = feature f [] ∷ []; overrides = [] });
+  } ∷ []),
+)
+
+abbrev pub off_by_root : Inputs
+off_by_root = record {
+  setting = setting (root_with (without_defaults (on d) ∷ on e ∷ [])) x64_linux x64_linux (x64 d ∷ []);
+  pages = pages_of (d_page ∷ single e (on d ∷ []) ∷ []);
+  at_most = at_most;
+}
+
+abbrev pub off_by_root_report : Report
+off_by_root_report = plans (planned_line d one 6 ∷ planned_line e one 7 ∷ []) 10
+
+abbrev pub off_by_port : Inputs
+off_by_port = project (on e ∷ []) (pages_of (d_page ∷ single e (without_defaults (on d) ∷ []) ∷ []))
+
+abbrev pub off_by_port_report : Report
+off_by_port_report = plans (line_with d one 10 (f ∷ []) ∷ planned_line e one 5 ∷ []) 14
+
+abbrev pub off_where_it_applies : Inputs
+off_where_it_applies = record {
+  setting = setting (root_with (where_marked (without_defaults (on d)) (codes "linux") ∷ where_marked (on d) (codes "windows") ∷ [])) x64_linux x64_linux (x64 d ∷ []);
+  pages = pages_of (d_page ∷ []);
+  at_most = at_most;
+}
+
+abbrev pub off_where_it_applies_report : Report
+off_where_it_applies_report = plans (planned_line d one 4 ∷ []) 5
+
+-- host instances
+abbrev pub for_host : Dependency Condition → Dependency Condition
+for_host dep = record { name = dep.name; defaults = dep.defaults; features = dep.features; host = true; platform = dep.platform; minimum = dep.minimum }
+
+abbrev pub where_not : Dependency Condition → List ℕ → Dependency Condition
+where_not dep m = record { name = dep.name; defaults = dep.defaults; features = dep.features; host = dep.host; platform = λ marks. not (has_mark m marks); minimum = dep.minimum }
+
+abbrev pub host_pages : List (List ℕ × Page Condition)
+host_pages = single t [] ∷ single u (for_host (on t) ∷ where_not (on w) (codes "native") ∷ []) ∷ single w [] ∷ []
+
+abbrev pub cross_build : Inputs
+cross_build = record {
+  setting = setting (root_with (for_host (on t) ∷ on u ∷ [])) arm64_linux x64_linux [];
+  pages = pages_of host_pages;
+  at_most = at_most;
+}
+
+abbrev pub arm_line : List ℕ → ℕ → Line
+arm_line port n = record { port = port; triplet = codes "arm64-linux"; version = one; number = n; features = core ∷ [] }
+
+abbrev pub cross_build_report : Report
+cross_build_report = plans (planned_line t one 7 ∷ arm_line w 15 ∷ arm_line u 8 ∷ []) 17
+
+abbrev pub native_build : Inputs
+native_build = project (for_host (on t) ∷ on u ∷ []) (pages_of host_pages)
+
+abbrev pub native_build_report : Report
+native_build_report = plans (planned_line t one 7 ∷ planned_line u one 8 ∷ []) 12
+
+-- a cycle of three, two cycles of two, and a port that asks for a feature of its own
+abbrev pub cycle : Inputs
+cycle = project (on a ∷ []) (pages_of (single a (on b ∷ []) ∷ single b (on c ∷ []) ∷ single c (on a ∷ []) ∷ []))
+
+abbrev pub cycle_report : Report
+cycle_report = refuses (has_cycle (x64 a ∷ x64 b ∷ x64 c ∷ []) ∷ []) 17
+
+abbrev pub two_cycles : Inputs
+two_cycles = project (on a ∷ on c ∷ []) (pages_of (single a (on b ∷ []) ∷ single b (on a ∷ []) ∷ single c (on d ∷ []) ∷ single d (on c ∷ []) ∷ []))
+
+abbrev pub two_cycles_report : Report
+two_cycles_report = refuses (has_cycle (x64 a ∷ x64 b ∷ []) ∷ []) 22
+
+abbrev pub own_feature : Inputs
+own_feature = project (with_features (on g) x ∷ []) (pages_of (
+    (g, listed one (release_with g one (feature y [] ∷ feature x (with_features (without_defaults (on g)) y ∷ []) ∷ []) ∷ []))
+    ∷ []))
+
+abbrev pub own_feature_report : Report
+own_feature_report = plans (line_with g one 6 (x ∷ y ∷ []) ∷ []) 11
+
+-- no registry serves the port
+abbrev pub unserved : Inputs
+unserved = project (on (codes "zlib") ∷ []) (pages_of [])
+
+abbrev pub unserved_report : Report
+unserved_report = refuses (troubled (lacks_registry (codes "zlib")) 3 ∷ []) 4
+
+-- an overlay has its own version alone, and what it doesn't support is judged
+abbrev pub overlaid : Condition → Inputs
+overlaid supports = project (at_least b (codes "9") ∷ []) (pages_of ((
+  b,
+  record {
+    given = Ok (overlay (version (codes "2")));
+    rows = record {
+      version = version (codes "2");
+      manifest = Ok (record { name = Some b; version = Some (version (codes "2")); supports = supports; dependencies = []; default_features = []; features = []; overrides = [] });
+    } ∷ [];
+  },
+)
+    ∷ []))
+
+abbrev pub overlaid_port : Inputs
+overlaid_port = overlaid always
+
+abbrev pub overlaid_port_report : Report
+overlaid_port_report = plans (planned_line b (codes "2") 5 ∷ []) 7
+
+abbrev pub unsupported_port : Inputs
+unsupported_port = overlaid (has_mark (codes "windows"))
+
+abbrev pub unsupported_port_report : Report
+unsupported_port_report = refuses (isnt_supported (inst (x64 b)) core (Some (version (codes "2"))) 3 ∷ []) 7
+
+-- a project as people have them: a host tool under `version-date`, a default feature, and a feature with a platform
+abbrev pub fmt : List ℕ
+fmt = codes "fmt"
+
+abbrev pub curl : List ℕ
+curl = codes "curl"
+
+abbrev pub ssl : List ℕ
+ssl = codes "ssl"
+
+abbrev pub zlib : List ℕ
+zlib = codes "zlib"
+
+abbrev pub openssl : List ℕ
+openssl = codes "openssl"
+
+abbrev pub cmake : List ℕ
+cmake = codes "vcpkg-cmake"
+
+abbrev pub cmake_day : List ℕ
+cmake_day = codes "2023-05-04"
+
+abbrev pub day_version : List ℕ → Version
+day_version v = record { class = date; text = v; port = 0 }
+
+abbrev pub not_on_desktop : Condition
+not_on_desktop marks = not (has_mark (codes "windows") marks && not (has_mark (codes "uwp") marks))
+
+abbrev pub curl_manifest : Manifest Condition
+curl_manifest = record {
+  name = Some curl;
+  version = Some (version (codes "8.4.0"));
+  supports = always;
+  dependencies = on zlib ∷ for_host (on cmake) ∷ [];
+  default_features = use_of ssl ∷ [];
+  features = record { name = ssl; dependencies = record { name = openssl; defaults = true; features = []; host = false; platform = not_on_desktop; minimum = None } ∷ []; supports = always } ∷ [];
+  overrides = [];
+}
+
+abbrev pub with_cmake : List ℕ → List ℕ → List ℕ × Page Condition
+with_cmake port v = (port, listed v (release port v (for_host (on cmake) ∷ []) ∷ []))
+
+abbrev pub realistic : Inputs
+realistic = project (on fmt ∷ with_features (on curl) ssl ∷ on zlib ∷ for_host (on cmake) ∷ []) (pages_of (
+    with_cmake fmt (codes "10.1.1")
+    ∷ with_cmake zlib (codes "1.3")
+    ∷ with_cmake openssl (codes "3.1.3")
+    ∷ (cmake, listed cmake_day (record { version = day_version cmake_day; manifest = Ok (manifest cmake (day_version cmake_day) []) } ∷ []))
+    ∷ (curl, listed (codes "8.4.0") (record { version = version (codes "8.4.0"); manifest = Ok curl_manifest } ∷ []))
+    ∷ []))
+
+abbrev pub realistic_report : Report
+realistic_report =
+    plans (planned_line cmake cmake_day 14 ∷ planned_line fmt (codes "10.1.1") 13 ∷ planned_line openssl (codes "3.1.3") 27 ∷ planned_line zlib (codes "1.3") 15 ∷ line_with curl (codes "8.4.0") 12 (ssl ∷ []) ∷ []) 29
+
+-- files that can't be read, and a manifest that isn't what the table says
+abbrev pub manifest_path : Path
+manifest_path = codes "." ∷ codes "reg" ∷ codes "ports" ∷ codes "a" ∷ codes "1.0" ∷ codes "vcpkg.json" ∷ []
+
+abbrev pub table_path : Path
+table_path = codes "." ∷ codes "reg" ∷ codes "versions" ∷ codes "a-" ∷ codes "a.json" ∷ []
+
+abbrev pub with_wrong : Wrong → Inputs
+with_wrong wrong = project (on a ∷ []) (pages_of ((a, listed one_dot (record { version = version one_dot; manifest = Err wrong } ∷ [])) ∷ []))
+
+abbrev pub damaged_manifest : Inputs
+damaged_manifest = with_wrong (bad_file manifest_path [] (codes "json"))
+
+abbrev pub damaged_manifest_report : Report
+damaged_manifest_report = refuses (troubled (unreadable manifest_path [] (codes "json")) 6 ∷ []) 7
+
+abbrev pub other_manifest : Inputs
+other_manifest = with_wrong (disagrees manifest_path field_text one_dot (codes "1.1"))
+
+abbrev pub other_manifest_report : Report
+other_manifest_report = refuses (troubled (differs manifest_path field_text one_dot (codes "1.1")) 6 ∷ []) 7
+
+abbrev pub no_table : Inputs
+no_table = project (on a ∷ []) (pages_of ((a, record { given = Err (bad_file table_path [] (codes "absent")); rows = [] }) ∷ []))
+
+abbrev pub no_table_report : Report
+no_table_report = refuses (troubled (unreadable table_path [] (codes "absent")) 3 ∷ []) 4
+
+-- a baseline that its own table lacks: the minimum that the table has isn't visited
+abbrev pub stale_baseline : Inputs
+stale_baseline = project (at_least a one_dot ∷ []) (pages_of ((a, listed (codes "9") (release a one_dot [] ∷ [])) ∷ []))
+
+abbrev pub stale_baseline_report : Report
+stale_baseline_report = refuses (troubled (lacks_version a (ask (codes "9"))) 6 ∷ []) 6
+
+-- the platform of a host dependency is judged by the one that depends, and what an instance supports by the instance itself
+abbrev pub x64_only : List ℕ × Page Condition
+x64_only = (
+  t,
+  listed one (record {
+    version = version one;
+    manifest = Ok (record { name = Some t; version = Some (version one); supports = has_mark (codes "x64"); dependencies = []; default_features = []; features = []; overrides = [] });
+  } ∷ []),
+)
+
+abbrev pub host_platform : Inputs
+host_platform = record {
+  setting = setting (root_with (on u ∷ [])) arm64_linux x64_linux [];
+  pages = pages_of (x64_only ∷ single u (where_marked (for_host (on t)) (codes "arm64") ∷ where_marked (for_host (on w)) (codes "x64") ∷ []) ∷ single w [] ∷ []);
+  at_most = at_most;
+}
+
+abbrev pub host_platform_report : Report
+host_platform_report = plans (planned_line t one 10 ∷ arm_line u 5 ∷ []) 12
+
+-- an instance is off only where each dependency that names it says so
+abbrev pub on_by_another : Inputs
+on_by_another = project (without_defaults (on d) ∷ on d ∷ []) (pages_of (d_page ∷ []))
+
+abbrev pub on_by_another_report : Report
+on_by_another_report = plans (line_with d one 5 (f ∷ []) ∷ []) 9
+
+-- a root with features: x asks for a and y for b; y is a default feature
+abbrev pub root_features : Condition → Manifest Condition
+root_features supports = record {
+  name = None;
+  version = None;
+  supports = always;
+  dependencies = [];
+  default_features = use_of y ∷ [];
+  features = record { name = x; dependencies = on a ∷ []; supports = supports } ∷ feature y (on b ∷ []) ∷ [];
+  overrides = [];
+}
+
+abbrev pub featured : Condition → List (List ℕ) → Bool → Inputs
+featured supports features defaults = record {
+  setting = record { root = root_features supports; target = x64_linux; host = x64_linux; features = features; defaults = defaults; off = [] };
+  pages = pages_of (single a [] ∷ single b [] ∷ []);
+  at_most = at_most;
+}
+
+abbrev pub named_feature : Inputs
+named_feature = featured always (x ∷ []) false
+
+abbrev pub named_feature_report : Report
+named_feature_report = plans (planned_line a one 5 ∷ []) 7
+
+abbrev pub default_feature : Inputs
+default_feature = featured always [] true
+
+abbrev pub default_feature_report : Report
+default_feature_report = plans (planned_line b one 6 ∷ []) 8
+
+-- what a feature of the root doesn't support is told, and a feature that the root lacks
+abbrev pub unsupported_feature : Inputs
+unsupported_feature = featured (has_mark (codes "windows")) (x ∷ []) false
+
+abbrev pub unsupported_feature_report : Report
+unsupported_feature_report = refuses (isnt_supported (root (codes "x64-linux")) x None 2 ∷ []) 7
+
+abbrev pub missing_feature : Inputs
+missing_feature = featured always (codes "z" ∷ []) false
+
+abbrev pub missing_feature_report : Report
+missing_feature_report = refuses (lacks_feature (root (codes "x64-linux")) (codes "z") None 2 ∷ []) 2
+
+-- a minimum on one's own port and triplet is a floor, and what only the lower version asks of itself isn't planned
+abbrev pub own_at_least : Dependency Condition
+own_at_least = record { name = g; defaults = false; features = use_of y ∷ []; host = false; platform = always; minimum = Some (ask (codes "2")) }
+
+abbrev pub own_minimum : Inputs
+own_minimum = project (with_features (on g) x ∷ []) (pages_of (
+    (g, listed one (release_with g one (feature y [] ∷ feature x (own_at_least ∷ []) ∷ []) ∷ release_with g (codes "2") (feature y [] ∷ feature x [] ∷ []) ∷ []))
+    ∷ []))
+
+abbrev pub own_minimum_report : Report
+own_minimum_report = plans (line_with g (codes "2") 11 (x ∷ []) ∷ []) 16
+
+-- the root's own name for the target asks for features of the root, and for no minimum; for the host it is a port like any other
+abbrev pub named_root : Inputs
+named_root = record {
+  setting = record {
+    root = record {
+      name = Some g;
+      version = None;
+      supports = always;
+      dependencies = own_at_least ∷ for_host (without_defaults (on g)) ∷ [];
+      default_features = [];
+      features = feature y (on a ∷ []) ∷ [];
+      overrides = [];
+    };
+    target = arm64_linux;
+    host = x64_linux;
+    features = [];
+    defaults = false;
+    off = x64 g ∷ [];
+  };
+  pages = pages_of (single a [] ∷ single g [] ∷ []);
+  at_most = at_most;
+}
+
+abbrev pub named_root_report : Report
+named_root_report = plans (arm_line a 7 ∷ planned_line g one 6 ∷ []) 10
+
+-- a minimum below the baseline is a floor, and isn't visited
+abbrev pub below_baseline : Inputs
+below_baseline = project (on a ∷ []) (pages_of (
+    (a, listed one_dot (release a one_dot (at_least b one_dot ∷ []) ∷ []))
+    ∷ (b, listed (codes "1.1") (release b one_dot [] ∷ release b (codes "1.1") [] ∷ []))
+    ∷ []))
+
+abbrev pub below_baseline_report : Report
+below_baseline_report = plans (planned_line b (codes "1.1") 11 ∷ planned_line a one_dot 5 ∷ []) 13
+
+-- a port whose given version fails: a minimum is a floor of it, unless an overlay or an override pins it all the same
+abbrev pub failing : Wrong → List Override → Inputs
+failing wrong overrides = record {
+  setting = setting (record { name = None; version = None; supports = always; dependencies = at_least b (codes "9") ∷ []; default_features = []; features = []; overrides = overrides }) x64_linux x64_linux [];
+  pages = pages_of ((b, record { given = Err wrong; rows = [] }) ∷ []);
+  at_most = at_most;
+}
+
+abbrev pub overlay_path : Path
+overlay_path = codes "." ∷ codes "ov" ∷ codes "b" ∷ codes "vcpkg.json" ∷ []
+
+abbrev pub no_baseline_entry : Inputs
+no_baseline_entry = failing no_baseline []
+
+abbrev pub no_baseline_entry_report : Report
+no_baseline_entry_report = refuses (troubled (lacks_baseline b) 3 ∷ []) 5
+
+abbrev pub failed_override : Inputs
+failed_override = failing no_registry (record { name = b; ask = ask (codes "9") } ∷ [])
+
+abbrev pub failed_override_report : Report
+failed_override_report = refuses (troubled (lacks_registry b) 3 ∷ []) 4
+
+abbrev pub other_overlay : Inputs
+other_overlay = failing (disagrees overlay_path field_name b c) []
+
+abbrev pub other_overlay_report : Report
+other_overlay_report = refuses (troubled (differs overlay_path field_name b c) 3 ∷ []) 4
+
+abbrev pub damaged_overlay : Inputs
+damaged_overlay = failing (bad_file overlay_path [] (codes "json")) []
+
+abbrev pub damaged_overlay_report : Report
+damaged_overlay_report = refuses (troubled (unreadable overlay_path [] (codes "json")) 3 ∷ []) 4
+
+-- what the items of the realistic project need, by their places from 0
+abbrev pub realistic_needs : List (List ℕ)
+realistic_needs = [] ∷ (0 ∷ []) ∷ (0 ∷ []) ∷ (0 ∷ []) ∷ (0 ∷ 2 ∷ 3 ∷ []) ∷ []
+
+-- a feature whose name stands before `core`: its need comes first, and in a plan line `core` does
+abbrev pub bz2 : List ℕ
+bz2 = codes "bz2"
+
+abbrev pub early_feature : Inputs
+early_feature = project (with_features (on d) bz2 ∷ []) (pages_of ((d, listed one (release_with d one (feature bz2 [] ∷ []) ∷ [])) ∷ []))
+
+abbrev pub early_feature_report : Report
+early_feature_report = plans (line_with d one 6 (bz2 ∷ []) ∷ []) 9

@@ -1,0 +1,22 @@
+//! Laws of least lists, at any type of facts.
+ghost use Rattle.vk_resolution.specs.LeastLaws.{LeastIsOne, RankIsOne, MembersHaveRanks, RankedIsForced, DerivedIsLeast, LeastExists, OrderIsOne, ListingIsOne};
+
+/// Two least lists have the same members, each with one rank, and what has a rank is in every closed list. Where a list is closed, there is a least one.
+pub fn there_is_one_least_list<X>()
+    ensures members { LeastIsOne X }
+    ensures rank { RankIsOne X }
+    ensures ranked { MembersHaveRanks X }
+    ensures forced { RankedIsForced X }
+    ensures exists { LeastExists X }
+{}
+
+/// A list shows of itself that it is the least: closed, without repeats, each fact a root or from facts before it.
+pub fn a_derived_list_is_the_least<X>()
+    ensures least { DerivedIsLeast X }
+{}
+
+/// The least list in its order is one list, and so is the list of given things by their keys.
+pub fn an_order_is_one<X>()
+    ensures facts { OrderIsOne X }
+    ensures things { ListingIsOne X }
+{}

@@ -1,0 +1,33 @@
+//! The meaning of a plan: what a project requires, which versions follow from that, and what is planned or refused.
+//! Plain definitions over a setting, pages and an order on versions, with the laws that show that they are right.
+//! Each law is the contract of a function that does nothing.
+#![tactic(auto)]
+
+mod agreement;
+mod choices;
+mod faults;
+mod least;
+mod outcomes;
+mod plans;
+mod projects;
+mod reasons;
+mod sentences;
+mod superseded;
+mod walks;
+
+pub use agreement::only_what_was_asked_matters;
+pub use choices::a_choice_is_the_least_version_allowed;
+pub use faults::fault_lines_mean_what_they_say;
+pub use least::{a_derived_list_is_the_least, an_order_is_one, there_is_one_least_list};
+pub use outcomes::{orders_are_total, there_is_one_outcome};
+pub use plans::{a_plan_serves_its_manifests, a_plan_stays_within_the_reasons};
+pub use projects::{
+    a_feature_of_one_version, a_minimum_outside_the_table, a_raised_minimum, a_realistic_project,
+    bad_files, conflicts, cycles, default_features, failing_ports, host_instances,
+    minimums_below_the_baseline, no_registry, overlays, own_instances, reports_are_the_only_ones,
+    root_features, superseded_versions, the_smallest_project,
+};
+pub use reasons::reasons_show_what_they_claim;
+pub use sentences::rules_mean_their_sentences;
+pub use superseded::superseded_versions_count_and_go;
+pub use walks::{heights_exist_where_no_cycle_is, one_shortest_cycle_is_told};

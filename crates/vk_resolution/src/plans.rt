@@ -1,0 +1,14 @@
+//! Laws of plans.
+ghost use Rattle.vk_resolution.specs.Laws.{PlanExists, PlanStaysWithin};
+ghost use Rattle.vk_resolution.specs.Service.{PlanServes};
+
+/// Where no fault of the first phase stands, there are planned facts, all of them among the facts.
+pub fn a_plan_stays_within_the_reasons()
+    ensures exists { PlanExists }
+    ensures within { PlanStaysWithin }
+{}
+
+/// Where the first two phases have no line, all that the planned manifests ask is planned, and every minimum is met.
+pub fn a_plan_serves_its_manifests()
+    ensures serves { PlanServes }
+{}

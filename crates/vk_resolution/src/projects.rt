@@ -1,0 +1,122 @@
+//! Worked projects: what the definitions say of each.
+ghost use Rattle.vk_resolution.specs.Reasons.{IsReasons};
+ghost use Rattle.vk_resolution.specs.Laws.{IsOrder};
+ghost use Rattle.vk_resolution.specs.Examples.{HasNeeds, Reports, ReportsAlone, at_most};
+ghost use Rattle.vk_resolution.specs.Projects.{below_baseline, below_baseline_report, builds_with_floor, builds_with_floor_report, conflict, conflict_report, cross_build, cross_build_report, cycle, cycle_report, damaged_manifest, damaged_manifest_report, damaged_overlay, damaged_overlay_report, default_feature, default_feature_report, dropped_feature, dropped_feature_report, early_feature, early_feature_report, failed_override, failed_override_report, host_platform, host_platform_report, missing_feature, missing_feature_report, missing_minimum, missing_minimum_report, named_feature, named_feature_report, named_root, named_root_report, native_build, native_build_report, new_feature, new_feature_report, no_baseline_entry, no_baseline_entry_report, no_table, no_table_report, off_by_port, off_by_port_report, off_by_root, off_by_root_report, off_where_it_applies, off_where_it_applies_report, on_by_another, on_by_another_report, other_manifest, other_manifest_report, other_overlay, other_overlay_report, overlaid_port, overlaid_port_report, overridden, overridden_report, own_feature, own_feature_report, own_minimum, own_minimum_report, raised_minimum, raised_minimum_reasons, raised_minimum_report, realistic, realistic_needs, realistic_report, smallest, smallest_report, stale_baseline, stale_baseline_report, superseded_minimum, superseded_minimum_report, superseded_reach, superseded_reach_report, two_cycles, two_cycles_report, unrelated_builds, unrelated_builds_report, unserved, unserved_report, unsupported_feature, unsupported_feature_report, unsupported_port, unsupported_port_report};
+
+/// The order on versions in these projects is an order, and what one reports is all that it can report.
+pub fn reports_are_the_only_ones()
+    ensures order { IsOrder at_most }
+    ensures alone { ReportsAlone }
+{}
+
+/// The smallest project plans nothing, and its two reasons are the root's own needs.
+pub fn the_smallest_project()
+    ensures planned { Reports smallest smallest_report }
+{}
+
+/// A project as people have them: a host tool, a default feature, a feature with a platform.
+pub fn a_realistic_project()
+    ensures planned { Reports realistic realistic_report }
+    ensures needs { HasNeeds realistic realistic_needs }
+{}
+
+/// A minimum below the baseline is a floor and no more.
+pub fn minimums_below_the_baseline()
+    ensures planned { Reports below_baseline below_baseline_report }
+{}
+
+/// A port whose given version fails is told with its first need; a minimum is a floor of it unless an overlay or an override pins it.
+pub fn failing_ports()
+    ensures baseline { Reports no_baseline_entry no_baseline_entry_report }
+    ensures overridden { Reports failed_override failed_override_report }
+    ensures overlay { Reports other_overlay other_overlay_report }
+    ensures damaged { Reports damaged_overlay damaged_overlay_report }
+{}
+
+/// A minimum above the baseline is planned, with these fifteen reasons.
+pub fn a_raised_minimum()
+    ensures planned { Reports raised_minimum raised_minimum_report }
+    ensures reasons { IsReasons raised_minimum raised_minimum_reasons }
+{}
+
+/// A minimum that only a superseded version asks counts, and a port that only it asks for isn't planned.
+pub fn superseded_versions()
+    ensures minimum { Reports superseded_minimum superseded_minimum_report }
+    ensures reach { Reports superseded_reach superseded_reach_report }
+{}
+
+/// Unrelated floors are a conflict, which an override or a floor above both settles; a version that is no floor doesn't.
+pub fn conflicts()
+    ensures texts { Reports conflict conflict_report }
+    ensures overridden { Reports overridden overridden_report }
+    ensures builds { Reports unrelated_builds unrelated_builds_report }
+    ensures floor { Reports builds_with_floor builds_with_floor_report }
+{}
+
+/// A minimum that the table lacks is told with its floor.
+pub fn a_minimum_outside_the_table()
+    ensures refused { Reports missing_minimum missing_minimum_report }
+{}
+
+/// A feature is asked of the chosen version, which may be the only one that has it, or the only one that lacks it.
+pub fn a_feature_of_one_version()
+    ensures planned { Reports new_feature new_feature_report }
+    ensures refused { Reports dropped_feature dropped_feature_report }
+    ensures early { Reports early_feature early_feature_report }
+{}
+
+/// Only the root can switch default features off, by dependencies that apply.
+pub fn default_features()
+    ensures root { Reports off_by_root off_by_root_report }
+    ensures port { Reports off_by_port off_by_port_report }
+    ensures applies { Reports off_where_it_applies off_where_it_applies_report }
+    ensures another { Reports on_by_another on_by_another_report }
+{}
+
+/// A host dependency is for the host triplet, and its platform is judged by the one that depends.
+pub fn host_instances()
+    ensures cross { Reports cross_build cross_build_report }
+    ensures native { Reports native_build native_build_report }
+    ensures platform { Reports host_platform host_platform_report }
+{}
+
+/// A cycle is told from its least instance on, and a port that asks for a feature of its own is none.
+pub fn cycles()
+    ensures three { Reports cycle cycle_report }
+    ensures two { Reports two_cycles two_cycles_report }
+    ensures own { Reports own_feature own_feature_report }
+{}
+
+/// A manifest or a table that can't be read is told, and a manifest that isn't what the table says.
+pub fn bad_files()
+    ensures manifest { Reports damaged_manifest damaged_manifest_report }
+    ensures other { Reports other_manifest other_manifest_report }
+    ensures table { Reports no_table no_table_report }
+    ensures baseline { Reports stale_baseline stale_baseline_report }
+{}
+
+/// The words choose features of the root, and so does `default`; what a feature doesn't support is told, and a feature that isn't there.
+pub fn root_features()
+    ensures named { Reports named_feature named_feature_report }
+    ensures by_default { Reports default_feature default_feature_report }
+    ensures unsupported { Reports unsupported_feature unsupported_feature_report }
+    ensures missing { Reports missing_feature missing_feature_report }
+{}
+
+/// A minimum on one's own port is a floor, but for the root, which is its own instance for the target alone.
+pub fn own_instances()
+    ensures minimum { Reports own_minimum own_minimum_report }
+    ensures root { Reports named_root named_root_report }
+{}
+
+/// A port that no registry serves is told with its first need.
+pub fn no_registry()
+    ensures refused { Reports unserved unserved_report }
+{}
+
+/// An overlay has its own version whatever the minimum, and what it doesn't support is refused.
+pub fn overlays()
+    ensures planned { Reports overlaid_port overlaid_port_report }
+    ensures refused { Reports unsupported_port unsupported_port_report }
+{}
