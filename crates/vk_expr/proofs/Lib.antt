@@ -1,0 +1,11 @@
+pub mod StepLemmas
+pub mod Complete
+pub mod Sound
+pub mod FrameLemmas
+pub mod TokenLemmas
+pub mod RunLemmas
+pub mod ReadingLaws
+pub mod StandingLemmas
+pub mod FaultLaws
+pub mod PrintLemmas
+pub mod PrintLaws

@@ -1,0 +1,75 @@
+-- A text reads as a tree exactly where its reading is that tree.
+use Rattle.std.proofs.Common.{◌≡◌, ◌+◌, ℕ, List, [], ◌∷◌, length, refl, ap, ◌∙◌, subst, arith}
+use Rattle.std.specs.Prelude.{Ok, Err, Bool, true, false}
+use Rattle.std.specs.List.{list_all}
+use Rattle.std.proofs.lemmas.Bool.Decides.{nat_tests}
+use Rattle.vk_spec.specs.Reading.{◌>>=◌}
+use Rattle.vk_expr.specs.Trees.{Tree, always}
+use Rattle.vk_expr.specs.Tokens.{Token, is_blank, is_word_byte, sign_begun, tokens_from, tokens_of}
+use Rattle.vk_expr.specs.Grammar.{IsExpr, Reads, blank, whole}
+use Rattle.vk_expr.specs.Reading.{Fault, unexpected, settled, steps, at_end, cut_off, start, reading_of}
+use Rattle.vk_expr.proofs.Complete.{Led, expr_leads}
+use Rattle.vk_expr.proofs.Sound.{expr_from}
+
+-- an expression is read from its tokens, whatever the text's length
+pub expr_read : (n : ℕ) (tokens : List Token) (t : Tree) → IsExpr 0 tokens [] t → (steps start tokens >>= at_end n) ≡ Ok t
+unfolding steps at_end settled
+expr_read n tokens t e =
+    let led : Led [] tokens [] start t = expr_leads 0 tokens [] t e [] (λ c t. refl) refl in
+    ap (λ r. r >>= at_end n) led.leads ∙ ap Ok led.value
+
+-- blanks have no tokens
+no_word : (b : ℕ) → is_blank b ≡ true → is_word_byte b ≡ false
+no_word b e = grind (arith, nat_tests)
+
+blank_first : (n : ℕ) (skipped : Bool) (b : ℕ) (bs : List ℕ) → is_blank b ≡ true → tokens_from n skipped (b ∷ bs) ≡ tokens_from (n + 1) false bs
+unfolding tokens_from sign_begun
+blank_first n skipped b bs e = rw (no_word b e, e) refl
+
+blank_by : (b : ℕ) (bs : List ℕ) (r : Bool) → is_blank b ≡ r → list_all is_blank (b ∷ bs) ≡ true → (is_blank b ≡ true) × (list_all is_blank bs ≡ true)
+blank_by b bs true e all = (e, rw e at all)
+blank_by b bs false e all = cc (rw e at all)
+
+blank_tokens : (text : List ℕ) (n : ℕ) (skipped : Bool) → list_all is_blank text ≡ true → tokens_from n skipped text ≡ []
+unfolding tokens_from
+blank_tokens [] n skipped all = refl
+blank_tokens (b ∷ bs) n skipped all =
+    let both : (is_blank b ≡ true) × (list_all is_blank bs ≡ true) = blank_by b bs (is_blank b) refl all in
+    blank_first n skipped b bs both.0 ∙ blank_tokens bs (n + 1) false both.1
+
+nothing_reads : (t : Tree) → IsExpr 0 [] [] t → ⊥
+unfolding steps at_end cut_off
+nothing_reads t e =
+    let impossible : Err (unexpected 0) ≡ Ok t = expr_read 0 [] t e in
+    cc
+
+whole_by : (text : List ℕ) (t : Tree) (b : Bool) → list_all is_blank text ≡ b → IsExpr 0 (tokens_of text) [] t → reading_of text ≡ Ok t
+unfolding reading_of
+whole_by text t true all e = absurd (nothing_reads t (subst (λ l. IsExpr 0 l [] t) (blank_tokens text 0 false all) e))
+whole_by text t false all e = rw all (expr_read (length text) (tokens_of text) t e)
+
+blank_is : (text : List ℕ) → list_all is_blank text ≡ true → reading_of text ≡ Ok always
+unfolding reading_of
+blank_is text all = rw all refl
+
+-- what the grammar has is read
+pub reads_is : (text : List ℕ) (t : Tree) → Reads text t → reading_of text ≡ Ok t
+reads_is _ _ (blank text all) = blank_is text all
+reads_is _ _ (whole text t e) = whole_by text t (list_all is_blank text) refl e
+
+is_reads_by : (text : List ℕ) (t : Tree) (b : Bool) → list_all is_blank text ≡ b → reading_of text ≡ Ok t → Reads text t
+unfolding reading_of
+is_reads_by text t true all e =
+    let same : always ≡ t = cc (blank_is text all, e) in
+    subst (λ t. Reads text t) same (blank text all)
+is_reads_by text t false all e = whole text t (expr_from (length text) (tokens_of text) t (rw all at e))
+
+-- what is read the grammar has
+pub is_reads : (text : List ℕ) (t : Tree) → reading_of text ≡ Ok t → Reads text t
+is_reads text t e = is_reads_by text t (list_all is_blank text) refl e
+
+pub one_reading : (text : List ℕ) (s t : Tree) → Reads text s → Reads text t → s ≡ t
+one_reading text s t one other = cc (reads_is text s one, reads_is text t other)
+
+pub never_both : (text : List ℕ) (t : Tree) (f : Fault) → Reads text t → reading_of text ≡ Err f → ⊥
+never_both text t f reads fails = cc (reads_is text t reads, fails)

@@ -1,0 +1,9 @@
+pub mod Trees
+pub mod Tokens
+pub mod Grammar
+pub mod Reading
+pub mod Standing
+pub mod Printing
+pub mod Views
+pub mod Faults
+pub mod ReaderViews

@@ -1,0 +1,30 @@
+ghost use Rattle.std.specs.Prelude.{◌≡◌, ◌↔◌, ℕ, List, length, Ok, Err};
+ghost use Rattle.vk_expr.specs.Trees.{Tree};
+ghost use Rattle.vk_expr.specs.Tokens.{tokens_of};
+ghost use Rattle.vk_expr.specs.Grammar.{Reads};
+ghost use Rattle.vk_expr.specs.Reading.{Fault, reading_of};
+ghost use Rattle.vk_expr.specs.Printing.{printed};
+ghost use Rattle.vk_expr.specs.Standing.{IsFirstFault};
+
+/// The grammar gives a text one expression at most.
+pub fn one_reading()
+    ensures { (text : List ℕ) (one other : Tree) → Reads text one → Reads text other → one ≡ other }
+{}
+
+/// A text reads as an expression exactly where the grammar gives it that expression; where it has a
+/// first fault, the grammar gives it none.
+pub fn reading_or_fault()
+    ensures reading { (text : List ℕ) (t : Tree) → (reading_of text ≡ Ok t) ↔ Reads text t }
+    ensures fault { (text : List ℕ) (f : Fault) (t : Tree) → reading_of text ≡ Err f → Reads text t → ⊥ }
+{}
+
+/// The first fault of a text stands at its first token such that no expression begins with the tokens
+/// up to it, or at its end where an expression begins with all its tokens.
+pub fn fault_place()
+    ensures { (text : List ℕ) (f : Fault) → reading_of text ≡ Err f → IsFirstFault (length text) (tokens_of text) f }
+{}
+
+/// What was read and is printed reads as the same expression.
+pub fn print_again()
+    ensures { (text : List ℕ) (t : Tree) → reading_of text ≡ Ok t → reading_of (printed t) ≡ Ok t }
+{}

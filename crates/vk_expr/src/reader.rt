@@ -1,0 +1,307 @@
+ghost use Rattle.std.specs.Prelude.{◌≡◌, ◌∷◌, ◌++◌, map, ◌+◌, ◌<◌, ◌^◌, [], length, drop, slice_index, option_map, option_to_list, Ok};
+ghost use Rattle.std.specs.List.{list_all};
+ghost use Rattle.vk_spec.specs.Reading.{Gives};
+ghost use Rattle.vk_expr.specs.Trees.{negation};
+ghost use Rattle.vk_expr.specs.Tokens.{token, tokens_of, sign_begun, is_blank};
+ghost use Rattle.vk_expr.specs.Reading.{unexpected, wanted, ended, settled, deeper, joined_on, closed_on, same_joint, joined, start, step, steps, at_end, reading_of};
+ghost use Rattle.vk_expr.specs.Views.{tree_of};
+ghost use Rattle.vk_expr.specs.Faults.{expr_fault_of};
+ghost use Rattle.vk_expr.specs.ReaderViews.{joint_of, sign_of, chain_of, frame_of, frames_of, state_of};
+
+use crate::exprs::Expr;
+use crate::faults::ExprFault;
+use crate::frames::{Chain, Frame, cut_off, is_negated, value};
+use crate::tokens::{Joint, Sign, is_blank, is_word_byte, sign_at};
+use std::alloc::Global;
+use vk_base::List;
+
+/// What the tokens so far have led to.
+#[derive(Drop)]
+pub(crate) enum State {
+    Wanted(List<Frame>, Chain),
+    Ended(List<Frame>, Chain, Expr),
+}
+
+fn negation(alloc: Global, member: Expr) -> Result<Expr, ExprFault>
+    ensures { Gives tree_of expr_fault_of result (Ok (negation (tree_of member))) }
+{
+    Ok(Expr::Not(Box::new(alloc, member)?))
+}
+
+/// A unary has ended: so have the NOTs before it.
+fn settled(
+    alloc: Global,
+    mut frames: List<Frame>,
+    chain: Chain,
+    mut value: Expr,
+) -> Result<State, ExprFault>
+    ensures { Gives state_of expr_fault_of result (Ok (settled (frames_of frames) (chain_of chain) (tree_of value))) }
+{
+    while is_negated(&frames) {
+        frames.pop();
+        value = negation(alloc, value)?;
+    }
+    Ok(State::Ended(frames, chain, value))
+}
+
+/// One more NOT or parenthesis.
+fn deeper(mut frames: List<Frame>, frame: Frame, chain: Chain) -> Result<State, ExprFault>
+    ensures { Gives state_of expr_fault_of result (deeper (frames_of frames) (frame_of frame) (chain_of chain)) }
+{
+    if frames.len() >= 64 {
+        return Err(ExprFault::Deep);
+    }
+    frames.push(frame)?;
+    Ok(State::Wanted(frames, chain))
+}
+
+/// What a token leads to where a unary is wanted.
+#[tactic(auto, unfolding(crate::specs::Reading::step))]
+fn step_wanted(
+    alloc: Global,
+    frames: List<Frame>,
+    chain: Chain,
+    at: u32,
+    sign: Sign,
+) -> Result<State, ExprFault>
+    ensures { Gives state_of expr_fault_of result (step (wanted (frames_of frames) (chain_of chain)) (token at (sign_of sign))) }
+{
+    match sign {
+        Sign::Name(word) => settled(alloc, frames, chain, Expr::Mark(word)),
+        Sign::Negates => deeper(frames, Frame::Pending, chain),
+        Sign::Opens => deeper(frames, Frame::Around(at, chain), Chain::Single),
+        Sign::Joins(_) => Err(ExprFault::Unexpected { at }),
+        Sign::Closes => Err(ExprFault::Unexpected { at }),
+        Sign::Stray => Err(ExprFault::Unexpected { at }),
+    }
+}
+
+/// A chain begins with its first member.
+fn begun(alloc: Global, frames: List<Frame>, joint: Joint, first: Expr) -> Result<State, ExprFault>
+    ensures { Gives state_of expr_fault_of result (Ok (wanted (frames_of frames) (joined (joint_of joint) (tree_of first ∷ [])))) }
+{
+    let mut members = List::new(alloc);
+    members.push(first)?;
+    Ok(State::Wanted(frames, Chain::Joined(joint, members)))
+}
+
+/// A chain has one member more.
+fn grown(
+    frames: List<Frame>,
+    joint: Joint,
+    mut members: List<Expr>,
+    member: Expr,
+) -> Result<State, ExprFault>
+    ensures { Gives state_of expr_fault_of result (Ok (wanted (frames_of frames) (joined (joint_of joint) (map tree_of members ++ tree_of member ∷ [])))) }
+{
+    members.push(member)?;
+    Ok(State::Wanted(frames, Chain::Joined(joint, members)))
+}
+
+fn is_same(one: Joint, other: Joint) -> bool
+    ensures { result ≡ same_joint (joint_of one) (joint_of other) }
+{
+    match one {
+        Joint::Both => match other {
+            Joint::Both => true,
+            Joint::Either => false,
+        },
+        Joint::Either => match other {
+            Joint::Both => false,
+            Joint::Either => true,
+        },
+    }
+}
+
+/// An operator after a unary, and after a chain.
+fn joined_later(
+    frames: List<Frame>,
+    joint: Joint,
+    members: List<Expr>,
+    member: Expr,
+    at: u32,
+    operator: Joint,
+) -> Result<State, ExprFault>
+    ensures { Gives state_of expr_fault_of result (joined_on at (joint_of operator) (frames_of frames) (joined (joint_of joint) (map tree_of members)) (tree_of member)) }
+{
+    if is_same(operator, joint) {
+        grown(frames, joint, members, member)
+    } else {
+        Err(ExprFault::Mixed { at })
+    }
+}
+
+/// An operator after a unary.
+fn joined_on(
+    alloc: Global,
+    frames: List<Frame>,
+    chain: Chain,
+    member: Expr,
+    at: u32,
+    joint: Joint,
+) -> Result<State, ExprFault>
+    ensures { Gives state_of expr_fault_of result (joined_on at (joint_of joint) (frames_of frames) (chain_of chain) (tree_of member)) }
+{
+    match chain {
+        Chain::Single => begun(alloc, frames, joint, member),
+        Chain::Joined(other, members) => joined_later(frames, other, members, member, at, joint),
+    }
+}
+
+/// A closing parenthesis after a unary, where this is the innermost that is pending.
+fn closed(
+    alloc: Global,
+    frames: List<Frame>,
+    innermost: Frame,
+    chain: Chain,
+    last: Expr,
+    at: u32,
+) -> Result<State, ExprFault>
+    ensures { Gives state_of expr_fault_of result (closed_on at (frame_of innermost ∷ frames_of frames) (chain_of chain) (tree_of last)) }
+{
+    match innermost {
+        Frame::Pending => Err(ExprFault::Unexpected { at }),
+        Frame::Around(_, outer) => settled(alloc, frames, outer, value(chain, last)?),
+    }
+}
+
+/// A closing parenthesis after a unary.
+fn closed_on(
+    alloc: Global,
+    mut frames: List<Frame>,
+    chain: Chain,
+    last: Expr,
+    at: u32,
+) -> Result<State, ExprFault>
+    ensures { Gives state_of expr_fault_of result (closed_on at (frames_of frames) (chain_of chain) (tree_of last)) }
+{
+    match frames.pop() {
+        None => Err(ExprFault::Unexpected { at }),
+        Some(innermost) => closed(alloc, frames, innermost, chain, last, at),
+    }
+}
+
+/// What a token leads to after a unary.
+#[tactic(auto, unfolding(crate::specs::Reading::step))]
+fn step_ended(
+    alloc: Global,
+    frames: List<Frame>,
+    chain: Chain,
+    last: Expr,
+    at: u32,
+    sign: Sign,
+) -> Result<State, ExprFault>
+    ensures { Gives state_of expr_fault_of result (step (ended (frames_of frames) (chain_of chain) (tree_of last)) (token at (sign_of sign))) }
+{
+    match sign {
+        Sign::Joins(joint) => joined_on(alloc, frames, chain, last, at, joint),
+        Sign::Closes => closed_on(alloc, frames, chain, last, at),
+        Sign::Name(_) => Err(ExprFault::Unexpected { at }),
+        Sign::Negates => Err(ExprFault::Unexpected { at }),
+        Sign::Opens => Err(ExprFault::Unexpected { at }),
+        Sign::Stray => Err(ExprFault::Unexpected { at }),
+    }
+}
+
+/// What a token leads to.
+fn step(alloc: Global, state: State, at: u32, sign: Sign) -> Result<State, ExprFault>
+    ensures { Gives state_of expr_fault_of result (step (state_of state) (token at (sign_of sign))) }
+{
+    match state {
+        State::Wanted(frames, chain) => step_wanted(alloc, frames, chain, at, sign),
+        State::Ended(frames, chain, last) => step_ended(alloc, frames, chain, last, at, sign),
+    }
+}
+
+/// What a token leads to, if one begins here.
+#[tactic(auto, unfolding(crate::specs::Reading::steps))]
+fn step_maybe(alloc: Global, state: State, at: u32, sign: Option<Sign>) -> Result<State, ExprFault>
+    ensures { Gives state_of expr_fault_of result (steps (state_of state) (option_to_list (option_map (token at) (option_map sign_of sign)))) }
+{
+    match sign {
+        None => Ok(state),
+        Some(sign) => step(alloc, state, at, sign),
+    }
+}
+
+/// What a byte leads to, told whether the byte before is of a word.
+fn step_byte(
+    alloc: Global,
+    state: State,
+    bytes: &[u8],
+    at: usize,
+    inside: bool,
+) -> Result<State, ExprFault>
+    requires short { length bytes.now < 2 ^ 32 }
+    requires within { at < length bytes.now }
+    ensures { Gives state_of expr_fault_of result (steps (state_of state) (option_to_list (option_map (token at) (sign_begun inside (slice_index bytes.now at) (drop (at + 1) bytes.now))))) }
+{
+    let sign = sign_at(alloc, bytes, at, inside)?;
+    step_maybe(alloc, state, at as u32, sign)
+}
+
+/// What all tokens of a text lead to.
+fn run(alloc: Global, bytes: &[u8]) -> Result<State, ExprFault>
+    requires short { length bytes.now < 2 ^ 32 }
+    ensures { Gives state_of expr_fault_of result (steps start (tokens_of bytes.now)) }
+{
+    let mut state = State::Wanted(List::new(alloc), Chain::Single);
+    let mut inside = false;
+    for (at, byte) in bytes.iter().enumerate() {
+        state = step_byte(alloc, state, bytes, at, inside)?;
+        inside = is_word_byte(*byte);
+    }
+    Ok(state)
+}
+
+/// What the end of a text makes of a level whose last member has ended.
+#[tactic(auto, unfolding(crate::specs::Reading::at_end))]
+fn finish_ended(
+    frames: List<Frame>,
+    chain: Chain,
+    last: Expr,
+    length: u32,
+) -> Result<Expr, ExprFault>
+    ensures { Gives tree_of expr_fault_of result (at_end length (ended (frames_of frames) (chain_of chain) (tree_of last))) }
+{
+    if frames.is_empty() {
+        value(chain, last)
+    } else {
+        Err(cut_off(frames, length))
+    }
+}
+
+/// What the end of a text makes of what its tokens led to.
+#[tactic(auto, unfolding(crate::specs::Reading::at_end))]
+fn finish(state: State, length: u32) -> Result<Expr, ExprFault>
+    ensures { Gives tree_of expr_fault_of result (at_end length (state_of state)) }
+{
+    match state {
+        State::Wanted(frames, _) => Err(cut_off(frames, length)),
+        State::Ended(frames, chain, last) => finish_ended(frames, chain, last, length),
+    }
+}
+
+fn is_blank_text(bytes: &[u8]) -> bool
+    ensures { result ≡ list_all is_blank bytes.now }
+{
+    bytes.iter().all(|byte| is_blank(*byte))
+}
+
+/// Reads a platform expression in one pass from left to right. A text of blanks alone is `Always`.
+/// NOT is `!` or `not`, AND is `&` or `and`, OR is `|` or `,`; a level has ANDs or ORs, never both.
+/// Otherwise the first fault is told: `Unexpected` and `Mixed` at the first token that no expression
+/// goes on with, or where the text ends too early; `Open` at the innermost parenthesis that isn't
+/// closed; `Deep` where more than 64 NOTs and parentheses would be open.
+#[tactic(auto, unfolding(crate::specs::Reading::reading_of))]
+pub fn read(alloc: Global, text: &str) -> Result<Expr, ExprFault>
+    requires short { length text.now < 2 ^ 32 }
+    ensures { Gives tree_of expr_fault_of result (reading_of text.now) }
+{
+    let bytes = text.as_bytes();
+    if is_blank_text(bytes) {
+        return Ok(Expr::Always);
+    }
+    let state = run(alloc, bytes)?;
+    finish(state, bytes.len() as u32)
+}
