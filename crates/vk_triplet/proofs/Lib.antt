@@ -1,0 +1,7 @@
+mod FrontLemmas
+mod SayLemmas
+mod FindLemmas
+mod TextLemmas
+mod ReadLemmas
+mod MarkLemmas
+mod FileLemmas

@@ -1,0 +1,36 @@
+-- The last setting of a variable, as a loop finds it.
+use Rattle.std.proofs.Common.{◌≡◌, ◌+◌, ◌<◌, ◌++◌, ℕ, Bool, List, [], ◌∷◌, length, map, take, get_or, inl, inr, refl, ap, ◌∙◌}
+use Rattle.std.specs.Prelude.{if◌then◌else◌}
+use Rattle.std.specs.List.{filter}
+use Rattle.std.proofs.lemmas.Bool.{cases_Bool}
+use Rattle.std.proofs.lemmas.List.{take_more, map-append}
+use Rattle.vk_triplet.specs.Lines.{Setting}
+use Rattle.vk_triplet.specs.TripletReadings.{last_value, sets, value_of}
+
+pub last_push : (front : List Setting) (s : Setting) → last_value (front ++ s ∷ []) ≡ s.value
+last_push [] s = refl
+last_push (t ∷ []) s = refl
+last_push (t ∷ u ∷ more) s = last_push (u ∷ more) s
+
+filter_push : {X : Type 0} (test : X → Bool) (xs : List X) (x : X) → filter test (xs ++ x ∷ []) ≡ (if test x then filter test xs ++ x ∷ [] else filter test xs)
+filter_push test [] x = refl
+filter_push test (y ∷ ys) x =
+    elim (cases_Bool (test x)) [
+      | inl passes ↦ (let more = filter_push test ys x in let known = rw passes at more in elim (cases_Bool (test y)) [ inl here ↦ rw (here, passes, known) refl | inr other ↦ rw (other, passes, known) refl ])
+      | inr fails ↦ (let more = filter_push test ys x in let known = rw fails at more in elim (cases_Bool (test y)) [ inl here ↦ rw (here, fails, known) refl | inr other ↦ rw (other, fails, known) refl ])
+    ]
+
+value_push : (name : List ℕ) (front : List Setting) (s : Setting) → value_of name (front ++ s ∷ []) ≡ (if sets name s then s.value else value_of name front)
+value_push name front s =
+    elim (cases_Bool (sets name s)) [
+      | inl here ↦ (let more = filter_push (sets name) front s in let known = rw here at more in rw (here, known) (last_push (filter (sets name) front) s))
+      | inr other ↦ (let more = filter_push (sets name) front s in let known = rw other at more in rw (other, known) refl)
+    ]
+
+-- one setting more was seen
+pub value_more : {V : Type 0} (view : V → Setting) (name : List ℕ) (vs : List V) (i : ℕ) (v : V) → i < length vs → v ≡ get_or vs i v
+    → value_of name (map view (take (i + 1) vs)) ≡ (if sets name (view v) then last_value (view v ∷ []) else value_of name (map view (take i vs)))
+value_more view name vs i v within is =
+    ap (λ l. value_of name (map view l)) (take_more vs i v within)
+    ∙ ap (value_of name) (map-append view (take i vs) (get_or vs i v ∷ []))
+    ∙ rw (← is) (value_push name (map view (take i vs)) (view v))
