@@ -1,2 +1,3 @@
 mod ItemLemmas
 mod DocumentLemmas
+pub mod MovingLemmas

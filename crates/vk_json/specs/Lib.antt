@@ -1,3 +1,6 @@
 pub mod Documents
 pub mod DocumentView
 pub mod Looks
+pub mod Places
+pub mod Readings
+pub mod FaultViews

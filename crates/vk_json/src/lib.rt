@@ -5,9 +5,16 @@
 mod documents;
 mod faults;
 mod getters;
+mod places;
+mod readers;
 #[cfg(test)]
 mod tests;
 
 pub use documents::Doc;
 pub use faults::{FileFault, Why};
 pub use getters::{as_bool, as_number, as_text, items, keys, member};
+pub use places::{at, under, wrong};
+pub use readers::{
+    AnyBoolean, AnyText, ListOf, MemberReader, ObjectOf, Reader, SmallNumber, boolean, each_item,
+    each_member, number, object, optional, text, wanted,
+};

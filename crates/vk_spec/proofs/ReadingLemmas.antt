@@ -60,3 +60,31 @@ module _ {V X R A F : Type 0} (view : V → X) (out : R → A) (f : ℕ → X �
 
   pub is_done_by : (front : List R) (i : ℕ) (vs : List V) (total : Result (List A) F) → length vs ≤ i → with_front (map out front) (left_from f i (map view vs)) ≡ total → total ≡ Ok (map out front)
   is_done_by front i vs total past so_far = is_done f (map out front) i (map view vs) total (rw (length-map vs view) past) so_far
+
+-- where the number of a member doesn't matter, what is left is read alike from any number on
+any_number : {X A F : Type 0} (f : X → Result A F) (n m : ℕ) (xs : List X) → read_each (λ _. f) n xs ≡ read_each (λ _. f) m xs
+unfolding read_each
+any_number f n m [] = refl
+any_number f n m (x ∷ xs) = rw (any_number f (n + 1) (m + 1) xs) refl
+
+first_and_rest : {X A F : Type 0} (f : X → Result A F) (front : List A) (x : X) (xs : List X) → with_front front (read_each (λ _. f) 0 (x ∷ xs)) ≡ with_front front (f x >>= λ y. read_each (λ _. f) 0 xs >>= λ ys. Ok (y ∷ ys))
+unfolding read_each
+first_and_rest f front x xs = rw (any_number f 1 0 xs) refl
+
+-- the same lemmas for a loop that keeps the members which are left
+pub goes_on_with : {X A F : Type 0} (f : X → Result A F) (front : List A) (x : X) (y : A) (xs : List X) (total : Result (List A) F) → f x ≡ Ok y
+    → with_front front (read_each (λ _. f) 0 (x ∷ xs)) ≡ total → with_front (front ++ y ∷ []) (read_each (λ _. f) 0 xs) ≡ total
+goes_on_with f front x y xs total read so_far =
+    let one : with_front front (read_each (λ _. f) 0 (x ∷ xs)) ≡ with_front (front ++ y ∷ []) (read_each (λ _. f) 0 xs) = rw (first_and_rest f front x xs, read) (regroup front y (read_each (λ _. f) 0 xs)) in
+    sym one ∙ so_far
+
+pub ends_with : {X A F : Type 0} (told : Option F) (f : X → Result A F) (front : List A) (x : X) (xs : List X) (total : Result (List A) F) → Fails told (f x)
+    → with_front front (read_each (λ _. f) 0 (x ∷ xs)) ≡ total → Fails told total
+ends_with None f front x xs total fails so_far = tt
+ends_with (Some fault) f front x xs total fails so_far =
+    let one : with_front front (read_each (λ _. f) 0 (x ∷ xs)) ≡ Err fault = rw (first_and_rest f front x xs, fails) refl in
+    sym so_far ∙ one
+
+pub is_done_with : {X A F : Type 0} (f : X → Result A F) (front : List A) (total : Result (List A) F) → with_front front (read_each (λ _. f) 0 []) ≡ total → total ≡ Ok front
+unfolding read_each
+is_done_with f front total so_far = sym so_far ∙ ap Ok (append-nil front)

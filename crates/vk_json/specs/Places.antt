@@ -1,0 +1,36 @@
+-- Places in a document: JSON Pointers (RFC 6901).
+use Rattle.std.specs.Prelude.{◌++◌, ◌==◌, ℕ, List, [], ◌∷◌, codes, decimal, Result, Ok, Err, if◌then◌else◌}
+use Rattle.std.specs.List.{flat_map}
+use Rattle.std.specs.Str.{chars}
+use Rattle.std.specs.Char.{encode_utf8}
+use Rattle.vk_json.specs.Documents.{Fault}
+use Rattle.vk_json.specs.declared.faults.Why.{Why}
+
+-- a key's character in a pointer: `~` is `~0`, and `/` is `~1`
+abbrev pub escaped_char : ℕ → List ℕ
+escaped_char c = if c == 126 then codes "~0" else if c == 47 then codes "~1" else encode_utf8 c
+
+-- a key in a pointer
+abbrev pub escaped : List ℕ → List ℕ
+escaped key = flat_map escaped_char (chars key)
+
+-- from an object to its member
+abbrev pub member_step : List ℕ → List ℕ
+member_step key = codes "/" ++ escaped key
+
+-- from a list to its item, counted from 0
+abbrev pub item_step : ℕ → List ℕ
+item_step n = codes "/" ++ decimal n
+
+-- wrong is the value itself
+abbrev pub here : Why → Fault
+here why = ([], why)
+
+-- a fault of a part, told from outside: the step to the part goes before its place
+abbrev pub moved : List ℕ → Fault → Fault
+moved step fault = (step ++ fault.0, fault.1)
+
+-- what reading a part gives, told from outside
+abbrev pub inside : {A : Type 0} → List ℕ → Result A Fault → Result A Fault
+inside step (Ok x) = Ok x
+inside step (Err fault) = Err (moved step fault)

@@ -1,0 +1,301 @@
+//! Readers of values, put together from readers of their parts. Each answers what its reading gives:
+//! the value, or the first fault with its place.
+ghost use Rattle.std.specs.Prelude.{◌≡◌, ℕ, Bool, List, Result, map, option_map};
+ghost use Rattle.serde_json.specs.Data.{Data};
+ghost use Rattle.serde_json.specs.View.{view, members_view};
+ghost use Rattle.vk_spec.specs.Reading.{Gives, read_each};
+ghost use Rattle.vk_json.specs.Documents.{Fault};
+ghost use Rattle.vk_json.specs.DocumentView.{file_fault_of};
+ghost use Rattle.vk_json.specs.Places.{inside, member_step, item_step};
+ghost use Rattle.vk_json.specs.Readings.{text_at, bool_at, number_at, wanted, optional, item_at, each_item, member_at, each_member, pairs_of, object_at};
+
+use crate::faults::{FileFault, Why};
+use crate::getters::{as_bool, as_number, as_text, items, member};
+use crate::places::{in_item, in_member, wrong};
+use serde_json::{Map, Value};
+use std::alloc::Global;
+use vk_base::{List, Text};
+
+/// A way to read a value.
+pub trait Reader {
+    /// What is read.
+    type Out: Drop;
+
+    ghost Plain: { Type 0 };
+
+    ghost plain: { Self.Out → Plain };
+
+    ghost reads: { Self → Data → Result Plain Fault };
+
+    /// What the value means, or its first fault.
+    fn read(&self, alloc: Global, value: &Value) -> Result<Self::Out, FileFault>
+        ensures { Gives plain file_fault_of result (reads self.now (view value.now)) };
+}
+
+/// A text.
+pub fn text(alloc: Global, value: &Value) -> Result<&str, FileFault>
+    ensures { Gives (λ t. t.now) file_fault_of result (text_at (view value.now)) }
+{
+    as_text(value).ok_or(wrong(alloc, Why::Text))
+}
+
+fn read_in_member<R: Reader>(
+    alloc: Global,
+    key: &str,
+    value: &Value,
+    reader: &R,
+) -> Result<R::Out, FileFault>
+    ensures { Gives R.plain file_fault_of result (inside (member_step key.now) (R.reads reader.now (view value.now))) }
+{
+    match reader.read(alloc, value) {
+        Ok(read) => Ok(read),
+        Err(fault) => Err(in_member(alloc, key, fault)),
+    }
+}
+
+/// A truth value.
+pub fn boolean(alloc: Global, value: &Value) -> Result<bool, FileFault>
+    ensures { Gives (λ b. b) file_fault_of result (bool_at (view value.now)) }
+{
+    as_bool(value).ok_or(wrong(alloc, Why::Bool))
+}
+
+/// A whole number from 0 to 2^32 - 1.
+pub fn number(alloc: Global, value: &Value) -> Result<u32, FileFault>
+    ensures { Gives (λ n. n) file_fault_of result (number_at (view value.now)) }
+{
+    as_number(value).ok_or(wrong(alloc, Why::Number))
+}
+
+/// A member that has to be there, read by a reader. `Missing` comes where it isn't, with the place
+/// where it would be.
+#[tactic(auto, unfolding(crate::specs::Readings::wanted))]
+pub fn wanted<R: Reader>(
+    alloc: Global,
+    value: &Value,
+    key: &str,
+    reader: &R,
+) -> Result<R::Out, FileFault>
+    ensures { Gives R.plain file_fault_of result (wanted (R.reads reader.now) key.now (view value.now)) }
+{
+    match member(value, key) {
+        Some(found) => read_in_member(alloc, key, found, reader),
+        None => Err(in_member(alloc, key, wrong(alloc, Why::Missing))),
+    }
+}
+
+/// A member that may be there, read by a reader.
+#[tactic(auto, unfolding(crate::specs::Readings::optional))]
+pub fn optional<R: Reader>(
+    alloc: Global,
+    value: &Value,
+    key: &str,
+    reader: &R,
+) -> Result<Option<R::Out>, FileFault>
+    ensures { Gives (option_map R.plain) file_fault_of result (optional (R.reads reader.now) key.now (view value.now)) }
+{
+    match member(value, key) {
+        Some(found) => Ok(Some(read_in_member(alloc, key, found, reader)?)),
+        None => Ok(None),
+    }
+}
+
+fn read_item<R: Reader>(
+    alloc: Global,
+    n: usize,
+    value: &Value,
+    reader: &R,
+) -> Result<R::Out, FileFault>
+    ensures { Gives R.plain file_fault_of result (item_at (R.reads reader.now) n (view value.now)) }
+{
+    match reader.read(alloc, value) {
+        Ok(read) => Ok(read),
+        Err(fault) => Err(in_item(alloc, n, fault)),
+    }
+}
+
+fn read_items<R: Reader>(
+    alloc: Global,
+    values: &[Value],
+    reader: &R,
+) -> Result<List<R::Out>, FileFault>
+    ensures { Gives (map R.plain) file_fault_of result (read_each (item_at (R.reads reader.now)) 0 (map view values.now)) }
+{
+    let mut read = List::new(alloc);
+    for (n, value) in values.iter().enumerate() {
+        let item = read_item(alloc, n, value, reader)?;
+        read.push(item)?;
+    }
+    Ok(read)
+}
+
+/// A list, each of whose items is read by a reader, in order. `List` comes where it is no list.
+#[tactic(auto, unfolding(crate::specs::Readings::each_item))]
+pub fn each_item<R: Reader>(
+    alloc: Global,
+    value: &Value,
+    reader: &R,
+) -> Result<List<R::Out>, FileFault>
+    ensures { Gives (map R.plain) file_fault_of result (each_item (R.reads reader.now) (view value.now)) }
+{
+    match items(value) {
+        Some(values) => read_items(alloc, values, reader),
+        None => Err(wrong(alloc, Why::List)),
+    }
+}
+
+/// A way to read a member of an object, by its key and its value.
+pub trait MemberReader {
+    /// What is read.
+    type Out: Drop;
+
+    ghost Plain: { Type 0 };
+
+    ghost plain: { Self.Out → Plain };
+
+    ghost reads: { Self → List ℕ → Data → Result Plain Fault };
+
+    /// What the member means, or its first fault, told from the member's value.
+    fn read(&self, alloc: Global, key: &str, value: &Value) -> Result<Self::Out, FileFault>
+        ensures { Gives plain file_fault_of result (reads self.now key.now (view value.now)) };
+}
+
+fn read_member<R: MemberReader>(
+    alloc: Global,
+    key: &str,
+    value: &Value,
+    reader: &R,
+) -> Result<R::Out, FileFault>
+    ensures { Gives R.plain file_fault_of result (member_at (R.reads reader.now) (key.now, view value.now)) }
+{
+    match reader.read(alloc, key, value) {
+        Ok(read) => Ok(read),
+        Err(fault) => Err(in_member(alloc, key, fault)),
+    }
+}
+
+fn read_members<R: MemberReader>(
+    alloc: Global,
+    object: &Map<String, Value>,
+    reader: &R,
+) -> Result<List<R::Out>, FileFault>
+    ensures { Gives (map R.plain) file_fault_of result (read_each (λ _. member_at (R.reads reader.now)) 0 (pairs_of (members_view object.now.entries))) }
+{
+    let mut read = List::new(alloc);
+    for (key, value) in object.iter() {
+        let member = read_member(alloc, key.as_str(), value, reader)?;
+        read.push(member)?;
+    }
+    Ok(read)
+}
+
+/// An object, each of whose members is read by a reader, in byte order of keys. `Object` comes where
+/// it is no object.
+#[tactic(auto, unfolding(crate::specs::Readings::each_member))]
+pub fn each_member<R: MemberReader>(
+    alloc: Global,
+    value: &Value,
+    reader: &R,
+) -> Result<List<R::Out>, FileFault>
+    ensures { Gives (map R.plain) file_fault_of result (each_member (R.reads reader.now) (view value.now)) }
+{
+    match value.as_object() {
+        Some(object) => read_members(alloc, object, reader),
+        None => Err(wrong(alloc, Why::Object)),
+    }
+}
+
+/// Nothing but that the value is an object.
+pub fn object(alloc: Global, value: &Value) -> Result<(), FileFault>
+    ensures { Gives (λ done. tt) file_fault_of result (object_at (view value.now)) }
+{
+    if value.is_object() {
+        return Ok(());
+    }
+    Err(wrong(alloc, Why::Object))
+}
+
+/// Reads any text.
+pub struct AnyText;
+
+impl Reader for AnyText {
+    type Out = Text;
+
+    ghost Plain = { List ℕ };
+
+    ghost plain = { λ t. t };
+
+    ghost reads = { λ r. text_at };
+
+    fn read(&self, alloc: Global, value: &Value) -> Result<Text, FileFault> {
+        Ok(Text::from_str(alloc, text(alloc, value)?)?)
+    }
+}
+
+/// Reads a truth value.
+pub struct AnyBoolean;
+
+impl Reader for AnyBoolean {
+    type Out = bool;
+
+    ghost Plain = { Bool };
+
+    ghost plain = { λ b. b };
+
+    ghost reads = { λ r. bool_at };
+
+    fn read(&self, alloc: Global, value: &Value) -> Result<bool, FileFault> {
+        boolean(alloc, value)
+    }
+}
+
+/// Reads a whole number from 0 to 2^32 - 1.
+pub struct SmallNumber;
+
+impl Reader for SmallNumber {
+    type Out = u32;
+
+    ghost Plain = { ℕ };
+
+    ghost plain = { λ n. n };
+
+    ghost reads = { λ r. number_at };
+
+    fn read(&self, alloc: Global, value: &Value) -> Result<u32, FileFault> {
+        number(alloc, value)
+    }
+}
+
+/// Reads a list, each item by the reader inside.
+pub struct ListOf<R>(pub R);
+
+impl<R: Reader> Reader for ListOf<R> {
+    type Out = List<R::Out>;
+
+    ghost Plain = { List R.Plain };
+
+    ghost plain = { map R.plain };
+
+    ghost reads = { λ r. each_item (R.reads r.0) };
+
+    fn read(&self, alloc: Global, value: &Value) -> Result<List<R::Out>, FileFault> {
+        each_item(alloc, value, &self.0)
+    }
+}
+
+/// Reads an object, each member by the reader inside, in byte order of keys.
+pub struct ObjectOf<R>(pub R);
+
+impl<R: MemberReader> Reader for ObjectOf<R> {
+    type Out = List<R::Out>;
+
+    ghost Plain = { List R.Plain };
+
+    ghost plain = { map R.plain };
+
+    ghost reads = { λ r. each_member (R.reads r.0) };
+
+    fn read(&self, alloc: Global, value: &Value) -> Result<List<R::Out>, FileFault> {
+        each_member(alloc, value, &self.0)
+    }
+}
