@@ -1,4 +1,5 @@
 pub mod NameLemmas
+pub mod FeatureLemmas
 pub mod PathLemmas
 pub mod PathLaws
 pub mod TokenLemmas

@@ -1,5 +1,6 @@
 pub mod Names
 pub mod NameFaults
+pub mod FeatureViews
 pub mod Paths
 pub mod PathReading
 pub mod PathFaults

@@ -1,5 +1,5 @@
 -- The rules of names, and the first place at which a text breaks one.
-use Rattle.std.specs.Prelude.{◌≡◌, ◌≢◌, ◌-◌, ◌≤◌, ◌<◌, ◌||◌, ◌&&◌, ◌==◌, ℕ, Bool, true, false, not, nat_lt, nat_le, List, length, take, slice_index, Option, Some, None, Result, Ok, Err, if◌then◌else◌}
+use Rattle.std.specs.Prelude.{◌≡◌, ◌≢◌, ◌-◌, ◌≤◌, ◌<◌, ◌||◌, ◌&&◌, ◌==◌, ℕ, Bool, true, false, not, nat_lt, nat_le, List, length, take, slice_index, Option, Some, None, Result, Ok, Err, bytes_eq, codes, if◌then◌else◌}
 use Rattle.std.specs.List.{position, All}
 
 -- what a kind of names allows besides lower-case letters, digits, and hyphens inside
@@ -63,3 +63,23 @@ named text (Some at) = Err (bad at)
 
 abbrev pub reads_name : NameRule → List ℕ → Result (List ℕ) NameWrong
 reads_name rule text = named text (name_fault rule text)
+
+-- the word for what a port has without any feature, and the one for its default features
+abbrev pub core : List ℕ
+core = codes "core"
+
+abbrev pub default : List ℕ
+default = codes "default"
+
+-- a feature's name is a word that has no meaning of its own
+pub record IsFeatureName (text : List ℕ) : Type 0 where
+  pub word : IsName word_rule text
+  pub not_core : text ≢ core
+  pub not_default : text ≢ default
+
+abbrev pub is_reserved : List ℕ → Bool
+is_reserved text = bytes_eq text core || bytes_eq text default
+
+-- a feature's name, which is its text, or what is wrong with it
+abbrev pub reads_feature : List ℕ → Result (List ℕ) NameWrong
+reads_feature text = if is_reserved text then Err reserved else reads_name word_rule text

@@ -3,6 +3,8 @@
 //! It promises upwards that each reader answers the value exactly where its rule holds.
 #![tactic(auto)]
 
+mod features;
+mod instances;
 mod lists;
 mod memory;
 mod names;
@@ -11,6 +13,8 @@ mod texts;
 mod tokens;
 mod words;
 
+pub use features::{FeatureName, NamedFeature, feature_rule};
+pub use instances::Instance;
 pub use lists::List;
 pub use memory::Memory;
 pub use names::{NameFault, PortName, TripletName, name_order, port_rule, triplet_rule};

@@ -6,12 +6,15 @@ ghost use Rattle.std.specs.FinMap.{IsAntisymmetric};
 ghost use Rattle.std.specs.Cmp.Rules.{comparing, hashing};
 ghost use Rattle.std.specs.Hash as fed;
 ghost use Rattle.std.specs.Cmp.Lexicographic.{slice_cmp, pointwise};
-ghost use Rattle.std.specs.Ordering.{nat_cmp, as_partial_cmp};
+ghost use Rattle.std.specs.Ordering.{nat_cmp, on, then_cmp, as_partial_cmp};
 ghost use Rattle.vk_spec.specs.Reading.{Gives};
 ghost use Rattle.vk_base.specs.declared.names.NameFault.TheVariants.{Memory};
 ghost use Rattle.vk_base.specs.Names.{IsName, BreaksFirst, port_rule, word_rule, is_name_byte, end_fault, name_fault, reads_name};
 ghost use Rattle.vk_base.specs.NameFaults.{name_fault_of, rule_of};
+ghost use Rattle.vk_base.specs.FeatureViews.{feature_view};
 
+use crate::features::FeatureName;
+use crate::instances::Instance;
 use crate::memory::Memory;
 use crate::texts::Text;
 use std::alloc::{AllocError, AllocFailed, Global};
@@ -58,7 +61,7 @@ impl From<Memory> for NameFault {
 
 // What a kind of names allows besides lower-case letters, digits, and hyphens inside.
 #[derive(Clone, Copy)]
-struct Rule {
+pub(crate) struct Rule {
     underscore: bool,
     last_hyphen: bool,
 }
@@ -68,7 +71,7 @@ const PORT: Rule = Rule {
     last_hyphen: false,
 };
 
-const WORD: Rule = Rule {
+pub(crate) const WORD: Rule = Rule {
     underscore: true,
     last_hyphen: true,
 };
@@ -137,7 +140,7 @@ fn name_fault_at(rule: Rule, bytes: &[u8]) -> Option<usize>
     }
 }
 
-fn read_name(alloc: Global, rule: Rule, text: &str) -> Result<Text, NameFault>
+pub(crate) fn read_name(alloc: Global, rule: Rule, text: &str) -> Result<Text, NameFault>
     ensures { Gives (λ t. t) name_fault_of result (reads_name (rule_of rule) text.now) }
 {
     match name_fault_at(rule, text.as_bytes()) {
@@ -371,10 +374,13 @@ pub fn triplet_rule()
     ensures first { (text : List ℕ) (at : ℕ) → name_fault word_rule text ≡ Some at → BreaksFirst word_rule text at }
 {}
 
-/// The order on names is that of their bytes; it is total, and only equal names tie.
+/// The order on names is that of their bytes; it is total, and only equal names tie. Instances are
+/// ordered by port, then by triplet.
 pub fn name_order()
     ensures ports { ⟦<PortName as Ord>⟧.cmp ≡ slice_cmp nat_cmp }
     ensures triplets { ⟦<TripletName as Ord>⟧.cmp ≡ slice_cmp nat_cmp }
+    ensures features { ⟦<FeatureName as Ord>⟧.cmp ≡ on feature_view (slice_cmp nat_cmp) }
+    ensures instances { ⟦<Instance as Ord>⟧.cmp ≡ then_cmp (on (λ i. i.port) (slice_cmp nat_cmp)) (on (λ i. i.triplet) (slice_cmp nat_cmp)) }
     ensures total { IsTotalOrder (slice_cmp nat_cmp) }
     ensures ties { IsAntisymmetric (slice_cmp nat_cmp) }
 {}

@@ -1,7 +1,10 @@
 ghost use Rattle.std.specs.Prelude.{◌<◌, IfOk};
 ghost use Rattle.vk_base.specs.Paths.{ups_of};
 
-use crate::{List, NameFault, PathFault, PortName, Text, TreePath, TripletName, read_token, token};
+use crate::{
+    FeatureName, Instance, List, NameFault, PathFault, PortName, Text, TreePath, TripletName,
+    read_token, token,
+};
 use std::alloc::Global;
 use std::test::Fail;
 
@@ -12,6 +15,17 @@ fn port_fault(alloc: Global, text: &str) -> Option<NameFault> {
 
 fn triplet_fault(alloc: Global, text: &str) -> Option<NameFault> {
     TripletName::read(alloc, text).err()
+}
+
+fn feature_fault(alloc: Global, text: &str) -> Option<NameFault> {
+    FeatureName::read(alloc, text).err()
+}
+
+fn instance(alloc: Global, port: &str, triplet: &str) -> Result<Instance, Fail> {
+    Ok(Instance {
+        port: PortName::read(alloc, port).ok().ok_or("a name")?,
+        triplet: TripletName::read(alloc, triplet).ok().ok_or("a name")?,
+    })
 }
 
 // So many letters.
@@ -116,6 +130,37 @@ fn a_triplet_name_may_hold_underscores_and_end_with_a_hyphen(rt: HostRuntime) ->
     let one = TripletName::read(alloc, "x64-linux").ok().ok_or("a name")?;
     let other = TripletName::read(alloc, "_x64_-").ok().ok_or("a name")?;
     assert!(rt; other < one);
+    assert!(rt; one.clone()? == one);
+    Ok(())
+}
+
+#[test]
+fn core_and_default_are_no_names_of_features(rt: HostRuntime) -> Result<(), Fail> {
+    let alloc = rt.alloc();
+    for (text, fault) in [
+        ("core", NameFault::Reserved),
+        ("default", NameFault::Reserved),
+        ("", NameFault::Bad { at: 0 }),
+        ("Core", NameFault::Bad { at: 0 }),
+        ("-ssl", NameFault::Bad { at: 0 }),
+        ("ssl.2", NameFault::Bad { at: 3 }),
+    ] {
+        assert_eq!(rt; feature_fault(alloc, text), Some(fault), "{text}");
+    }
+    let ssl = FeatureName::read(alloc, "ssl_2-").ok().ok_or("a name")?;
+    assert_eq!(rt; ssl.as_str(), "ssl_2-");
+    assert!(rt; ssl.clone()? == ssl);
+    assert!(rt; FeatureName::Core < FeatureName::Default);
+    assert!(rt; FeatureName::Default < ssl);
+    Ok(())
+}
+
+#[test]
+fn instances_are_ordered_by_port_and_then_by_triplet(rt: HostRuntime) -> Result<(), Fail> {
+    let one = instance(rt.alloc(), "fmt", "x64-windows")?;
+    let other = instance(rt.alloc(), "zlib", "x64-linux")?;
+    assert!(rt; one < other);
+    assert!(rt; instance(rt.alloc(), "fmt", "x64-linux")? < one);
     assert!(rt; one.clone()? == one);
     Ok(())
 }
