@@ -216,6 +216,7 @@ pub fn object(alloc: Global, value: &Value) -> Result<(), FileFault>
 }
 
 /// Reads any text.
+#[derive(Drop)]
 pub struct AnyText;
 
 impl Reader for AnyText {
@@ -233,6 +234,7 @@ impl Reader for AnyText {
 }
 
 /// Reads a truth value.
+#[derive(Drop)]
 pub struct AnyBoolean;
 
 impl Reader for AnyBoolean {
@@ -250,6 +252,7 @@ impl Reader for AnyBoolean {
 }
 
 /// Reads a whole number from 0 to 2^32 - 1.
+#[derive(Drop)]
 pub struct SmallNumber;
 
 impl Reader for SmallNumber {
@@ -267,6 +270,7 @@ impl Reader for SmallNumber {
 }
 
 /// Reads a list, each item by the reader inside.
+#[derive(Drop)]
 pub struct ListOf<R>(pub R);
 
 impl<R: Reader> Reader for ListOf<R> {
@@ -284,6 +288,7 @@ impl<R: Reader> Reader for ListOf<R> {
 }
 
 /// Reads an object, each member by the reader inside, in byte order of keys.
+#[derive(Drop)]
 pub struct ObjectOf<R>(pub R);
 
 impl<R: MemberReader> Reader for ObjectOf<R> {

@@ -1,0 +1,50 @@
+-- Texts that have a rule of their own.
+use Rattle.std.specs.Prelude.{ℕ, List, Result, Ok, Err}
+use Rattle.vk_spec.specs.Reading.{◌>>=◌}
+use Rattle.vk_spec.specs.Paths.{Path}
+use Rattle.vk_spec.specs.Versions.{Ask}
+use Rattle.vk_base.specs.Names.{reads_name, reads_feature, port_rule}
+use Rattle.vk_base.specs.PathReading.{path_of}
+use Rattle.vk_version.specs.Schemes as version
+use Rattle.vk_version.specs.Readings.{reads_ask, unless, string_fault}
+use Rattle.vk_expr.specs.Trees.{Tree}
+use Rattle.vk_expr.specs.Reading.{reading_of}
+use Rattle.vk_json.specs.declared.faults.Why.{Why}
+use Rattle.vk_json.specs.Documents.{Fault}
+use Rattle.vk_json.specs.Places.{here}
+use Rattle.vk_json.specs.Readings.{Reading, text_at}
+use Rattle.vk_fields.specs.Wording.{name_word, path_word, version_word, expression_word}
+
+-- what a rule says of the value itself, its fault by its word
+abbrev pub said_here : {A F : Type 0} → (F → Why) → Result A F → Result A Fault
+said_here word (Ok x) = Ok x
+said_here word (Err fault) = Err (here (word fault))
+
+-- a text, and what a rule says of it
+abbrev pub by_rule : {A F : Type 0} → (F → Why) → (List ℕ → Result A F) → Reading A
+by_rule word rule d = text_at d >>= λ text. said_here word (rule text)
+
+abbrev pub port_name_at : Reading (List ℕ)
+port_name_at = by_rule name_word (reads_name port_rule)
+
+-- a feature's name, which is neither `core` nor `default`
+abbrev pub feature_name_at : Reading (List ℕ)
+feature_name_at = by_rule name_word reads_feature
+
+abbrev pub path_at : Reading Path
+path_at = by_rule path_word path_of
+
+abbrev pub expression_at : Reading Tree
+expression_at = by_rule expression_word reading_of
+
+-- a minimum: a text, and maybe `#` and a port-version
+abbrev pub ask_at : Reading Ask
+ask_at = by_rule version_word reads_ask
+
+-- what a version of any text may be
+abbrev pub judged_plain : List ℕ → Result (Unit {0}) version.Fault
+judged_plain text = unless (string_fault text) tt
+
+-- the text of an ask without `#`
+abbrev pub plain_at : Reading (List ℕ)
+plain_at = by_rule version_word (λ text. unless (string_fault text) text)

@@ -1,0 +1,81 @@
+-- A version under one of its four keys, with the port-version beside it.
+use Rattle.std.specs.Prelude.{ℕ, List, [], ◌∷◌, Option, Some, None, option_map, Result, Ok, Err, codes, if◌then◌else◌}
+use Rattle.std.specs.List.{filter}
+use Rattle.std.specs.Option.{is_some}
+use Rattle.serde_json.specs.Data.{Data}
+use Rattle.serde_json.specs.Find.{get}
+use Rattle.vk_spec.specs.Reading.{◌>>=◌}
+use Rattle.vk_spec.specs.Versions.{Version, Ask}
+use Rattle.vk_version.specs.Schemes.{Scheme, relaxed, semver, date, string}
+use Rattle.vk_version.specs.Readings.{reads_version}
+use Rattle.vk_json.specs.declared.faults.Why.TheVariants as why
+use Rattle.vk_json.specs.Documents.{Fault}
+use Rattle.vk_json.specs.Places.{member_step}
+use Rattle.vk_json.specs.Readings.{Reading, number_at, wanted, optional}
+use Rattle.vk_fields.specs.Wording.{version_word}
+use Rattle.vk_fields.specs.Texts.{by_rule, plain_at}
+
+-- the key of a scheme
+abbrev pub key_of : Scheme → List ℕ
+key_of relaxed = codes "version"
+key_of semver = codes "version-semver"
+key_of date = codes "version-date"
+key_of string = codes "version-string"
+
+-- the schemes whose keys are there, in the order in which they are looked for
+abbrev pub schemes_in : Data → List Scheme
+schemes_in d = filter (λ scheme. is_some (get (key_of scheme) d)) (relaxed ∷ semver ∷ date ∷ string ∷ [])
+
+-- at most one of them: a second one is the fault, at its key
+abbrev pub only_scheme : List Scheme → Result (Option Scheme) Fault
+only_scheme [] = Ok None
+only_scheme (scheme ∷ []) = Ok (Some scheme)
+only_scheme (scheme ∷ second ∷ rest) = Err (member_step (key_of second), why.TwoVersions)
+
+-- the scheme of the one version key, if there is one
+abbrev pub scheme_in : Reading (Option Scheme)
+scheme_in d = only_scheme (schemes_in d)
+
+abbrev pub after_found : Option Scheme → Scheme → Result (Option Scheme) Fault
+after_found None next = Ok (Some next)
+after_found (Some found) next = Err (member_step (key_of next), why.TwoVersions)
+
+-- the same key by key: the scheme found so far, and the next one
+abbrev pub next_scheme : Option Scheme → Scheme → Reading (Option Scheme)
+next_scheme found next d = if is_some (get (key_of next) d) then after_found found next else Ok found
+
+unfoldable pub scheme_by : Reading (Option Scheme)
+scheme_by d = next_scheme None relaxed d >>= λ first. next_scheme first semver d >>= λ second. next_scheme second date d >>= λ third. next_scheme third string d
+
+abbrev pub or_zero : Option ℕ → ℕ
+or_zero None = 0
+or_zero (Some n) = n
+
+-- the port-version, 0 where there is none
+unfoldable pub port_version_at : Reading ℕ
+port_version_at d = optional number_at (codes "port-version") d >>= λ port. Ok (or_zero port)
+
+-- a version's text, to be put together with a port-version
+abbrev pub version_text_at : Scheme → ℕ → Reading Version
+version_text_at scheme port = by_rule version_word (λ text. reads_version scheme text port)
+
+-- a version with this port-version, or with this fault of it, which the text's own fault comes before
+abbrev pub version_with : Scheme → Result ℕ Fault → Reading Version
+version_with scheme (Ok port) d = wanted (version_text_at scheme port) (key_of scheme) d
+version_with scheme (Err fault) d = wanted (version_text_at scheme 0) (key_of scheme) d >>= λ version. Err fault
+
+-- the port-version alone, where no version is there
+abbrev pub version_if : Option Scheme → Reading (Option Version)
+version_if None d = port_version_at d >>= λ port. Ok None
+version_if (Some scheme) d = version_with scheme (port_version_at d) d >>= λ version. Ok (Some version)
+
+-- the version that an object's keys say, if they say one
+unfoldable pub version_at : Reading (Option Version)
+version_at d = scheme_in d >>= λ scheme. version_if scheme d
+
+-- an ask whose text stands under a key
+unfoldable pub ask_under : List ℕ → Reading Ask
+ask_under key d = do
+  text ← wanted plain_at key d
+  port ← port_version_at d
+  Ok (record { text = text; port = port })
