@@ -1,17 +1,17 @@
 -- A version under one of its four keys, with the port-version beside it.
-use Rattle.std.specs.Prelude.{ℕ, List, [], ◌∷◌, Option, Some, None, option_map, Result, Ok, Err, codes, if◌then◌else◌}
+use Rattle.std.specs.Prelude.{ℕ, List, [], ◌∷◌, Option, Some, None, Result, Ok, Err, codes, if◌then◌else◌}
 use Rattle.std.specs.List.{filter}
 use Rattle.std.specs.Option.{is_some}
 use Rattle.serde_json.specs.Data.{Data}
 use Rattle.serde_json.specs.Find.{get}
-use Rattle.vk_spec.specs.Reading.{◌>>=◌}
+use Rattle.vk_spec.specs.Reading.{◌>>=◌, or_fault}
 use Rattle.vk_spec.specs.Versions.{Version, Ask}
 use Rattle.vk_version.specs.Schemes.{Scheme, relaxed, semver, date, string}
 use Rattle.vk_version.specs.Readings.{reads_version}
 use Rattle.vk_json.specs.declared.faults.Why.TheVariants as why
 use Rattle.vk_json.specs.Documents.{Fault}
-use Rattle.vk_json.specs.Places.{member_step}
-use Rattle.vk_json.specs.Readings.{Reading, number_at, wanted, optional}
+use Rattle.vk_json.specs.Places.{here, member_step}
+use Rattle.vk_json.specs.Readings.{Reading, number_at, wanted, optional_or}
 use Rattle.vk_fields.specs.Wording.{version_word}
 use Rattle.vk_fields.specs.Texts.{by_rule, plain_at}
 
@@ -47,13 +47,9 @@ next_scheme found next d = if is_some (get (key_of next) d) then after_found fou
 unfoldable pub scheme_by : Reading (Option Scheme)
 scheme_by d = next_scheme None relaxed d >>= λ first. next_scheme first semver d >>= λ second. next_scheme second date d >>= λ third. next_scheme third string d
 
-abbrev pub or_zero : Option ℕ → ℕ
-or_zero None = 0
-or_zero (Some n) = n
-
 -- the port-version, 0 where there is none
-unfoldable pub port_version_at : Reading ℕ
-port_version_at d = optional number_at (codes "port-version") d >>= λ port. Ok (or_zero port)
+abbrev pub port_version_at : Reading ℕ
+port_version_at = optional_or 0 number_at (codes "port-version")
 
 -- a version's text, to be put together with a port-version
 abbrev pub version_text_at : Scheme → ℕ → Reading Version
@@ -72,6 +68,10 @@ version_if (Some scheme) d = version_with scheme (port_version_at d) d >>= λ ve
 -- the version that an object's keys say, if they say one
 unfoldable pub version_at : Reading (Option Version)
 version_at d = scheme_in d >>= λ scheme. version_if scheme d
+
+-- the version that an object's keys have to say: one of the keys has to be there
+unfoldable pub version_needed_at : Reading Version
+version_needed_at d = scheme_in d >>= λ found. or_fault (here why.NoVersion) found >>= λ scheme. version_with scheme (port_version_at d) d
 
 -- an ask whose text stands under a key
 unfoldable pub ask_under : List ℕ → Reading Ask

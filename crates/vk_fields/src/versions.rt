@@ -8,18 +8,20 @@ ghost use Rattle.vk_spec.specs.Versions as plain;
 ghost use Rattle.vk_version.specs.AskViews.{ask_view};
 ghost use Rattle.vk_version.specs.Views.{scheme_view};
 ghost use Rattle.vk_json.specs.DocumentView.{file_fault_of};
-ghost use Rattle.vk_fields.specs.Versions.{key_of, next_scheme, scheme_by, scheme_in, port_version_at, or_zero, version_text_at, version_with, version_if, version_at, ask_under};
+ghost use Rattle.vk_fields.specs.Versions.{key_of, next_scheme, scheme_by, scheme_in, port_version_at, version_text_at, version_with, version_if, version_at, version_needed_at, ask_under};
 
 use crate::texts::PlainText;
 use crate::wording::wrong_version;
 use serde_json::Value;
 use std::alloc::Global;
 use vk_base::Text;
-use vk_json::{FileFault, Reader, SmallNumber, Why, member, optional, text, under, wanted};
+use vk_json::{
+    FileFault, Reader, SmallNumber, Why, member, optional_or, text, under, wanted, wrong,
+};
 use vk_version::{Ask, Scheme, Version, read};
 
-// The key of a scheme.
-fn key(scheme: Scheme) -> &'static str
+/// The key under which a version of a scheme stands.
+pub fn key(scheme: Scheme) -> &'static str
     ensures { result.now ≡ key_of (scheme_view scheme) }
 {
     match scheme {
@@ -79,11 +81,10 @@ pub fn scheme(alloc: Global, value: &Value) -> Result<Option<Scheme>, FileFault>
 
 /// The port-version beside a version, 0 where there is none. `Number` comes for anything but a whole
 /// number from 0 to 2^32 - 1.
-#[tactic(auto, unfolding(crate::specs::Versions::port_version_at))]
 pub fn port_version(alloc: Global, value: &Value) -> Result<u32, FileFault>
     ensures { Gives (λ port. port) file_fault_of result (port_version_at (view value.now)) }
 {
-    Ok(optional(alloc, value, "port-version", &SmallNumber)?.unwrap_or(0))
+    optional_or(alloc, value, "port-version", &SmallNumber, 0)
 }
 
 // A version's text, to be put together with a port-version.
@@ -149,6 +150,18 @@ pub fn version(alloc: Global, value: &Value) -> Result<Option<Version>, FileFaul
 {
     let scheme = scheme(alloc, value)?;
     version_if(alloc, value, scheme)
+}
+
+/// The version that an object's keys have to say. `TwoVersions` comes for a second key, at that key,
+/// `NoVersion` where there is none; else what is wrong with the text, then with the port-version.
+#[tactic(auto, unfolding(crate::specs::Versions::version_needed_at))]
+pub fn version_needed(alloc: Global, value: &Value) -> Result<Version, FileFault>
+    ensures { Gives (λ v. v) file_fault_of result (version_needed_at (view value.now)) }
+{
+    match scheme(alloc, value)? {
+        Some(scheme) => version_under(alloc, value, scheme),
+        None => Err(wrong(alloc, Why::NoVersion)),
+    }
 }
 
 /// An ask whose text stands under this key, with the port-version beside it. `Version` comes for a

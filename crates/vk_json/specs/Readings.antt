@@ -1,6 +1,7 @@
 -- Reading a value part by part. Each reading gives what a value means, or its first fault.
 use Rattle.std.specs.Prelude.{ℕ, Bool, List, [], ◌∷◌, Option, Some, None, option_map, Result, Ok, Err}
 use Rattle.serde_json.specs.Data.{Data, Members, no_members, member}
+use Rattle.serde_json.specs.Data as json
 use Rattle.serde_json.specs.Find.{get, as_str, as_bool, as_object}
 use Rattle.vk_spec.specs.Reading.{◌>>=◌, or_fault, read_each}
 use Rattle.vk_json.specs.Documents.{Fault}
@@ -44,6 +45,24 @@ wanted f key d = inside (member_step key) (or_fault (here why.Missing) (get key 
 -- a member that may be there
 unfoldable pub optional : {A : Type 0} → Reading A → List ℕ → Reading (Option A)
 optional f key d = inside (member_step key) (if_there f (get key d))
+
+-- a value, or what stands for one that is missing
+abbrev pub read_or : {A : Type 0} → A → Reading A → Option Data → Result A Fault
+read_or default f None = Ok default
+read_or default f (Some d) = f d
+
+-- a member, or what stands for it where it is missing
+unfoldable pub optional_or : {A : Type 0} → A → Reading A → List ℕ → Reading A
+optional_or default f key d = inside (member_step key) (read_or default f (get key d))
+
+-- a text is read in one way, an object in another, and nothing else is an item
+abbrev pub text_or_object : {A : Type 0} → Reading A → Reading A → Reading A
+text_or_object text object (json.string s) = text (json.string s)
+text_or_object text object (json.object ms) = object (json.object ms)
+text_or_object text object json.null = Err (here why.Item)
+text_or_object text object (json.boolean b) = Err (here why.Item)
+text_or_object text object (json.number n) = Err (here why.Item)
+text_or_object text object (json.array ds) = Err (here why.Item)
 
 -- an item, with its place in the list
 abbrev pub item_at : {A : Type 0} → Reading A → ℕ → Reading A

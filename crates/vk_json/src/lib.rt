@@ -16,5 +16,5 @@ pub use getters::{as_bool, as_number, as_text, items, keys, member};
 pub use places::{at, under, wrong};
 pub use readers::{
     AnyBoolean, AnyText, ListOf, MemberReader, ObjectOf, Reader, SmallNumber, boolean, each_item,
-    each_member, number, object, optional, text, wanted,
+    each_member, number, object, optional, optional_or, text, wanted,
 };

@@ -7,7 +7,7 @@ ghost use Rattle.vk_spec.specs.Reading.{Gives, read_each};
 ghost use Rattle.vk_json.specs.Documents.{Fault};
 ghost use Rattle.vk_json.specs.DocumentView.{file_fault_of};
 ghost use Rattle.vk_json.specs.Places.{inside, member_step, item_step};
-ghost use Rattle.vk_json.specs.Readings.{text_at, bool_at, number_at, wanted, optional, item_at, each_item, member_at, each_member, pairs_of, object_at};
+ghost use Rattle.vk_json.specs.Readings.{text_at, bool_at, number_at, wanted, optional, optional_or, item_at, each_item, member_at, each_member, pairs_of, object_at};
 
 use crate::faults::{FileFault, Why};
 use crate::getters::{as_bool, as_number, as_text, items, member};
@@ -97,6 +97,23 @@ pub fn optional<R: Reader>(
     match member(value, key) {
         Some(found) => Ok(Some(read_in_member(alloc, key, found, reader)?)),
         None => Ok(None),
+    }
+}
+
+/// A member that may be there, read by a reader; where it isn't, the default stands for it.
+#[tactic(auto, unfolding(crate::specs::Readings::optional_or))]
+pub fn optional_or<R: Reader>(
+    alloc: Global,
+    value: &Value,
+    key: &str,
+    reader: &R,
+    default: R::Out,
+) -> Result<R::Out, FileFault>
+    ensures { Gives R.plain file_fault_of result (optional_or (R.plain default) (R.reads reader.now) key.now (view value.now)) }
+{
+    match member(value, key) {
+        Some(found) => read_in_member(alloc, key, found, reader),
+        None => Ok(default),
     }
 }
 
