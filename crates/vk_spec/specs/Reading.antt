@@ -1,5 +1,5 @@
 -- Reading gives a value or the first fault.
-use Rattle.std.specs.Prelude.{◌≡◌, ◌+◌, ℕ, List, [], ◌∷◌, Option, Some, None, Result, Ok, Err}
+use Rattle.std.specs.Prelude.{◌≡◌, ◌+◌, ◌++◌, ℕ, List, [], ◌∷◌, Option, Some, None, Result, Ok, Err}
 
 -- then: the next step reads on, unless there is a fault already
 infixl 10 ◌>>=◌
@@ -26,3 +26,8 @@ Fails (Some fault) read = read ≡ Err fault
 abbrev pub Gives : {X Y E F : Type 0} → (X → Y) → (E → Option F) → Result X E → Result Y F → Type 0
 Gives view fault_of (Ok x) read = read ≡ Ok (view x)
 Gives view fault_of (Err e) read = Fails (fault_of e) read
+
+-- the members of a list in order, each read by f with those that were read before it and its number
+unfoldable pub read_after : {X A F : Type 0} → (List A → ℕ → X → Result A F) → List A → ℕ → List X → Result (List A) F
+read_after f earlier n [] = Ok earlier
+read_after f earlier n (x ∷ xs) = f earlier n x >>= λ y. read_after f (earlier ++ y ∷ []) (n + 1) xs

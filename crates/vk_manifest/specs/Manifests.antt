@@ -1,0 +1,136 @@
+-- What the document of a manifest means, in the order in which it is read.
+use Rattle.std.specs.Prelude.{ℕ, Bool, true, false, List, [], ◌∷◌, Option, Some, None, option_map, Result, Ok, Err, codes, if◌then◌else◌}
+use Rattle.std.specs.List.{list_any}
+use Rattle.std.specs.Str.{bytes_eq}
+use Rattle.serde_json.specs.Data.{Data}
+use Rattle.serde_json.specs.Find.{get}
+use Rattle.vk_spec.specs.Reading.{◌>>=◌, or_fault, read_after}
+use Rattle.vk_spec.specs.Versions.{Version}
+use Rattle.vk_spec.specs.Manifests.{FeatureUse, Dependency, Feature, Override, Manifest}
+use Rattle.vk_base.specs.Names.{reads_feature}
+use Rattle.vk_expr.specs.Trees.{Tree, always}
+use Rattle.vk_json.specs.Documents.{Fault, json_of}
+use Rattle.vk_json.specs.declared.faults.Why.TheVariants as why
+use Rattle.vk_json.specs.Looks.{items_of}
+use Rattle.vk_json.specs.Places.{here, inside, member_step, item_step}
+use Rattle.vk_json.specs.Readings.{Reading, MemberReading, bool_at, object_at, wanted, optional, optional_or, text_or_object, each_item, each_member}
+use Rattle.vk_fields.specs.Wording.{name_word}
+use Rattle.vk_fields.specs.Texts.{said_here, port_name_at, feature_name_at, expression_at, ask_at}
+use Rattle.vk_fields.specs.Versions.{key_of, scheme_in, version_at, version_needed_at, ask_under}
+
+-- a condition under a key; where it is missing, it always holds
+abbrev pub condition_under : List ℕ → Reading Tree
+condition_under = optional_or always expression_at
+
+-- a feature that a list names: its name alone
+unfoldable pub use_of_text : Reading (FeatureUse Tree)
+use_of_text d = feature_name_at d >>= λ name. Ok (record { name = name; platform = always })
+
+-- or with a condition
+unfoldable pub use_of_object : Reading (FeatureUse Tree)
+use_of_object d = do
+  name ← wanted feature_name_at (codes "name") d
+  platform ← condition_under (codes "platform") d
+  Ok (record { name = name; platform = platform })
+
+abbrev pub use_at : Reading (FeatureUse Tree)
+use_at = text_or_object use_of_text use_of_object
+
+-- features under a key; where it is missing, there are none
+abbrev pub uses_under : List ℕ → Reading (List (FeatureUse Tree))
+uses_under = optional_or [] (each_item use_at)
+
+-- a port's name alone: the port with its default features, everywhere
+abbrev pub plainly : List ℕ → Dependency Tree
+plainly name = record { name = name; defaults = true; features = []; host = false; platform = always; minimum = None }
+
+unfoldable pub dependency_of_text : Reading (Dependency Tree)
+dependency_of_text d = port_name_at d >>= λ name. Ok (plainly name)
+
+unfoldable pub dependency_of_object : Reading (Dependency Tree)
+dependency_of_object d = do
+  name ← wanted port_name_at (codes "name") d
+  defaults ← optional_or true bool_at (codes "default-features") d
+  features ← uses_under (codes "features") d
+  host ← optional_or false bool_at (codes "host") d
+  platform ← condition_under (codes "platform") d
+  minimum ← optional ask_at (codes "version>=") d
+  Ok (record { name = name; defaults = defaults; features = features; host = host; platform = platform; minimum = minimum })
+
+abbrev pub dependency_at : Reading (Dependency Tree)
+dependency_at = text_or_object dependency_of_text dependency_of_object
+
+-- dependencies under their key; where it is missing, there are none
+abbrev pub dependencies_in : Reading (List (Dependency Tree))
+dependencies_in = optional_or [] (each_item dependency_at) (codes "dependencies")
+
+-- where a port or a feature can be built
+abbrev pub supports_in : Reading Tree
+supports_in = condition_under (codes "supports")
+
+-- a feature of the manifest: its key is its name
+unfoldable pub feature_at : MemberReading (Feature Tree)
+feature_at key d = do
+  name ← said_here name_word (reads_feature key)
+  object ← object_at d
+  dependencies ← dependencies_in d
+  supports ← supports_in d
+  Ok (record { name = name; dependencies = dependencies; supports = supports })
+
+abbrev pub features_in : Reading (List (Feature Tree))
+features_in = optional_or [] (each_member feature_at) (codes "features")
+
+-- a name that no earlier override has
+abbrev pub new_name : List Override → List ℕ → Result (Unit {0}) Fault
+new_name earlier name = if list_any (λ o. bytes_eq name o.name) earlier then Err (here why.Twice) else Ok tt
+
+-- an override, after those before it; under which of the keys its version stands doesn't matter
+unfoldable pub override_at : List Override → Reading Override
+override_at earlier d = do
+  object ← object_at d
+  name ← wanted port_name_at (codes "name") d
+  new ← inside (member_step (codes "name")) (new_name earlier name)
+  found ← scheme_in d
+  scheme ← or_fault (here why.NoVersion) found
+  ask ← ask_under (key_of scheme) d
+  Ok (record { name = name; ask = ask })
+
+abbrev pub override_item : List Override → ℕ → Reading Override
+override_item earlier n d = inside (item_step n) (override_at earlier d)
+
+unfoldable pub overrides_at : Reading (List Override)
+overrides_at d = or_fault (here why.List) (items_of d) >>= read_after override_item [] 0
+
+abbrev pub overrides_in : Reading (List Override)
+overrides_in = optional_or [] overrides_at (codes "overrides")
+
+-- the name and the version: a root may lack them, a port may not
+unfoldable pub name_in : Bool → Reading (Option (List ℕ))
+name_in true d = optional port_name_at (codes "name") d
+name_in false d = wanted port_name_at (codes "name") d >>= λ name. Ok (Some name)
+
+unfoldable pub version_in : Bool → Reading (Option Version)
+version_in true d = version_at d
+version_in false d = version_needed_at d >>= λ version. Ok (Some version)
+
+-- only a root's overrides are read
+abbrev pub overrides_if : Bool → Reading (List Override)
+overrides_if true d = overrides_in d
+overrides_if false d = Ok []
+
+-- a manifest, of the root or of a port; members with other keys mean nothing
+unfoldable pub manifest_at : Bool → Reading (Manifest Tree)
+manifest_at root d = do
+  object ← object_at d
+  name ← name_in root d
+  version ← version_in root d
+  supports ← supports_in d
+  dependencies ← dependencies_in d
+  defaults ← uses_under (codes "default-features") d
+  features ← features_in d
+  overrides ← overrides_if root d
+  Ok (record { name = name; version = version; supports = supports; dependencies = dependencies; default_features = defaults; features = features; overrides = overrides })
+
+-- the manifest that bytes are, or their first fault
+abbrev pub manifest_of : List ℕ → Bool → Result (Manifest Tree) Fault
+manifest_of bytes root = json_of bytes >>= manifest_at root

@@ -1,0 +1,10 @@
+//! Manifests, `vcpkg.json`: what their bytes mean, or the first fault with its place. It promises
+//! upwards that a reading is exactly the definition, which reads like the manual.
+#![tactic(auto)]
+
+mod dependencies;
+mod features;
+mod manifests;
+mod overrides;
+
+

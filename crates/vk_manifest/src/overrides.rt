@@ -1,0 +1,1 @@
+//! The versions that a root sets.
