@@ -1,3 +1,5 @@
 mod ItemLemmas
 mod DocumentLemmas
 pub mod MovingLemmas
+mod WordLemmas
+mod DigitLemmas

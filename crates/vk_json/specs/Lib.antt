@@ -4,3 +4,5 @@ pub mod Looks
 pub mod Places
 pub mod Readings
 pub mod FaultViews
+pub mod Digits
+pub mod Words

@@ -2,6 +2,7 @@
 //! It promises upwards that bytes have one value or one fault, and that a getter loses nothing of it.
 #![tactic(auto)]
 
+mod digits;
 mod documents;
 mod faults;
 mod getters;
@@ -9,6 +10,9 @@ mod places;
 mod readers;
 #[cfg(test)]
 mod tests;
+#[cfg(test)]
+mod word_tests;
+mod words;
 
 pub use documents::Doc;
 pub use faults::{FileFault, Why};
@@ -18,3 +22,4 @@ pub use readers::{
     AnyBoolean, AnyText, ListOf, MemberReader, ObjectOf, Reader, SmallNumber, boolean, each_item,
     each_member, number, object, optional, optional_or, text, wanted,
 };
+pub use words::word_rule;
