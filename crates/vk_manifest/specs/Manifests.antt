@@ -1,5 +1,5 @@
 -- What the document of a manifest means, in the order in which it is read.
-use Rattle.std.specs.Prelude.{ℕ, Bool, true, false, List, [], ◌∷◌, Option, Some, None, option_map, Result, Ok, Err, codes, if◌then◌else◌}
+use Rattle.std.specs.Prelude.{ℕ, Bool, true, false, List, [], ◌∷◌, Option, Some, None, option_map, map, Result, Ok, Err, codes, if◌then◌else◌}
 use Rattle.std.specs.List.{list_any}
 use Rattle.std.specs.Str.{bytes_eq}
 use Rattle.serde_json.specs.Data.{Data}
@@ -80,23 +80,27 @@ feature_at key d = do
 abbrev pub features_in : Reading (List (Feature Tree))
 features_in = optional_or [] (each_member feature_at) (codes "features")
 
--- a name that no earlier override has
-abbrev pub new_name : List Override → List ℕ → Result (Unit {0}) Fault
-new_name earlier name = if list_any (λ o. bytes_eq name o.name) earlier then Err (here why.Twice) else Ok tt
+-- a name that is none of these
+abbrev pub new_name : List (List ℕ) → List ℕ → Result (Unit {0}) Fault
+new_name names name = if list_any (bytes_eq name) names then Err (here why.Twice) else Ok tt
 
--- an override, after those before it; under which of the keys its version stands doesn't matter
-unfoldable pub override_at : List Override → Reading Override
-override_at earlier d = do
+-- an override whose name is none of these; under which of the keys its version stands doesn't matter
+unfoldable pub override_from : List (List ℕ) → Reading Override
+override_from names d = do
   object ← object_at d
   name ← wanted port_name_at (codes "name") d
-  new ← inside (member_step (codes "name")) (new_name earlier name)
+  new ← inside (member_step (codes "name")) (new_name names name)
   found ← scheme_in d
   scheme ← or_fault (here why.NoVersion) found
   ask ← ask_under (key_of scheme) d
   Ok (record { name = name; ask = ask })
 
+abbrev pub names_of : List Override → List (List ℕ)
+names_of overrides = map (λ o. o.name) overrides
+
+-- an override, after those before it
 abbrev pub override_item : List Override → ℕ → Reading Override
-override_item earlier n d = inside (item_step n) (override_at earlier d)
+override_item earlier n d = inside (item_step n) (override_from (names_of earlier) d)
 
 unfoldable pub overrides_at : Reading (List Override)
 overrides_at d = or_fault (here why.List) (items_of d) >>= read_after override_item [] 0

@@ -132,5 +132,11 @@ impl Reader for DependencyItem {
 pub fn dependencies(alloc: Global, value: &Value) -> Result<List<Dependency>, FileFault>
     ensures { Gives (map dependency_view) file_fault_of result (dependencies_in (view value.now)) }
 {
-    optional_or(alloc, value, "dependencies", &ListOf(DependencyItem), List::new(alloc))
+    optional_or(
+        alloc,
+        value,
+        "dependencies",
+        &ListOf(DependencyItem),
+        List::new(alloc),
+    )
 }

@@ -61,5 +61,11 @@ impl MemberReader for FeatureMember {
 pub fn features(alloc: Global, value: &Value) -> Result<List<Feature>, FileFault>
     ensures { Gives (map feature_data) file_fault_of result (features_in (view value.now)) }
 {
-    optional_or(alloc, value, "features", &ObjectOf(FeatureMember), List::new(alloc))
+    optional_or(
+        alloc,
+        value,
+        "features",
+        &ObjectOf(FeatureMember),
+        List::new(alloc),
+    )
 }

@@ -7,4 +7,4 @@ mod features;
 mod manifests;
 mod overrides;
 
-
+pub use manifests::{read_manifest, read_manifest_in};

@@ -3,7 +3,7 @@ use Rattle.std.proofs.Common.{◌≡◌, ◌+◌, ◌<◌, ◌≤◌, ℕ, List,
 use Rattle.std.specs.Prelude.{Option, Some, None, Result, Ok, Err}
 use Rattle.std.proofs.lemmas.List.{append-nil, drop_more, get_or-map, length-map, map-append}
 use Rattle.std.proofs.Math.ListN.{drop_of_length-le}
-use Rattle.vk_spec.specs.Reading.{◌>>=◌, read_each, Fails}
+use Rattle.vk_spec.specs.Reading.{◌>>=◌, read_each, read_after, Fails}
 
 -- what was read before, and what is still read
 abbrev pub with_front : {A F : Type 0} → List A → Result (List A) F → Result (List A) F
@@ -88,3 +88,35 @@ ends_with (Some fault) f front x xs total fails so_far =
 pub is_done_with : {X A F : Type 0} (f : X → Result A F) (front : List A) (total : Result (List A) F) → with_front front (read_each (λ _. f) 0 []) ≡ total → total ≡ Ok front
 unfolding read_each
 is_done_with f front total so_far = sym so_far ∙ ap Ok (append-nil front)
+
+-- a loop in which each member is read with those before it
+after_more : {X A F : Type 0} (f : List A → ℕ → X → Result A F) (earlier : List A) (i : ℕ) (xs : List X) (d : X) → i < length xs → read_after f earlier i (drop i xs) ≡ (f earlier i (get_or xs i d) >>= λ y. read_after f (earlier ++ y ∷ []) (i + 1) (drop (i + 1) xs))
+unfolding read_after
+after_more f earlier i xs d within = ap (λ l. read_after f earlier i l) (drop_more xs i d within)
+
+module _ {V X R A F : Type 0} (view : V → X) (out : R → A) (f : List A → ℕ → X → Result A F) where
+  after_next : (front : List R) (i : ℕ) (vs : List V) (v : V) → i < length vs → v ≡ get_or vs i v
+      → read_after f (map out front) i (drop i (map view vs)) ≡ (f (map out front) i (view v) >>= λ y. read_after f (map out front ++ y ∷ []) (i + 1) (drop (i + 1) (map view vs)))
+  after_next front i vs v within is =
+      after_more f (map out front) i (map view vs) (view v) (rw (length-map vs view) within)
+      ∙ ap (λ x. f (map out front) i x >>= λ y. read_after f (map out front ++ y ∷ []) (i + 1) (drop (i + 1) (map view vs))) (get_or-map view vs i v (view v) within ∙ ap view (sym is))
+
+  pub after_goes_on : (front : List R) (y : R) (i : ℕ) (vs : List V) (v : V) (total : Result (List A) F) → i < length vs → v ≡ get_or vs i v → f (map out front) i (view v) ≡ Ok (out y)
+      → read_after f (map out front) i (drop i (map view vs)) ≡ total → read_after f (map out (front ++ y ∷ [])) (i + 1) (drop (i + 1) (map view vs)) ≡ total
+  after_goes_on front y i vs v total within is read so_far =
+      let one : read_after f (map out front) i (drop i (map view vs)) ≡ read_after f (map out front ++ out y ∷ []) (i + 1) (drop (i + 1) (map view vs)) = rw (after_next front i vs v within is, read) refl in
+      rw (map-append out front (y ∷ [])) (sym one ∙ so_far)
+
+  pub after_ends : (told : Option F) (front : List R) (i : ℕ) (vs : List V) (v : V) (total : Result (List A) F) → i < length vs → v ≡ get_or vs i v → Fails told (f (map out front) i (view v))
+      → read_after f (map out front) i (drop i (map view vs)) ≡ total → Fails told total
+  after_ends None front i vs v total within is fails so_far = tt
+  after_ends (Some fault) front i vs v total within is fails so_far =
+      let one : read_after f (map out front) i (drop i (map view vs)) ≡ Err fault = rw (after_next front i vs v within is, fails) refl in
+      sym so_far ∙ one
+
+  pub after_is_done : (front : List R) (i : ℕ) (vs : List V) (total : Result (List A) F) → length vs ≤ i → read_after f (map out front) i (drop i (map view vs)) ≡ total → total ≡ Ok (map out front)
+  unfolding read_after
+  after_is_done front i vs total past so_far =
+      let past_all : length (map view vs) ≤ i = rw (length-map vs view) past in
+      let one : read_after f (map out front) i (drop i (map view vs)) ≡ Ok (map out front) = rw (drop_of_length-le (map view vs) past_all) refl in
+      sym so_far ∙ one
