@@ -4,9 +4,8 @@ pub mod EndLemmas
 mod FolderLemmas
 mod ReportLemmas
 mod OrderLaws
-pub mod WordLemmas
 mod PartLemmas
-pub mod PlainLemmas
+pub mod FormLemmas
 pub mod TreeReadingLemmas
 pub mod TreeLoopLemmas
 pub mod PlanLemmas

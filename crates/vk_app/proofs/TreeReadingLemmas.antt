@@ -9,7 +9,7 @@ use Rattle.serde_json.specs.Data.{Data}
 use Rattle.vk_spec.specs.Paths.{Path}
 use Rattle.vk_json.specs.DocumentView.{doc_data}
 use Rattle.vk_json.specs.declared.documents.Doc.{Doc}
-use Rattle.vk_app.specs.PlainForms.{Plain}
+use Rattle.vk_app.specs.Forms.{Form}
 use Rattle.vk_app.specs.PlainFaults.{plain_fault_of}
 use Rattle.vk_app.specs.PlainPlans.{Refused, document_at, or_unbuilt, plain_at}
 use Rattle.vk_app.specs.Unbuilt.{told_unbuilt}
@@ -62,7 +62,7 @@ reads_stopped {stop = stop} {meaning = meaning} {a = a} next_view next one = rec
   content = both_told a.told one.content one.content (λ t fails _. fails_on (refused_of stop) (meaning t.files) (λ y. next y t.files) fails);
 }
 
-or_unbuilt_gives : {X Y : Type 0} (view : X → Y) (path : Path) (read : Result X PlainFault) (form : Plain Y) → Gives view plain_fault_of read form → Gives view refused_of (told_unbuilt path read) (or_unbuilt path form)
+or_unbuilt_gives : {X Y : Type 0} (view : X → Y) (path : Path) (read : Result X PlainFault) (form : Form Y) → Gives view plain_fault_of read form → Gives view refused_of (told_unbuilt path read) (or_unbuilt path form)
 or_unbuilt_gives view path (Ok x) form gives = ap (or_unbuilt path) gives
 or_unbuilt_gives view path (Err plain_fault.NotPlain) form gives = ap (or_unbuilt path) gives
 or_unbuilt_gives view path (Err plain_fault.Memory) form gives = tt
@@ -73,7 +73,7 @@ unbuilt_calm path (Err plain_fault.NotPlain) = refl
 unbuilt_calm path (Err plain_fault.Memory) = refl
 
 -- a document that was read, and then its plain form
-pub reads_form : {X Y : Type 0} (view : X → Y) (path : Path) (form : Data → Plain Y) (doc : Doc) (read : Result X PlainFault) (answer : Result X PlanStop) (a b : State)
+pub reads_form : {X Y : Type 0} (view : X → Y) (path : Path) (form : Data → Form Y) (doc : Doc) (read : Result X PlainFault) (answer : Result X PlanStop) (a b : State)
     → ReadsAs doc_data (Ok doc) (λ f. document_at f path) a b → Gives view plain_fault_of read (form (doc_data doc)) → answer ≡ told_unbuilt path read → ReadsAs view answer (plain_at form path) a b
 unfolding plain_at
 reads_form view path form doc read answer a b first gives is =
@@ -81,7 +81,7 @@ reads_form view path form doc read answer a b first gives is =
     (rw is (reads_pure view (told_unbuilt path read) (λ _. or_unbuilt path (form (doc_data doc))) b (unbuilt_calm path read) (λ f. or_unbuilt_gives view path read (form (doc_data doc)) gives)))
 
 -- a document that wasn't read
-pub reads_none : {X Y : Type 0} (view : X → Y) (path : Path) (form : Data → Plain Y) (stop : PlanStop) (a b : State)
+pub reads_none : {X Y : Type 0} (view : X → Y) (path : Path) (form : Data → Form Y) (stop : PlanStop) (a b : State)
     → ReadsAs doc_data (Err stop) (λ f. document_at f path) a b → ReadsAs {X = X} view (Err stop) (plain_at form path) a b
 unfolding plain_at
 reads_none {X = X} view path form stop a b first = reads_stopped {Z = X} view (λ d _. or_unbuilt path (form d)) first

@@ -1,4 +1,5 @@
 pub mod Fronts
+pub mod Forms
 pub mod Orders
 pub mod PlainFaults
 pub mod PlainForms

@@ -1,10 +1,10 @@
 -- The plain form of each file: what the program plans with today. Any other document isn't built yet.
-use Rattle.std.specs.Prelude.{◌==◌, ◌&&◌, ℕ, Bool, true, false, not, List, [], ◌∷◌, Option, Some, None, Result, Ok, Err, codes, map}
+use Rattle.std.specs.Prelude.{◌==◌, ◌&&◌, ℕ, Bool, true, false, not, List, [], ◌∷◌, Option, Some, None, Ok, Err, codes, map}
 use Rattle.std.specs.List.{list_any, list_all, filter}
 use Rattle.std.specs.Str.{bytes_eq}
 use Rattle.serde_json.specs.Data.{Data}
 use Rattle.serde_json.specs.Find.{get, as_str}
-use Rattle.vk_spec.specs.Reading.{◌>>=◌, or_fault, read_each}
+use Rattle.vk_spec.specs.Reading.{◌>>=◌, read_each}
 use Rattle.vk_spec.specs.Paths.{Path}
 use Rattle.vk_spec.specs.Versions.{Ask}
 use Rattle.vk_base.specs.Names.{reads_name, port_rule}
@@ -12,26 +12,9 @@ use Rattle.vk_base.specs.PathReading.{path_of}
 use Rattle.vk_base.specs.Paths.{is_rooted, ups_of, parts_of}
 use Rattle.vk_json.specs.Looks.{items_of, keys_of, number_of}
 use Rattle.vk_app.specs.Fronts.{after}
+use Rattle.vk_app.specs.Forms.{Form, must, needs, formed}
 use Rattle.vk_version.specs.Schemes.{relaxed}
 use Rattle.vk_version.specs.Readings.{reads_version}
-
--- a value, or the one fault: it isn't of the plain form
-abbrev pub Plain : Type 0 → Type 0
-Plain A = Result A (Unit {0})
-
--- this has to be so
-abbrev pub must : Bool → Plain (Unit {0})
-must true = Ok tt
-must false = Err tt
-
--- this has to be there
-abbrev pub needs : {A : Type 0} → Option A → Plain A
-needs found = or_fault tt found
-
--- this has to read, whatever its fault would be
-abbrev pub plain : {A F : Type 0} → Result A F → Plain A
-plain (Ok x) = Ok x
-plain (Err fault) = Err tt
 
 abbrev pub all_among : List (List ℕ) → Option (List (List ℕ)) → Bool
 all_among allowed None = false
@@ -42,31 +25,31 @@ abbrev pub has_only : List (List ℕ) → Data → Bool
 has_only allowed d = all_among allowed (keys_of d)
 
 -- a member that is a text
-unfoldable pub text_member : List ℕ → Data → Plain (List ℕ)
+unfoldable pub text_member : List ℕ → Data → Form (List ℕ)
 text_member key d = needs (get key d) >>= λ v. needs (as_str v)
 
-abbrev pub number_or_zero : Option Data → Plain ℕ
+abbrev pub number_or_zero : Option Data → Form ℕ
 number_or_zero None = Ok 0
 number_or_zero (Some v) = needs (number_of v)
 
 -- a port-version, 0 where there is none
-abbrev pub port_member : Data → Plain ℕ
+abbrev pub port_member : Data → Form ℕ
 port_member d = number_or_zero (get (codes "port-version") d)
 
 -- a relaxed version text under a key, with the port-version beside it
-unfoldable pub ask_member : List ℕ → Data → Plain Ask
+unfoldable pub ask_member : List ℕ → Data → Form Ask
 ask_member key d = do
   text ← text_member key d
-  version ← plain (reads_version relaxed text 0)
+  version ← formed (reads_version relaxed text 0)
   port ← port_member d
   Ok (record { text = text; port = port })
 
 -- a port's name as a text
-unfoldable pub port_item : Data → Plain (List ℕ)
-port_item d = needs (as_str d) >>= λ text. plain (reads_name port_rule text)
+unfoldable pub port_item : Data → Form (List ℕ)
+port_item d = needs (as_str d) >>= λ text. formed (reads_name port_rule text)
 
 -- the root manifest: the ports that it lists
-unfoldable pub root_form : Data → Plain (List (List ℕ))
+unfoldable pub root_form : Data → Form (List (List ℕ))
 root_form d = do
   known ← must (has_only (codes "name" ∷ codes "version" ∷ codes "dependencies" ∷ []) d)
   list ← needs (get (codes "dependencies") d)
@@ -74,23 +57,23 @@ root_form d = do
   read_each (λ _. port_item) 0 items
 
 -- a filesystem registry's path
-unfoldable pub registry_form : Data → Plain Path
+unfoldable pub registry_form : Data → Form Path
 registry_form d = do
   known ← must (has_only (codes "kind" ∷ codes "path" ∷ []) d)
   kind ← text_member (codes "kind") d
   right ← must (bytes_eq kind (codes "filesystem"))
   path ← text_member (codes "path") d
-  plain (path_of path)
+  formed (path_of path)
 
 -- the configuration: the path of its default registry
-unfoldable pub config_form : Data → Plain Path
+unfoldable pub config_form : Data → Form Path
 config_form d = do
   known ← must (has_only (codes "default-registry" ∷ []) d)
   registry ← needs (get (codes "default-registry") d)
   registry_form registry
 
 -- an entry of the baseline: what it asks for
-unfoldable pub entry_form : Data → Plain Ask
+unfoldable pub entry_form : Data → Form Ask
 entry_form d = must (has_only (codes "baseline" ∷ codes "port-version" ∷ []) d) >>= λ known. ask_member (codes "baseline") d
 
 -- a port with its baseline, or with none
@@ -98,11 +81,11 @@ pub record Named : Type 0 where
   pub port : List ℕ
   pub entry : Option Ask
 
-unfoldable pub entry_or_none : Option Data → Plain (Option Ask)
+unfoldable pub entry_or_none : Option Data → Form (Option Ask)
 entry_or_none None = Ok None
 entry_or_none (Some d) = entry_form d >>= λ ask. Ok (Some ask)
 
-unfoldable pub named_form : Data → List ℕ → Plain Named
+unfoldable pub named_form : Data → List ℕ → Form Named
 named_form entries port = entry_or_none (get port entries) >>= λ entry. Ok (record { port = port; entry = entry })
 
 abbrev pub is_an_object : Option (List (List ℕ)) → Bool
@@ -110,7 +93,7 @@ is_an_object None = false
 is_an_object (Some keys) = true
 
 -- the baseline file, for these ports
-unfoldable pub baseline_form : List (List ℕ) → Data → Plain (List Named)
+unfoldable pub baseline_form : List (List ℕ) → Data → Form (List Named)
 baseline_form ports d = do
   entries ← needs (get (codes "default") d)
   object ← must (is_an_object (keys_of entries))
@@ -122,17 +105,17 @@ pub record Row : Type 0 where
   pub folder : Path
 
 -- the parts of a path that isn't rooted and has no steps up
-abbrev pub parts_below : Path → Plain Path
+abbrev pub parts_below : Path → Form Path
 parts_below path = must (not (is_rooted path) && (ups_of path == 0)) >>= λ below. Ok (parts_of path)
 
 -- the parts after `$/`, which stands for the registry
-unfoldable pub folder_of : List ℕ → Plain Path
+unfoldable pub folder_of : List ℕ → Form Path
 folder_of text = do
   rest ← needs (after (codes "$/") text)
-  path ← plain (path_of rest)
+  path ← formed (path_of rest)
   parts_below path
 
-unfoldable pub row_form : Data → Plain Row
+unfoldable pub row_form : Data → Form Row
 row_form d = do
   known ← must (has_only (codes "version" ∷ codes "path" ∷ codes "port-version" ∷ []) d)
   ask ← ask_member (codes "version") d
@@ -140,7 +123,7 @@ row_form d = do
   folder ← folder_of path
   Ok (record { ask = ask; folder = folder })
 
-unfoldable pub table_form : Data → Plain (List Row)
+unfoldable pub table_form : Data → Form (List Row)
 table_form d = do
   known ← must (has_only (codes "versions" ∷ []) d)
   list ← needs (get (codes "versions") d)
@@ -152,7 +135,7 @@ abbrev pub same_ask : Ask → Ask → Bool
 same_ask a b = bytes_eq a.text b.text && (a.port == b.port)
 
 -- the one member, where there is just one
-abbrev pub only_one : {A : Type 0} → List A → Plain A
+abbrev pub only_one : {A : Type 0} → List A → Form A
 only_one [] = Err tt
 only_one (x ∷ []) = Ok x
 only_one (x ∷ y ∷ rest) = Err tt
@@ -162,11 +145,11 @@ abbrev pub folders_for : Ask → List Row → List Path
 folders_for ask rows = map (λ row. row.folder) (filter (λ row. same_ask row.ask ask) rows)
 
 -- the versions file: the folder of the one row that is asked for
-unfoldable pub table_row : Ask → Data → Plain Path
+unfoldable pub table_row : Ask → Data → Form Path
 table_row ask d = table_form d >>= λ rows. only_one (folders_for ask rows)
 
 -- a port's manifest: it says what the table says
-unfoldable pub manifest_form : List ℕ → Ask → Data → Plain (Unit {0})
+unfoldable pub manifest_form : List ℕ → Ask → Data → Form (Unit {0})
 manifest_form port ask d = do
   known ← must (has_only (codes "name" ∷ codes "version" ∷ codes "port-version" ∷ []) d)
   name ← text_member (codes "name") d

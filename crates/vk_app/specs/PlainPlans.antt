@@ -8,7 +8,8 @@ use Rattle.vk_spec.specs.Files.{Files}
 use Rattle.vk_spec.specs.Versions.{Ask}
 use Rattle.vk_json.specs.Documents.{value_of, without_mark}
 use Rattle.vk_app.specs.Orders.{in_order}
-use Rattle.vk_app.specs.PlainForms.{Plain, Named, root_form, config_form, baseline_form, table_row, manifest_form}
+use Rattle.vk_app.specs.Forms.{Form}
+use Rattle.vk_app.specs.PlainForms.{Named, root_form, config_form, baseline_form, table_row, manifest_form}
 
 -- why there is no plan: a file that isn't read, one that isn't of its plain form, a port without a baseline
 pub data Refused : Type 0 where
@@ -25,7 +26,7 @@ abbrev pub document_in : Option (List ℕ) → Option Data
 document_in None = None
 document_in (Some bytes) = if nat_lt most_bytes (length bytes) then None else value_of (without_mark bytes)
 
-abbrev pub or_unbuilt : {A : Type 0} → Path → Plain A → Result A Refused
+abbrev pub or_unbuilt : {A : Type 0} → Path → Form A → Result A Refused
 or_unbuilt path (Ok x) = Ok x
 or_unbuilt path (Err tt') = Err (unbuilt path)
 
@@ -34,7 +35,7 @@ abbrev pub document_at : Files → Path → Result Data Refused
 document_at files path = or_fault (bad_file path) (document_in (map.get files path))
 
 -- what a file says in its plain form
-unfoldable pub plain_at : {A : Type 0} → (Data → Plain A) → Path → Files → Result A Refused
+unfoldable pub plain_at : {A : Type 0} → (Data → Form A) → Path → Files → Result A Refused
 plain_at form path files = document_at files path >>= λ d. or_unbuilt path (form d)
 
 abbrev pub root_path : Path

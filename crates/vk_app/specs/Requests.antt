@@ -1,12 +1,13 @@
 -- What the words ask for.
-use Rattle.std.specs.Prelude.{ℕ, Bool, true, false, List, [], ◌∷◌, Option, Result, Ok, Err, codes}
+use Rattle.std.specs.Prelude.{ℕ, List, [], ◌∷◌, Option, Ok, Err, codes}
 use Rattle.std.specs.Result.{result_ok}
 use Rattle.std.specs.Str.{bytes_eq}
-use Rattle.vk_spec.specs.Reading.{◌>>=◌, or_fault}
+use Rattle.vk_spec.specs.Reading.{◌>>=◌}
 use Rattle.vk_base.specs.Names.{reads_name, word_rule}
 use Rattle.vk_base.specs.PathReading.{path_of}
 use Rattle.vk_spec.specs.Paths.{Path}
 use Rattle.vk_app.specs.Fronts.{after}
+use Rattle.vk_app.specs.Forms.{Form, must, needs, formed}
 
 -- a word of the command line: its bytes, or none where it isn't UTF-8
 abbrev pub Words : Type 0
@@ -16,25 +17,13 @@ Words = List (Option (List ℕ))
 pub record Request : Type 0 where
   pub triplet : List ℕ
 
--- a value, or the one fault: the words are of no form
-abbrev pub Form : Type 0 → Type 0
-Form A = Result A (Unit {0})
-
-abbrev pub formed : {A F : Type 0} → Result A F → Form A
-formed (Ok x) = Ok x
-formed (Err wrong) = Err tt
-
-abbrev pub same : Bool → Form (Unit {0})
-same true = Ok tt
-same false = Err tt
-
 -- what stands after an option's name and `=`
 unfoldable pub value_after : List ℕ → Option (List ℕ) → Form (List ℕ)
-value_after option word = or_fault tt word >>= λ text. or_fault tt (after option text)
+value_after option word = needs word >>= λ text. needs (after option text)
 
 -- the word that says the command
 unfoldable pub command_of : Option (List ℕ) → Form (Unit {0})
-command_of word = or_fault tt word >>= λ text. same (bytes_eq text (codes "plan"))
+command_of word = needs word >>= λ text. must (bytes_eq text (codes "plan"))
 
 -- the target that `--triplet=` names
 unfoldable pub target_of : Option (List ℕ) → Form (List ℕ)

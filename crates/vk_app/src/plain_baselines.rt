@@ -5,7 +5,8 @@ ghost use Rattle.vk_spec.specs.Reading.{Gives, read_each};
 ghost use Rattle.vk_version.specs.Schemes.{relaxed};
 ghost use Rattle.vk_version.specs.Readings.{reads_version};
 ghost use Rattle.vk_version.specs.Views.{version_fault_of};
-ghost use Rattle.vk_app.specs.PlainForms.{plain, ask_member, entry_form, entry_or_none, named_form, baseline_form};
+ghost use Rattle.vk_app.specs.Forms.{formed};
+ghost use Rattle.vk_app.specs.PlainForms.{ask_member, entry_form, entry_or_none, named_form, baseline_form};
 ghost use Rattle.vk_app.specs.PlainFaults.{plain_fault_of};
 ghost use Rattle.vk_version.specs.AskViews.{ask_view};
 ghost use Rattle.vk_app.specs.PlainViews.{named_view};
@@ -30,9 +31,9 @@ fn without_cause(fault: VersionFault) -> PlainFault
     }
 }
 
-#[tactic(auto, using(crate::proofs::PlainLemmas::plain_fails))]
+#[tactic(auto, using(crate::proofs::FormLemmas::formed_fails))]
 fn relaxed_version(alloc: Global, text: &str) -> Result<Version, PlainFault>
-    ensures { Gives (λ v. v) plain_fault_of result (plain (reads_version relaxed text.now 0)) }
+    ensures { Gives (λ v. v) plain_fault_of result (formed (reads_version relaxed text.now 0)) }
 {
     match vk_version::read(alloc, Scheme::Relaxed, text, 0) {
         Ok(version) => Ok(version),

@@ -4,7 +4,8 @@ ghost use Rattle.serde_json.specs.View.{view};
 ghost use Rattle.vk_spec.specs.Reading.{Gives};
 ghost use Rattle.vk_base.specs.PathReading.{path_of};
 ghost use Rattle.vk_base.specs.PathFaults.{path_fault_of};
-ghost use Rattle.vk_app.specs.PlainForms.{plain, registry_form, config_form};
+ghost use Rattle.vk_app.specs.Forms.{formed};
+ghost use Rattle.vk_app.specs.PlainForms.{registry_form, config_form};
 ghost use Rattle.vk_app.specs.PlainFaults.{plain_fault_of};
 
 use crate::plain_values::{has_only, is_same, must, text_member};
@@ -26,9 +27,9 @@ fn without_place(fault: PathFault) -> PlainFault
 }
 
 /// The path that a text is.
-#[tactic(auto, using(crate::proofs::PlainLemmas::plain_fails))]
+#[tactic(auto, using(crate::proofs::FormLemmas::formed_fails))]
 pub fn path_in(alloc: Global, text: &str) -> Result<TreePath, PlainFault>
-    ensures { Gives (λ p. p) plain_fault_of result (plain (path_of text.now)) }
+    ensures { Gives (λ p. p) plain_fault_of result (formed (path_of text.now)) }
 {
     match TreePath::read(alloc, text) {
         Ok(path) => Ok(path),

@@ -5,7 +5,8 @@ ghost use Rattle.serde_json.specs.View.{view};
 ghost use Rattle.vk_spec.specs.Reading.{Gives, read_each};
 ghost use Rattle.vk_base.specs.Names.{reads_name, port_rule};
 ghost use Rattle.vk_base.specs.NameFaults.{name_fault_of};
-ghost use Rattle.vk_app.specs.PlainForms.{plain, port_item, root_form};
+ghost use Rattle.vk_app.specs.Forms.{formed};
+ghost use Rattle.vk_app.specs.PlainForms.{port_item, root_form};
 ghost use Rattle.vk_app.specs.PlainFaults.{plain_fault_of};
 ghost use Rattle.vk_app.specs.Orders.{in_order};
 
@@ -27,9 +28,9 @@ fn without_place(fault: NameFault) -> PlainFault
     }
 }
 
-#[tactic(auto, using(crate::proofs::PlainLemmas::plain_fails))]
+#[tactic(auto, using(crate::proofs::FormLemmas::formed_fails))]
 fn port_in(alloc: Global, text: &str) -> Result<PortName, PlainFault>
-    ensures { Gives (λ n. n) plain_fault_of result (plain (reads_name port_rule text.now)) }
+    ensures { Gives (λ n. n) plain_fault_of result (formed (reads_name port_rule text.now)) }
 {
     match PortName::read(alloc, text) {
         Ok(name) => Ok(name),

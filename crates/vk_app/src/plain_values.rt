@@ -5,7 +5,8 @@ ghost use Rattle.std.specs.Str.{bytes_eq};
 ghost use Rattle.serde_json.specs.View.{view, members_view};
 ghost use Rattle.vk_spec.specs.Reading.{Gives};
 ghost use Rattle.vk_json.specs.Looks.{names_of};
-ghost use Rattle.vk_app.specs.PlainForms.{has_only, text_member, port_member, must, number_or_zero};
+ghost use Rattle.vk_app.specs.Forms.{must};
+ghost use Rattle.vk_app.specs.PlainForms.{has_only, text_member, port_member, number_or_zero};
 ghost use Rattle.vk_app.specs.PlainFaults.{plain_fault_of};
 
 use crate::stops::PlainFault;

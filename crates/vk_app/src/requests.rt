@@ -1,12 +1,13 @@
 //! What the words ask for.
 ghost use Rattle.std.specs.Prelude.{◌≡◌, option_map};
-ghost use Rattle.vk_spec.specs.Reading.{Gives, or_fault};
+ghost use Rattle.vk_spec.specs.Reading.{Gives};
 ghost use Rattle.vk_base.specs.Names.{reads_name, word_rule};
 ghost use Rattle.vk_base.specs.NameFaults.{name_fault_of};
 ghost use Rattle.vk_base.specs.PathReading.{path_of};
 ghost use Rattle.vk_base.specs.PathFaults.{path_fault_of};
+ghost use Rattle.vk_app.specs.Forms.{formed};
 ghost use Rattle.vk_app.specs.PlainFaults.{words_fault_of};
-ghost use Rattle.vk_app.specs.Requests.{formed, same, value_after, command_of, target_of, overlay_of, plan_request, reads_request};
+ghost use Rattle.vk_app.specs.Requests.{value_after, command_of, target_of, overlay_of, plan_request, reads_request};
 ghost use Rattle.vk_app.specs.WordViews.{word_view, words_view, request_view};
 
 use crate::fronts::after;
@@ -63,7 +64,7 @@ fn without_place(fault: NameFault) -> WordsFault
     }
 }
 
-#[tactic(auto, using(crate::proofs::WordLemmas::formed_fails))]
+#[tactic(auto, using(crate::proofs::FormLemmas::formed_fails))]
 fn triplet_in(alloc: Global, value: &str) -> Result<TripletName, WordsFault>
     ensures { Gives (λ n. n) words_fault_of result (formed (reads_name word_rule value.now)) }
 {
@@ -84,7 +85,7 @@ fn without_cause(fault: PathFault) -> WordsFault
     }
 }
 
-#[tactic(auto, using(crate::proofs::WordLemmas::formed_fails))]
+#[tactic(auto, using(crate::proofs::FormLemmas::formed_fails))]
 fn path_in(alloc: Global, value: &str) -> Result<TreePath, WordsFault>
     ensures { Gives (λ p. p) words_fault_of result (formed (path_of value.now)) }
 {
