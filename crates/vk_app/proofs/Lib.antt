@@ -3,6 +3,7 @@ mod DocumentLemmas
 pub mod EndLemmas
 mod FolderLemmas
 mod ReportLemmas
+mod ManifestLemmas
 mod OrderLaws
 mod PartLemmas
 pub mod FormLemmas

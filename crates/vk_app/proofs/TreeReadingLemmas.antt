@@ -1,5 +1,5 @@
 -- One reading after another.
-use Rattle.std.proofs.Common.{◌≡◌, false, refl, ap}
+use Rattle.std.proofs.Common.{◌≡◌, Bool, false, refl, ap}
 use Rattle.std.specs.Prelude.{Option, Some, None, IfSome, Result, Ok, Err}
 use Rattle.vk_spec.specs.Reading.{◌>>=◌, Gives, Fails}
 use Rattle.vk_spec.specs.Files.{Files}
@@ -11,7 +11,11 @@ use Rattle.vk_json.specs.DocumentView.{doc_data}
 use Rattle.vk_json.specs.declared.documents.Doc.{Doc}
 use Rattle.vk_app.specs.Forms.{Form}
 use Rattle.vk_app.specs.PlainFaults.{plain_fault_of}
-use Rattle.vk_app.specs.PlainPlans.{Refused, document_at, or_unbuilt, plain_at}
+use Rattle.vk_app.specs.PlainPlans.{Refused, document_at, or_unbuilt, plain_at, manifest_file, built_from}
+use Rattle.vk_spec.specs.Manifests as plain
+use Rattle.vk_expr.specs.Trees.{Tree}
+use Rattle.vk_model.specs.Views.{manifest_view}
+use Rattle.vk_model.specs.declared.manifests.Manifest.{Manifest}
 use Rattle.vk_app.specs.Unbuilt.{told_unbuilt}
 use Rattle.vk_app.specs.declared.stops.PlainFault.{PlainFault}
 use Rattle.vk_app.specs.declared.stops.PlainFault.TheVariants as plain_fault
@@ -85,3 +89,17 @@ pub reads_none : {X Y : Type 0} (view : X → Y) (path : Path) (form : Data → 
     → ReadsAs doc_data (Err stop) (λ f. document_at f path) a b → ReadsAs {X = X} view (Err stop) (plain_at form path) a b
 unfolding plain_at
 reads_none {X = X} view path form stop a b first = reads_stopped {Z = X} view (λ d _. or_unbuilt path (form d)) first
+
+-- a manifest that was read, and then what it says
+pub built_form : {X Y : Type 0} (view : X → Y) (root : Bool) (path : Path) (form : plain.Manifest Tree → Form Y) (manifest : Manifest) (read : Result X PlainFault) (answer : Result X PlanStop) (a b : State)
+    → ReadsAs manifest_view (Ok manifest) (manifest_file root path) a b → Gives view plain_fault_of read (form (manifest_view manifest)) → answer ≡ told_unbuilt path read → ReadsAs view answer (built_from root form path) a b
+unfolding built_from
+built_form view root path form manifest read answer a b first gives is =
+    reads_then (λ m _. or_unbuilt path (form m)) first
+    (rw is (reads_pure view (told_unbuilt path read) (λ _. or_unbuilt path (form (manifest_view manifest))) b (unbuilt_calm path read) (λ f. or_unbuilt_gives view path read (form (manifest_view manifest)) gives)))
+
+-- a manifest that wasn't read
+pub built_none : {X Y : Type 0} (view : X → Y) (root : Bool) (path : Path) (form : plain.Manifest Tree → Form Y) (stop : PlanStop) (a b : State)
+    → ReadsAs manifest_view (Err stop) (manifest_file root path) a b → ReadsAs {X = X} view (Err stop) (built_from root form path) a b
+unfolding built_from
+built_none {X = X} view root path form stop a b first = reads_stopped {Z = X} view (λ m _. or_unbuilt path (form m)) first

@@ -3,6 +3,7 @@ pub mod Forms
 pub mod Orders
 pub mod PlainFaults
 pub mod PlainForms
+pub mod PlainManifests
 pub mod PlainPlans
 pub mod PlainViews
 pub mod Requests

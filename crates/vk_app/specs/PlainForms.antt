@@ -44,18 +44,6 @@ ask_member key d = do
   port ← port_member d
   Ok (record { text = text; port = port })
 
--- a port's name as a text
-unfoldable pub port_item : Data → Form (List ℕ)
-port_item d = needs (as_str d) >>= λ text. formed (reads_name port_rule text)
-
--- the root manifest: the ports that it lists
-unfoldable pub root_form : Data → Form (List (List ℕ))
-root_form d = do
-  known ← must (has_only (codes "name" ∷ codes "version" ∷ codes "dependencies" ∷ []) d)
-  list ← needs (get (codes "dependencies") d)
-  items ← needs (items_of list)
-  read_each (λ _. port_item) 0 items
-
 -- a filesystem registry's path
 unfoldable pub registry_form : Data → Form Path
 registry_form d = do
@@ -147,14 +135,3 @@ folders_for ask rows = map (λ row. row.folder) (filter (λ row. same_ask row.as
 -- the versions file: the folder of the one row that is asked for
 unfoldable pub table_row : Ask → Data → Form Path
 table_row ask d = table_form d >>= λ rows. only_one (folders_for ask rows)
-
--- a port's manifest: it says what the table says
-unfoldable pub manifest_form : List ℕ → Ask → Data → Form (Unit {0})
-manifest_form port ask d = do
-  known ← must (has_only (codes "name" ∷ codes "version" ∷ codes "port-version" ∷ []) d)
-  name ← text_member (codes "name") d
-  same_name ← must (bytes_eq name port)
-  text ← text_member (codes "version") d
-  same_text ← must (bytes_eq text ask.text)
-  number ← port_member d
-  must (number == ask.port)

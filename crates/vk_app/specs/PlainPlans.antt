@@ -1,19 +1,27 @@
 -- The plan of plain dependencies: every port at its baseline, in one registry.
-use Rattle.std.specs.Prelude.{◌++◌, ℕ, List, [], ◌∷◌, length, take, nat_lt, Option, Some, None, Result, Ok, Err, codes, if◌then◌else◌}
+use Rattle.std.specs.Prelude.{◌++◌, ℕ, Bool, true, false, List, [], ◌∷◌, length, take, nat_lt, Option, Some, None, Result, Ok, Err, codes, if◌then◌else◌}
 use Rattle.std.specs.FinMap as map
 use Rattle.serde_json.specs.Data.{Data}
 use Rattle.vk_spec.specs.Reading.{◌>>=◌, or_fault, read_each}
 use Rattle.vk_spec.specs.Paths.{Path}
 use Rattle.vk_spec.specs.Files.{Files}
 use Rattle.vk_spec.specs.Versions.{Ask}
-use Rattle.vk_json.specs.Documents.{value_of, without_mark}
+use Rattle.vk_spec.specs.Manifests.{Manifest}
+use Rattle.vk_expr.specs.Trees.{Tree}
+use Rattle.vk_json.specs.Documents.{Fault, value_of, without_mark}
+use Rattle.vk_json.specs.Files.{file_of}
+use Rattle.vk_json.specs.declared.faults.Why.{Why}
+use Rattle.vk_manifest.specs.Manifests.{manifest_of}
 use Rattle.vk_app.specs.Orders.{in_order}
 use Rattle.vk_app.specs.Forms.{Form}
-use Rattle.vk_app.specs.PlainForms.{Named, root_form, config_form, baseline_form, table_row, manifest_form}
+use Rattle.vk_app.specs.PlainForms.{Named, config_form, baseline_form, table_row}
+use Rattle.vk_app.specs.PlainManifests.{root_form, agreeing}
 
--- why there is no plan: a file that isn't read, one that isn't of its plain form, a port without a baseline
+-- why there is no plan: a file that isn't read; a manifest with a fault at a place; a file that isn't
+-- of its plain form; a port without a baseline
 pub data Refused : Type 0 where
   bad_file : Path → Refused
+  wrong_at : Path → List ℕ → Why → Refused
   unbuilt : Path → Refused
   no_baseline : List ℕ → Refused
 
@@ -38,6 +46,22 @@ document_at files path = or_fault (bad_file path) (document_in (map.get files pa
 unfoldable pub plain_at : {A : Type 0} → (Data → Form A) → Path → Files → Result A Refused
 plain_at form path files = document_at files path >>= λ d. or_unbuilt path (form d)
 
+-- what reading a file gives, its fault with the file
+abbrev pub told_of : {A : Type 0} → Path → Result A Fault → Result A Refused
+told_of path (Ok x) = Ok x
+told_of path (Err fault) = Err (wrong_at path fault.0 fault.1)
+
+-- the manifest of a file that may be there, of the root or of a port
+unfoldable pub manifest_in : Bool → Option (List ℕ) → Result (Manifest Tree) Fault
+manifest_in root found = file_of most_bytes (λ bytes. manifest_of bytes root) found
+
+abbrev pub manifest_file : Bool → Path → Files → Result (Manifest Tree) Refused
+manifest_file root path files = told_of path (manifest_in root (map.get files path))
+
+-- what a manifest says, where it is one that a plan is made from today
+unfoldable pub built_from : {A : Type 0} → Bool → (Manifest Tree → Form A) → Path → Files → Result A Refused
+built_from root form path files = manifest_file root path files >>= λ m. or_unbuilt path (form m)
+
 abbrev pub root_path : Path
 root_path = codes "." ∷ codes "vcpkg.json" ∷ []
 
@@ -61,11 +85,11 @@ pub record Item : Type 0 where
 
 -- the ports that the root lists, each once
 unfoldable pub ports_in : Files → Result (List (List ℕ)) Refused
-ports_in files = plain_at root_form root_path files >>= λ names. Ok (in_order names)
+ports_in files = built_from true root_form root_path files >>= λ names. Ok (in_order names)
 
 -- the item, where the manifest at this path agrees
 abbrev pub checked_item : Path → List ℕ → Ask → Files → Result Item Refused
-checked_item path port ask files = plain_at (manifest_form port ask) path files >>= λ agrees. Ok (record { port = port; ask = ask })
+checked_item path port ask files = built_from false (agreeing port ask) path files >>= λ agrees. Ok (record { port = port; ask = ask })
 
 -- the item of a port at a version, in whose table and manifest it stands
 abbrev pub asked_item : Path → List ℕ → Ask → Files → Result Item Refused

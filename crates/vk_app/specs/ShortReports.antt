@@ -5,7 +5,8 @@ use Rattle.vk_spec.specs.Files.{Files}
 use Rattle.vk_spec.specs.Versions.{Ask}
 use Rattle.vk_base.specs.Tokens.{token_of}
 use Rattle.vk_base.specs.Paths.{text_of_path}
-use Rattle.vk_app.specs.PlainPlans.{Refused, bad_file, unbuilt, no_baseline, Item, plan_of}
+use Rattle.vk_app.specs.PlainPlans.{Refused, bad_file, wrong_at, unbuilt, no_baseline, Item, plan_of}
+use Rattle.vk_json.specs.Words.{word_of}
 
 -- a version as it is printed: `text#port-version`
 abbrev pub version_text : Ask → List ℕ
@@ -21,8 +22,14 @@ unfoldable pub item_lines : List ℕ → ℕ → List Item → List ℕ
 item_lines triplet number [] = []
 item_lines triplet number (item ∷ items) = item_line triplet number item ++ item_lines triplet (number + 1) items
 
+-- a place as it is printed; the whole document is `-`
+abbrev pub place_text : List ℕ → List ℕ
+place_text [] = codes "-"
+place_text (b ∷ bs) = token_of (b ∷ bs)
+
 abbrev pub refused_line : Refused → List ℕ
 refused_line (bad_file path) = codes "bad-file " ++ token_of (text_of_path path)
+refused_line (wrong_at path place why) = codes "bad-file " ++ token_of (text_of_path path) ++ codes " " ++ place_text place ++ codes " " ++ word_of why
 refused_line (unbuilt path) = codes "unbuilt " ++ token_of (text_of_path path)
 refused_line (no_baseline port) = codes "no-baseline " ++ token_of port
 

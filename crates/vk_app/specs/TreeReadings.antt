@@ -3,7 +3,7 @@ use Rattle.std.specs.Prelude.{Bool, true, false, Option, Some, None, IfSome, Res
 use Rattle.vk_spec.specs.Reading.{Gives}
 use Rattle.vk_spec.specs.Files.{Files}
 use Rattle.vk_spec.specs.States.{State, OnlyRead}
-use Rattle.vk_app.specs.PlainPlans.{Refused, bad_file, unbuilt, no_baseline}
+use Rattle.vk_app.specs.PlainPlans.{Refused, bad_file, wrong_at, unbuilt, no_baseline}
 use Rattle.vk_app.specs.declared.stops.Refusal.{Refusal}
 use Rattle.vk_app.specs.declared.stops.Refusal.TheVariants as refusal
 use Rattle.vk_app.specs.declared.stops.PlanStop.{PlanStop}
@@ -11,6 +11,7 @@ use Rattle.vk_app.specs.declared.stops.PlanStop.TheVariants as plan_stop
 
 abbrev pub refusal_view : Refusal → Refused
 refusal_view (refusal.BadFile path) = bad_file path
+refusal_view (refusal.WrongAt path place why) = wrong_at path place why
 refusal_view (refusal.Unbuilt path) = unbuilt path
 refusal_view (refusal.NoBaseline port) = no_baseline port
 

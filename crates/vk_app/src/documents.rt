@@ -16,8 +16,8 @@ use vk_base::{List, TreePath};
 use vk_json::{Doc, FileFault};
 use vk_tree::{ReadFault, Tree};
 
-// The longest file that is read, in bytes.
-const MOST_BYTES: u64 = 16_777_216;
+/// The longest file that is read, in bytes.
+pub const MOST_BYTES: u64 = 16_777_216;
 
 fn bad_file(path: &TreePath) -> PlanStop
     ensures told { Fails {Y = Data} (refused_of result) (Err (bad_file path.now)) }

@@ -1,21 +1,24 @@
 //! The files of a plan of plain dependencies, read in their order.
-ghost use Rattle.std.specs.Prelude.{◌≡◌, false, Err, option_map, map};
+ghost use Rattle.std.specs.Prelude.{◌≡◌, true, false, Err, option_map, map};
 ghost use Rattle.vk_spec.specs.Reading.{Gives, Fails, or_fault};
 ghost use Rattle.vk_spec.specs.Versions as plain;
 ghost use Rattle.vk_version.specs.AskViews.{ask_view};
-ghost use Rattle.vk_app.specs.PlainForms.{root_form, config_form, baseline_form, table_row, manifest_form};
-ghost use Rattle.vk_app.specs.PlainPlans.{plain_at, ports_in, baseline_path, table_path, manifest_path, root_path, config_path, no_baseline, checked_item, asked_item, item_of, items_of};
+ghost use Rattle.vk_app.specs.PlainForms.{config_form, baseline_form, table_row};
+ghost use Rattle.vk_app.specs.PlainManifests.{root_form, agreeing};
+ghost use Rattle.vk_app.specs.PlainPlans.{plain_at, built_from, ports_in, baseline_path, table_path, manifest_path, root_path, config_path, no_baseline, checked_item, asked_item, item_of, items_of};
 ghost use Rattle.vk_app.specs.PlainViews.{named_view, item_view};
 ghost use Rattle.vk_app.specs.TreeReadings.{ReadsAs, refused_of, is_tree_failed, has_tree_failed};
 ghost use Rattle.vk_app.specs.Unbuilt.{unbuilt_stop, told_unbuilt};
 
 use crate::documents::document;
 use crate::folders::Folder;
+use crate::manifests::manifest;
 use crate::plain_baselines::{Named, read_baseline};
 use crate::plain_configs::read_config;
+use crate::plain_manifests::{check_manifest, root_ports};
 use crate::plain_paths::{baseline_path, config_path, manifest_path, root_path, table_path};
-use crate::plain_roots::{in_order, read_root};
-use crate::plain_tables::{check_manifest, read_table_row};
+use crate::plain_tables::read_table_row;
+use crate::port_sets::in_order;
 use crate::stops::{PlainFault, PlanStop, Refusal};
 use std::alloc::Global;
 use vk_base::{List, PortName, TreePath};
@@ -47,12 +50,12 @@ fn or_unbuilt<X>(path: TreePath, read: Result<X, PlainFault>) -> Result<X, PlanS
     }
 }
 
-#[tactic(auto, using(crate::proofs::TreeReadingLemmas::reads_none))]
+#[tactic(auto, using(crate::proofs::TreeReadingLemmas::built_none))]
 fn root_at<T: Tree>(alloc: Global, tree: &mut T, path: TreePath) -> Result<List<PortName>, PlanStop>
-    ensures { ReadsAs (λ l. l) result (plain_at root_form path) (T.state tree.old) (T.state tree.new) }
+    ensures { ReadsAs (λ l. l) result (built_from true root_form path) (T.state tree.old) (T.state tree.new) }
 {
-    let doc = document(alloc, tree, &path)?;
-    or_unbuilt(path, read_root(alloc, doc.value()))
+    let manifest = manifest(alloc, tree, &path, true)?;
+    or_unbuilt(path, root_ports(alloc, manifest))
 }
 
 #[tactic(auto, using(crate::proofs::TreeReadingLemmas::reads_none))]
@@ -89,7 +92,7 @@ fn folder_at<T: Tree>(
     or_unbuilt(path, read_table_row(alloc, doc.value(), ask))
 }
 
-#[tactic(auto, using(crate::proofs::TreeReadingLemmas::reads_none))]
+#[tactic(auto, using(crate::proofs::TreeReadingLemmas::built_none))]
 fn check_at<T: Tree>(
     alloc: Global,
     tree: &mut T,
@@ -97,10 +100,10 @@ fn check_at<T: Tree>(
     port: &PortName,
     ask: &Ask,
 ) -> Result<(), PlanStop>
-    ensures { ReadsAs (λ done. tt) result (plain_at (manifest_form port.now (ask_view ask.now)) path) (T.state tree.old) (T.state tree.new) }
+    ensures { ReadsAs (λ done. tt) result (built_from false (agreeing port.now (ask_view ask.now)) path) (T.state tree.old) (T.state tree.new) }
 {
-    let doc = document(alloc, tree, &path)?;
-    or_unbuilt(path, check_manifest(doc.value(), port, ask))
+    let manifest = manifest(alloc, tree, &path, false)?;
+    or_unbuilt(path, check_manifest(&manifest, port, ask))
 }
 
 /// The ports that the root lists, in byte order and each once.

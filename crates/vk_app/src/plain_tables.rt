@@ -1,8 +1,8 @@
-//! A versions file in its plain form, and a port's manifest.
+//! A versions file in its plain form.
 ghost use Rattle.std.specs.Prelude.{◌≡◌, ◌==◌, option_map, map};
 ghost use Rattle.serde_json.specs.View.{view};
 ghost use Rattle.vk_spec.specs.Reading.{Gives, read_each};
-ghost use Rattle.vk_app.specs.PlainForms.{parts_below, folder_of, row_form, table_form, same_ask, only_one, folders_for, table_row, manifest_form};
+ghost use Rattle.vk_app.specs.PlainForms.{parts_below, folder_of, row_form, table_form, same_ask, only_one, folders_for, table_row};
 ghost use Rattle.vk_app.specs.PlainFaults.{plain_fault_of};
 ghost use Rattle.vk_version.specs.AskViews.{ask_view};
 ghost use Rattle.vk_app.specs.PlainViews.{row_view};
@@ -11,11 +11,11 @@ use crate::folders::Folder;
 use crate::fronts::after;
 use crate::plain_baselines::ask_member;
 use crate::plain_configs::path_in;
-use crate::plain_values::{has_only, is_same, must, port_member, text_member};
+use crate::plain_values::{has_only, is_same, must, text_member};
 use crate::stops::PlainFault;
 use serde_json::Value;
 use std::alloc::Global;
-use vk_base::{List, PortName};
+use vk_base::List;
 use vk_json::{items, member};
 use vk_version::Ask;
 
@@ -100,18 +100,4 @@ pub fn read_table_row(alloc: Global, value: &Value, ask: &Ask) -> Result<Folder,
     ensures { Gives (λ f. f) plain_fault_of result (table_row (ask_view ask.now) (view value.now)) }
 {
     only_folder(read_table(alloc, value)?, ask)
-}
-
-/// That a port's manifest says what the table says.
-#[tactic(auto, unfolding(crate::specs::PlainForms::manifest_form))]
-pub fn check_manifest(value: &Value, port: &PortName, ask: &Ask) -> Result<(), PlainFault>
-    ensures { Gives (λ done. tt) plain_fault_of result (manifest_form port.now (ask_view ask.now) (view value.now)) }
-{
-    must(has_only(value, &["name", "version", "port-version"]))?;
-    let name = text_member(value, "name")?;
-    must(is_same(name, port.as_str()))?;
-    let text = text_member(value, "version")?;
-    must(is_same(text, ask.text.as_str()))?;
-    let number = port_member(value)?;
-    must(number == ask.port)
 }

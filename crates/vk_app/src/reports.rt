@@ -4,13 +4,15 @@ ghost use Rattle.vk_base.specs.Tokens.{token_of};
 ghost use Rattle.vk_base.specs.Paths.{text_of_path};
 ghost use Rattle.vk_version.specs.AskViews.{ask_view};
 ghost use Rattle.vk_app.specs.PlainViews.{item_view};
-ghost use Rattle.vk_app.specs.ShortReports.{version_text, item_line, item_lines, planned_report, refused_line, refused_report};
+ghost use Rattle.vk_app.specs.ShortReports.{place_text, version_text, item_line, item_lines, planned_report, refused_line, refused_report};
+ghost use Rattle.vk_app.specs.PlainPlans.{wrong_at};
 ghost use Rattle.vk_app.specs.TreeReadings.{refusal_view};
 
 use crate::plain_files::Item;
 use crate::stops::Refusal;
 use std::alloc::Global;
 use vk_base::{List, Memory, PortName, Text, TreePath, TripletName, token};
+use vk_json::Why;
 use vk_version::Ask;
 
 fn version_text(alloc: Global, ask: &Ask) -> Result<Text, Memory>
@@ -69,11 +71,30 @@ fn path_token(alloc: Global, path: &TreePath) -> Result<Text, Memory>
     token(alloc, text.as_bytes())
 }
 
+fn place_text(alloc: Global, place: &Text) -> Result<Text, Memory>
+    ensures { IfOk result (λ t. t ≡ place_text place.now) }
+{
+    if place.is_empty() {
+        return Ok(Text::from_str(alloc, "-")?);
+    }
+    token(alloc, place.as_bytes())
+}
+
+fn wrong_line(alloc: Global, path: &TreePath, place: &Text, why: Why) -> Result<Text, Memory>
+    ensures { IfOk result (λ t. t ≡ refused_line (wrong_at path.now place.now why)) }
+{
+    let path = path_token(alloc, path)?;
+    let place = place_text(alloc, place)?;
+    let word = why.word(alloc)?;
+    Ok(Text::from_string(format!(in alloc; "bad-file {path} {place} {word}")?))
+}
+
 fn refused_line(alloc: Global, refusal: &Refusal) -> Result<Text, Memory>
     ensures { IfOk result (λ t. t ≡ refused_line (refusal_view refusal.now)) }
 {
     match refusal {
         Refusal::BadFile { path } => word_and(alloc, "bad-file ", path_token(alloc, path)?),
+        Refusal::WrongAt { path, place, why } => wrong_line(alloc, path, place, *why),
         Refusal::Unbuilt { path } => word_and(alloc, "unbuilt ", path_token(alloc, path)?),
         Refusal::NoBaseline { port } => {
             word_and(

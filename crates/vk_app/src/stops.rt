@@ -5,7 +5,8 @@ ghost use Rattle.vk_app.specs.declared.stops.PlanStop.TheVariants as plan_stop;
 ghost use Rattle.vk_app.specs.declared.stops.WordsFault.TheVariants as words_fault;
 
 use std::alloc::{AllocError, AllocFailed};
-use vk_base::{Memory, PortName, TreePath};
+use vk_base::{Memory, PortName, Text, TreePath};
+use vk_json::Why;
 
 /// A document isn't of its plain form.
 #[derive(Clone, Copy, Debug, PartialEq, Eq)]
@@ -57,11 +58,23 @@ impl From<AllocError> for WordsFault {
 #[derive(Drop)]
 pub enum Refusal {
     /// A file that is absent, too long, or no JSON.
-    BadFile { path: TreePath },
+    BadFile {
+        path: TreePath,
+    },
+    /// A manifest with a fault at a place, a JSON Pointer (RFC 6901).
+    WrongAt {
+        path: TreePath,
+        place: Text,
+        why: Why,
+    },
     /// A file that isn't of its plain form.
-    Unbuilt { path: TreePath },
+    Unbuilt {
+        path: TreePath,
+    },
     /// A port that the baseline lacks.
-    NoBaseline { port: PortName },
+    NoBaseline {
+        port: PortName,
+    },
 }
 
 /// Why there is no plan.

@@ -6,3 +6,4 @@ pub mod Readings
 pub mod FaultViews
 pub mod Digits
 pub mod Words
+pub mod Files
