@@ -3,8 +3,10 @@ pub mod Complete
 pub mod Sound
 pub mod FrameLemmas
 pub mod TokenLemmas
+pub mod FrontLemmas
 pub mod RunLemmas
 pub mod ReadingLaws
+pub mod GoingLemmas
 pub mod StandingLemmas
 pub mod FaultLaws
 pub mod PrintLemmas

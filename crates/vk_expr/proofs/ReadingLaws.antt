@@ -1,13 +1,13 @@
 -- A text reads as a tree exactly where its reading is that tree.
-use Rattle.std.proofs.Common.{◌≡◌, ◌+◌, ℕ, List, [], ◌∷◌, length, refl, ap, ◌∙◌, subst, arith}
+use Rattle.std.proofs.Common.{◌≡◌, ℕ, List, [], length, refl, ap, ◌∙◌, subst}
 use Rattle.std.specs.Prelude.{Ok, Err, Bool, true, false}
 use Rattle.std.specs.List.{list_all}
-use Rattle.std.proofs.lemmas.Bool.Decides.{nat_tests}
 use Rattle.vk_spec.specs.Reading.{◌>>=◌}
 use Rattle.vk_expr.specs.Trees.{Tree, always}
-use Rattle.vk_expr.specs.Tokens.{Token, is_blank, is_word_byte, sign_begun, tokens_from, tokens_of}
+use Rattle.vk_expr.specs.Tokens.{Token, is_blank, tokens_of}
 use Rattle.vk_expr.specs.Grammar.{IsExpr, Reads, blank, whole}
 use Rattle.vk_expr.specs.Reading.{Fault, unexpected, settled, steps, at_end, cut_off, start, reading_of}
+use Rattle.vk_expr.proofs.TokenLemmas.{blank_tokens}
 use Rattle.vk_expr.proofs.Complete.{Led, expr_leads}
 use Rattle.vk_expr.proofs.Sound.{expr_from}
 
@@ -17,25 +17,6 @@ unfolding steps at_end settled
 expr_read n tokens t e =
     let led : Led [] tokens [] start t = expr_leads 0 tokens [] t e [] (λ c t. refl) refl in
     ap (λ r. r >>= at_end n) led.leads ∙ ap Ok led.value
-
--- blanks have no tokens
-no_word : (b : ℕ) → is_blank b ≡ true → is_word_byte b ≡ false
-no_word b e = grind (arith, nat_tests)
-
-blank_first : (n : ℕ) (skipped : Bool) (b : ℕ) (bs : List ℕ) → is_blank b ≡ true → tokens_from n skipped (b ∷ bs) ≡ tokens_from (n + 1) false bs
-unfolding tokens_from sign_begun
-blank_first n skipped b bs e = rw (no_word b e, e) refl
-
-blank_by : (b : ℕ) (bs : List ℕ) (r : Bool) → is_blank b ≡ r → list_all is_blank (b ∷ bs) ≡ true → (is_blank b ≡ true) × (list_all is_blank bs ≡ true)
-blank_by b bs true e all = (e, rw e at all)
-blank_by b bs false e all = cc (rw e at all)
-
-blank_tokens : (text : List ℕ) (n : ℕ) (skipped : Bool) → list_all is_blank text ≡ true → tokens_from n skipped text ≡ []
-unfolding tokens_from
-blank_tokens [] n skipped all = refl
-blank_tokens (b ∷ bs) n skipped all =
-    let both : (is_blank b ≡ true) × (list_all is_blank bs ≡ true) = blank_by b bs (is_blank b) refl all in
-    blank_first n skipped b bs both.0 ∙ blank_tokens bs (n + 1) false both.1
 
 nothing_reads : (t : Tree) → IsExpr 0 [] [] t → ⊥
 unfolding steps at_end cut_off

@@ -1,135 +1,82 @@
--- Where a fault stands.
+-- What a fault tells, at a token and at the end.
 use Rattle.std.proofs.Common.{◌≡◌, ℕ, List, [], ◌∷◌, ◌++◌, length, refl, subst}
 use Rattle.std.specs.Prelude.{Result, Ok, Err, Bool, true, false, cond, nat_lt, codes}
 use Rattle.vk_spec.specs.Reading.{◌>>=◌}
 use Rattle.vk_expr.specs.Trees.{Tree, mark, negation}
-use Rattle.vk_expr.specs.Tokens.{Joint, Token, token, name, negates, joins, opens, closes, stray}
-use Rattle.vk_expr.specs.Grammar.{CanGoOn}
-use Rattle.vk_expr.specs.Reading.{Fault, mixed, deep, Chain, single, joined, Frame, pending, around, State, wanted, ended, value_of, settled, same_joint, step, steps, at_end, cut_off, start}
-use Rattle.vk_expr.specs.Standing.{open_after, open_places, IsToldBy, mixes, too_deep, misplaced, IsToldByEnd, too_short, inside}
-use Rattle.vk_expr.proofs.StepLemmas.{steps-append}
+use Rattle.vk_expr.specs.Tokens.{Joint, both, either, Sign, Token, token, name, negates, joins, opens, closes, stray}
+use Rattle.vk_expr.specs.Reading.{Fault, unexpected, mixed, deep, Chain, single, joined, Frame, pending, around, State, wanted, ended, value_of, settled, same_joint, step, steps, at_end, cut_off, start}
+use Rattle.vk_expr.specs.Standing.{CanStandAfter, other_than, IsMixed, WantsUnary, IsTooDeep, IsToldBy, mixes, too_deep, misplaced, open_after, open_places, IsToldByEnd, too_short, inside}
 use Rattle.vk_expr.proofs.Complete.{same}
-use Rattle.vk_expr.proofs.Sound.{expr_from}
-use Rattle.vk_expr.proofs.ReadingLaws.{expr_read}
+use Rattle.vk_expr.proofs.GoingLemmas.{Reaches, name_spelled, joint_word, joint_spelled, can_stand, cannot_stand}
 
--- where a unary has ended, no NOT is innermost
-abbrev IsProper : State → Type 0
-IsProper (wanted fs c) = Unit {0}
-IsProper (ended fs c t) = settled fs c t ≡ ended fs c t
-
-abbrev AreProper : Result State Fault → Type 0
-AreProper (Ok s) = IsProper s
-AreProper (Err f) = Unit {0}
-
-settled_proper : (fs : List Frame) (c : Chain) (t : Tree) → IsProper (settled fs c t)
-unfolding settled
-settled_proper [] c t = refl
-settled_proper (pending ∷ fs) c t = settled_proper fs c (negation t)
-settled_proper (around at outer ∷ fs) c t = refl
-
-wanted_proper : (b : Bool) (fs : List Frame) (c : Chain) (f : Fault) → AreProper (cond b (Ok (wanted fs c)) (Err f))
-wanted_proper true fs c f = tt
-wanted_proper false fs c f = tt
-
-step_proper : (s : State) (t : Token) → AreProper (step s t)
+unary_wanted : (text : List ℕ) (before : List Token) (fs : List Frame) (c : Chain) → Reaches text before (wanted fs c) → WantsUnary before
 unfolding step
-step_proper (wanted fs c) (token at (name word)) = settled_proper fs c (mark word)
-step_proper (wanted fs c) (token at negates) = wanted_proper (nat_lt (length fs) 64) (pending ∷ fs) c deep
-step_proper (wanted fs c) (token at opens) = wanted_proper (nat_lt (length fs) 64) (around at c ∷ fs) single deep
-step_proper (wanted fs c) (token at (joins joint)) = tt
-step_proper (wanted fs c) (token at closes) = tt
-step_proper (wanted fs c) (token at stray) = tt
-step_proper (ended fs single t) (token at (joins joint)) = tt
-step_proper (ended fs (joined other xs) t) (token at (joins joint)) = wanted_proper (same_joint joint other) fs (joined other (xs ++ t ∷ [])) (mixed at)
-step_proper (ended [] c t) (token at closes) = tt
-step_proper (ended (pending ∷ fs) c t) (token at closes) = tt
-step_proper (ended (around place outer ∷ fs) c t) (token at closes) = settled_proper fs outer (value_of c t)
-step_proper (ended fs c t) (token at (name word)) = tt
-step_proper (ended fs c t) (token at negates) = tt
-step_proper (ended fs c t) (token at opens) = tt
-step_proper (ended fs c t) (token at stray) = tt
+unary_wanted text before fs c r = (codes "a", can_stand text before (wanted fs c) (settled fs c (mark (codes "a"))) (codes "a") (name (codes "a")) r name_spelled (λ n. refl))
 
-proper_next : (ts : List Token) (r : Result State Fault) → AreProper r → ((next : State) → IsProper next → AreProper (steps next ts)) → AreProper (r >>= λ next. steps next ts)
-proper_next ts (Ok next) p more = more next p
-proper_next ts (Err f) p more = tt
-
-steps_proper : (s : State) (ts : List Token) → IsProper s → AreProper (steps s ts)
-unfolding steps
-steps_proper s [] p = p
-steps_proper s (t ∷ ts) p = proper_next ts (step s t) (step_proper s t) (λ next q. steps_proper next ts q)
-
-reached_proper : (ts : List Token) (s : State) → steps start ts ≡ Ok s → IsProper s
-reached_proper ts s e = subst AreProper e (steps_proper start ts tt)
-
--- tokens that lead from a state to the end
-abbrev Finishes : State → Type 0
-Finishes s = (rest : List Token) × (v : Tree) × ((steps s rest >>= at_end 0) ≡ Ok v)
-
-closings : (fs : List Frame) (c : Chain) (t : Tree) → Finishes (settled fs c t)
-unfolding settled steps step at_end
-closings [] c t = ([], value_of c t, refl)
-closings (pending ∷ fs) c t = closings fs c (negation t)
-closings (around at outer ∷ fs) c t =
-    let later = closings fs outer (value_of c t) in
-    (token 0 closes ∷ later.0, later.1, later.2)
-
-finishes : (s : State) → IsProper s → Finishes s
-unfolding steps step
-finishes (wanted fs c) p =
-    let later = closings fs c (mark (codes "a")) in
-    (token 0 (name (codes "a")) ∷ later.0, later.1, later.2)
-finishes (ended fs c t) p = subst Finishes p (closings fs c t)
-
--- an expression goes on from tokens that were read without a fault
-pub can_go_on : (before : List Token) (s : State) → steps start before ≡ Ok s → CanGoOn before
-can_go_on before s e =
-    let rest = finishes s (reached_proper before s e) in
-    let all : (steps start (before ++ rest.0) >>= at_end 0) ≡ Ok rest.1 = rw (steps-append start before rest.0, e) rest.2 in
-    (rest.0, rest.1, expr_from 0 (before ++ rest.0) rest.1 all)
-
--- none goes on from tokens that have a fault
-pub cannot_go_on : (tokens : List Token) (f : Fault) → steps start tokens ≡ Err f → CanGoOn tokens → ⊥
-cannot_go_on tokens f e goes =
-    let reads : (steps start (tokens ++ goes.0) >>= at_end 0) ≡ Ok goes.1 = expr_read 0 (tokens ++ goes.0) goes.1 goes.2 in
-    let fails : (steps start (tokens ++ goes.0) >>= at_end 0) ≡ Err f = rw (steps-append start tokens goes.0, e) refl in
-    cc
-
--- one more token
-pub one_more : (before : List Token) (s : State) (t : Token) (r : Result State Fault) → steps start before ≡ Ok s → step s t ≡ r → steps start (before ++ t ∷ []) ≡ r
-unfolding steps
-one_more before s t (Ok next) e one = rw (steps-append start before (t ∷ []), e, one) refl
-one_more before s t (Err f) e one = rw (steps-append start before (t ∷ []), e, one) refl
-
-named_next : (before : List Token) (fs : List Frame) (c : Chain) (at : ℕ) → steps start before ≡ Ok (wanted fs c) → CanGoOn (before ++ token at (name (codes "a")) ∷ [])
+joint_stands : (text : List ℕ) (before : List Token) (fs : List Frame) (joint : Joint) (xs : List Tree) (t : Tree) → Reaches text before (ended fs (joined joint xs) t) → CanStandAfter before (joins joint)
 unfolding step
-named_next before fs c at e = can_go_on (before ++ token at (name (codes "a")) ∷ []) (settled fs c (mark (codes "a"))) (one_more before (wanted fs c) (token at (name (codes "a"))) (Ok (settled fs c (mark (codes "a")))) e refl)
+joint_stands text before fs joint xs t r = can_stand text before (ended fs (joined joint xs) t) (wanted fs (joined joint (xs ++ t ∷ []))) (joint_word joint) (joins joint) r (joint_spelled joint) (λ n. rw (same joint) refl)
 
-joined_next : (before : List Token) (fs : List Frame) (joint : Joint) (xs : List Tree) (t : Tree) (at : ℕ) → steps start before ≡ Ok (ended fs (joined joint xs) t) → CanGoOn (before ++ token at (joins joint) ∷ [])
+no_joint : (before : List Token) (fs : List Frame) (c : Chain) (joint : Joint) → steps start before ≡ Ok (wanted fs c) → CanStandAfter before (joins joint) → ⊥
 unfolding step
-joined_next before fs joint xs t at e = can_go_on (before ++ token at (joins joint) ∷ []) (wanted fs (joined joint (xs ++ t ∷ []))) (one_more before (ended fs (joined joint xs) t) (token at (joins joint)) (Ok (wanted fs (joined joint (xs ++ t ∷ [])))) e (rw (same joint) refl))
+no_joint before fs c joint runs = cannot_stand before (wanted fs c) (joins joint) runs (λ n. refl)
 
-failed_by : (b : Bool) (s : State) (f g : Fault) → cond b (Ok s) (Err f) ≡ Err g → f ≡ g
-failed_by true s f g e = cc
-failed_by false s f g e = cc
+no_unary : (before : List Token) (fs : List Frame) (c : Chain) (t : Tree) → steps start before ≡ Ok (ended fs c t) → WantsUnary before → ⊥
+unfolding step
+no_unary before fs c t runs wants = cannot_stand before (ended fs c t) (name wants.0) runs (λ n. refl) wants.1
+
+-- a token that isn't taken tells itself
+misplaced_here : (before : List Token) (at : ℕ) (sign : Sign) (f : Fault) → unexpected at ≡ f → (IsMixed before sign → ⊥) → (IsTooDeep before sign → ⊥) → IsToldBy before (token at sign) f
+misplaced_here before at sign f is other deeper = subst (λ f. IsToldBy before (token at sign) f) is (misplaced before at sign other deeper)
+
+deep_here : (before : List Token) (at : ℕ) (sign : Sign) (next : State) (b : Bool) (f : Fault) → cond b (Ok next) (Err deep) ≡ Err f → IsTooDeep before sign → IsToldBy before (token at sign) f
+deep_here before at sign next true f fails deeper = cc
+deep_here before at sign next false f fails deeper = subst (λ f. IsToldBy before (token at sign) f) (cc) (too_deep before at sign deeper)
+
+mixed_here : (before : List Token) (at : ℕ) (joint other : Joint) (next : State) (f : Fault) → cond (same_joint joint other) (Ok next) (Err (mixed at)) ≡ Err f → CanStandAfter before (joins other) → IsToldBy before (token at (joins joint)) f
+mixed_here before at both both next f fails stands = cc
+mixed_here before at either either next f fails stands = cc
+mixed_here before at both either next f fails stands = subst (λ f. IsToldBy before (token at (joins both)) f) (cc) (mixes before at (joins both) stands)
+mixed_here before at either both next f fails stands = subst (λ f. IsToldBy before (token at (joins either)) f) (cc) (mixes before at (joins either) stands)
 
 -- what a token tells that has a fault
-pub told_by : (before : List Token) (s : State) (here : Token) (f : Fault) → steps start before ≡ Ok s → step s here ≡ Err f → IsToldBy before here f
+pub told_by : (text : List ℕ) (before : List Token) (s : State) (here : Token) (f : Fault) → Reaches text before s → step s here ≡ Err f → IsToldBy before here f
 unfolding step
-told_by before (wanted fs c) (token at (name word)) f e fails = cc
-told_by before (wanted fs c) (token at negates) f e fails = subst (λ f. IsToldBy before (token at negates) f) (failed_by (nat_lt (length fs) 64) (wanted (pending ∷ fs) c) deep f fails) (too_deep before at (codes "a") negates (named_next before fs c at e))
-told_by before (wanted fs c) (token at opens) f e fails = subst (λ f. IsToldBy before (token at opens) f) (failed_by (nat_lt (length fs) 64) (wanted (around at c ∷ fs) single) deep f fails) (too_deep before at (codes "a") opens (named_next before fs c at e))
-told_by before (wanted fs c) (token at (joins joint)) f e fails = subst (λ f. IsToldBy before (token at (joins joint)) f) (cc) (misplaced before at (joins joint))
-told_by before (wanted fs c) (token at closes) f e fails = subst (λ f. IsToldBy before (token at closes) f) (cc) (misplaced before at closes)
-told_by before (wanted fs c) (token at stray) f e fails = subst (λ f. IsToldBy before (token at stray) f) (cc) (misplaced before at stray)
-told_by before (ended fs single t) (token at (joins joint)) f e fails = cc
-told_by before (ended fs (joined other xs) t) (token at (joins joint)) f e fails = subst (λ f. IsToldBy before (token at (joins joint)) f) (failed_by (same_joint joint other) (wanted fs (joined other (xs ++ t ∷ []))) (mixed at) f fails) (mixes before at joint other (joined_next before fs other xs t at e))
-told_by before (ended [] c t) (token at closes) f e fails = subst (λ f. IsToldBy before (token at closes) f) (cc) (misplaced before at closes)
-told_by before (ended (pending ∷ fs) c t) (token at closes) f e fails = subst (λ f. IsToldBy before (token at closes) f) (cc) (misplaced before at closes)
-told_by before (ended (around place outer ∷ fs) c t) (token at closes) f e fails = cc
-told_by before (ended fs c t) (token at (name word)) f e fails = subst (λ f. IsToldBy before (token at (name word)) f) (cc) (misplaced before at (name word))
-told_by before (ended fs c t) (token at negates) f e fails = subst (λ f. IsToldBy before (token at negates) f) (cc) (misplaced before at negates)
-told_by before (ended fs c t) (token at opens) f e fails = subst (λ f. IsToldBy before (token at opens) f) (cc) (misplaced before at opens)
-told_by before (ended fs c t) (token at stray) f e fails = subst (λ f. IsToldBy before (token at stray) f) (cc) (misplaced before at stray)
+told_by text before (wanted fs c) (token at (name word)) f r fails = cc
+told_by text before (wanted fs c) (token at negates) f r fails = deep_here before at negates (wanted (pending ∷ fs) c) (nat_lt (length fs) 64) f fails (unary_wanted text before fs c r)
+told_by text before (wanted fs c) (token at opens) f r fails = deep_here before at opens (wanted (around at c ∷ fs) single) (nat_lt (length fs) 64) f fails (unary_wanted text before fs c r)
+told_by text before (wanted fs c) (token at (joins joint)) f r fails = misplaced_here before at (joins joint) f (cc) (no_joint before fs c (other_than joint) r.runs) (λ d. d)
+told_by text before (wanted fs c) (token at closes) f r fails = misplaced_here before at closes f (cc) (λ m. m) (λ d. d)
+told_by text before (wanted fs c) (token at stray) f r fails = misplaced_here before at stray f (cc) (λ m. m) (λ d. d)
+told_by text before (ended fs single t) (token at (joins joint)) f r fails = cc
+told_by text before (ended fs (joined other xs) t) (token at (joins joint)) f r fails = mixed_here before at joint other (wanted fs (joined other (xs ++ t ∷ []))) f fails (joint_stands text before fs other xs t r)
+told_by text before (ended [] c t) (token at closes) f r fails = misplaced_here before at closes f (cc) (λ m. m) (λ d. d)
+told_by text before (ended (pending ∷ fs) c t) (token at closes) f r fails = misplaced_here before at closes f (cc) (λ m. m) (λ d. d)
+told_by text before (ended (around place outer ∷ fs) c t) (token at closes) f r fails = cc
+told_by text before (ended fs c t) (token at (name word)) f r fails = misplaced_here before at (name word) f (cc) (λ m. m) (λ d. d)
+told_by text before (ended fs c t) (token at negates) f r fails = misplaced_here before at negates f (cc) (λ m. m) (no_unary before fs c t r.runs)
+told_by text before (ended fs c t) (token at opens) f r fails = misplaced_here before at opens f (cc) (λ m. m) (no_unary before fs c t r.runs)
+told_by text before (ended fs c t) (token at stray) f r fails = misplaced_here before at stray f (cc) (λ m. m) (λ d. d)
+
+not_both : (before : List Token) (sign : Sign) → IsMixed before sign → IsTooDeep before sign → ⊥
+not_both before (name word) m d = m
+not_both before negates m d = m
+not_both before (joins joint) m d = d
+not_both before opens m d = m
+not_both before closes m d = m
+not_both before stray m d = m
+
+-- a token tells one fault
+pub told_once : (before : List Token) (here : Token) (f g : Fault) → IsToldBy before here f → IsToldBy before here g → f ≡ g
+told_once _ _ _ _ (mixes before at sign m) (mixes _ _ _ _) = refl
+told_once _ _ _ _ (mixes before at sign m) (too_deep _ _ _ d) = absurd (not_both before sign m d)
+told_once _ _ _ _ (mixes before at sign m) (misplaced _ _ _ other _) = absurd (other m)
+told_once _ _ _ _ (too_deep before at sign d) (mixes _ _ _ m) = absurd (not_both before sign m d)
+told_once _ _ _ _ (too_deep before at sign d) (too_deep _ _ _ _) = refl
+told_once _ _ _ _ (too_deep before at sign d) (misplaced _ _ _ _ deeper) = absurd (deeper d)
+told_once _ _ _ _ (misplaced before at sign other deeper) (mixes _ _ _ m) = absurd (other m)
+told_once _ _ _ _ (misplaced before at sign other deeper) (too_deep _ _ _ d) = absurd (deeper d)
+told_once _ _ _ _ (misplaced before at sign other deeper) (misplaced _ _ _ _ _) = refl
 
 -- the places of the parentheses that are pending
 abbrev places_in : List Frame → List ℕ
@@ -197,3 +144,10 @@ told_by_places n tokens (ended (g ∷ fs) c t) f e fails = subst (λ f. IsToldBy
 -- what the end tells of tokens without a fault
 pub told_by_end : (n : ℕ) (tokens : List Token) (s : State) (f : Fault) → steps start tokens ≡ Ok s → at_end n s ≡ Err f → IsToldByEnd n tokens f
 told_by_end n tokens s f e fails = told_by_places n tokens s f (subst (λ r. HasPlaces (open_places [] tokens) r) e (steps_places start tokens)) fails
+
+-- an end tells one fault
+pub end_told_once : (n : ℕ) (tokens : List Token) (f g : Fault) → IsToldByEnd n tokens f → IsToldByEnd n tokens g → f ≡ g
+end_told_once _ _ _ _ (too_short n tokens e) (too_short _ _ _) = refl
+end_told_once _ _ _ _ (too_short n tokens e) (inside _ at outer _ more) = cc
+end_told_once _ _ _ _ (inside n at outer tokens more) (too_short _ _ e) = cc
+end_told_once _ _ _ _ (inside n at outer tokens more) (inside _ place others _ also) = cc

@@ -33,6 +33,10 @@ pub data Reads : List ℕ → Tree → Type 0 where
   blank : (text : List ℕ) → list_all is_blank text ≡ true → Reads text always
   whole : (text : List ℕ) (t : Tree) → IsExpr 0 (tokens_of text) [] t → Reads text t
 
--- some expression begins with these tokens
-abbrev pub CanGoOn : List Token → Type 0
-CanGoOn tokens = (rest : List Token) × (t : Tree) × IsExpr 0 (tokens ++ rest) [] t
+-- a readable text begins with these tokens
+pub record CanGoOn (tokens : List Token) : Type 0 where
+  pub text : List ℕ
+  pub rest : List Token
+  pub tree : Tree
+  pub begins : tokens_of text ≡ tokens ++ rest
+  pub reads : Reads text tree

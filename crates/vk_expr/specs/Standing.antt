@@ -1,8 +1,46 @@
--- Where a fault stands, in terms of what the grammar has.
-use Rattle.std.specs.Prelude.{◌≡◌, ◌++◌, ℕ, List, [], ◌∷◌}
-use Rattle.vk_expr.specs.Tokens.{Sign, Joint, Token, token, name, negates, joins, opens, closes, stray}
-use Rattle.vk_expr.specs.Grammar.{CanGoOn}
+-- Where a text's first fault stands, in terms of which texts are readable.
+use Rattle.std.specs.Prelude.{◌≡◌, ◌++◌, ℕ, List, [], ◌∷◌, length}
+use Rattle.vk_expr.specs.Trees.{Tree}
+use Rattle.vk_expr.specs.Tokens.{Sign, Joint, both, either, Token, token, name, negates, joins, opens, closes, stray, tokens_of}
+use Rattle.vk_expr.specs.Grammar.{Reads, CanGoOn}
 use Rattle.vk_expr.specs.Reading.{Fault, unexpected, mixed, unclosed, deep}
+
+-- a readable text begins with these tokens and then this sign, wherever it stands
+abbrev pub CanStandAfter : List Token → Sign → Type 0
+CanStandAfter before sign = (at : ℕ) × CanGoOn (before ++ token at sign ∷ [])
+
+-- the other operator
+abbrev pub other_than : Joint → Joint
+other_than both = either
+other_than either = both
+
+-- the sign is an operator, and the other one can stand in its place
+abbrev pub IsMixed : List Token → Sign → Type 0
+IsMixed before (joins joint) = CanStandAfter before (joins (other_than joint))
+IsMixed before (name word) = ⊥
+IsMixed before negates = ⊥
+IsMixed before opens = ⊥
+IsMixed before closes = ⊥
+IsMixed before stray = ⊥
+
+-- some name can stand after these tokens
+abbrev pub WantsUnary : List Token → Type 0
+WantsUnary before = (word : List ℕ) × CanStandAfter before (name word)
+
+-- the sign is a NOT or an opening parenthesis, and a name can stand in its place
+abbrev pub IsTooDeep : List Token → Sign → Type 0
+IsTooDeep before negates = WantsUnary before
+IsTooDeep before opens = WantsUnary before
+IsTooDeep before (name word) = ⊥
+IsTooDeep before (joins joint) = ⊥
+IsTooDeep before closes = ⊥
+IsTooDeep before stray = ⊥
+
+-- what a token tells that can't stand after these tokens: `mixed` or `deep` where it is so, and else itself
+pub data IsToldBy : List Token → Token → Fault → Type 0 where
+  mixes : (before : List Token) (at : ℕ) (sign : Sign) → IsMixed before sign → IsToldBy before (token at sign) (mixed at)
+  too_deep : (before : List Token) (at : ℕ) (sign : Sign) → IsTooDeep before sign → IsToldBy before (token at sign) deep
+  misplaced : (before : List Token) (at : ℕ) (sign : Sign) → (IsMixed before sign → ⊥) → (IsTooDeep before sign → ⊥) → IsToldBy before (token at sign) (unexpected at)
 
 -- a parenthesis is closed: the innermost one
 abbrev pub without_first : List ℕ → List ℕ
@@ -23,20 +61,13 @@ unfoldable pub open_places : List ℕ → List Token → List ℕ
 open_places ps [] = ps
 open_places ps (t ∷ ts) = open_places (open_after ps t) ts
 
--- what a token tells that can't stand after these tokens: an operator, that the other one could have
--- stood there; a NOT or a parenthesis, that a name could have; any other, itself
-pub data IsToldBy : List Token → Token → Fault → Type 0 where
-  mixes : (before : List Token) (at : ℕ) (joint other : Joint) → CanGoOn (before ++ token at (joins other) ∷ []) → IsToldBy before (token at (joins joint)) (mixed at)
-  too_deep : (before : List Token) (at : ℕ) (word : List ℕ) (sign : Sign) → CanGoOn (before ++ token at (name word) ∷ []) → IsToldBy before (token at sign) deep
-  misplaced : (before : List Token) (at : ℕ) (sign : Sign) → IsToldBy before (token at sign) (unexpected at)
-
 -- what the end of a text of this length tells: the innermost open parenthesis, or the end itself
 pub data IsToldByEnd : ℕ → List Token → Fault → Type 0 where
   too_short : (length : ℕ) (tokens : List Token) → open_places [] tokens ≡ [] → IsToldByEnd length tokens (unexpected length)
   inside : (length at : ℕ) (outer : List ℕ) (tokens : List Token) → open_places [] tokens ≡ at ∷ outer → IsToldByEnd length tokens (unclosed at)
 
--- the first fault stands at the first token that no expression goes on with, or at the end, where
--- an expression goes on from all tokens
-pub data IsFirstFault : ℕ → List Token → Fault → Type 0 where
-  at_token : (length : ℕ) (before after : List Token) (here : Token) (fault : Fault) → CanGoOn before → (CanGoOn (before ++ here ∷ []) → ⊥) → IsToldBy before here fault → IsFirstFault length (before ++ here ∷ after) fault
-  at_end : (length : ℕ) (tokens : List Token) (fault : Fault) → CanGoOn tokens → IsToldByEnd length tokens fault → IsFirstFault length tokens fault
+-- the first fault of a text: at its first token such that no readable text begins with the tokens up
+-- to it; or at the end of a text that isn't readable, where a readable text begins with all its tokens
+pub data IsFirstFault : List ℕ → Fault → Type 0 where
+  at_token : (text : List ℕ) (before after : List Token) (here : Token) (fault : Fault) → tokens_of text ≡ before ++ here ∷ after → CanGoOn before → (CanGoOn (before ++ here ∷ []) → ⊥) → IsToldBy before here fault → IsFirstFault text fault
+  at_end : (text : List ℕ) (fault : Fault) → CanGoOn (tokens_of text) → ((t : Tree) → Reads text t → ⊥) → IsToldByEnd (length text) (tokens_of text) fault → IsFirstFault text fault

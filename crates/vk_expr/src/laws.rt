@@ -1,6 +1,5 @@
-ghost use Rattle.std.specs.Prelude.{◌≡◌, ◌↔◌, ℕ, List, length, Ok, Err};
+ghost use Rattle.std.specs.Prelude.{◌≡◌, ◌↔◌, ℕ, List, Ok, Err};
 ghost use Rattle.vk_expr.specs.Trees.{Tree};
-ghost use Rattle.vk_expr.specs.Tokens.{tokens_of};
 ghost use Rattle.vk_expr.specs.Grammar.{Reads};
 ghost use Rattle.vk_expr.specs.Reading.{Fault, reading_of};
 ghost use Rattle.vk_expr.specs.Printing.{printed};
@@ -18,10 +17,12 @@ pub fn reading_or_fault()
     ensures fault { (text : List ℕ) (f : Fault) (t : Tree) → reading_of text ≡ Err f → Reads text t → ⊥ }
 {}
 
-/// The first fault of a text stands at its first token such that no expression begins with the tokens
-/// up to it, or at its end where an expression begins with all its tokens.
+/// A text is read as a fault exactly where that is its first fault, and it has one first fault at
+/// most. The first fault stands at the first token such that no readable text begins with the tokens
+/// up to it, or at the end where a readable text begins with all tokens.
 pub fn fault_place()
-    ensures { (text : List ℕ) (f : Fault) → reading_of text ≡ Err f → IsFirstFault (length text) (tokens_of text) f }
+    ensures place { (text : List ℕ) (f : Fault) → (reading_of text ≡ Err f) ↔ IsFirstFault text f }
+    ensures one { (text : List ℕ) (f g : Fault) → IsFirstFault text f → IsFirstFault text g → f ≡ g }
 {}
 
 /// What was read and is printed reads as the same expression.
