@@ -41,6 +41,7 @@ pub record Front (n : ℕ) (skipped : Bool) (text : List ℕ) (before : List Tok
   pub tokens : tokens_from n skipped bytes ≡ before
   pub word : skipped ≡ true → word_of bytes ≡ word_of text
 
+-- a byte before a front makes it one byte longer
 longer : (n : ℕ) (skipped : Bool) (b : ℕ) (bs : List ℕ) (before : List Token) (o : Option Sign) → sign_begun skipped b bs ≡ o → Front (n + 1) (is_word_byte b) bs before → Front n skipped (b ∷ bs) (first_of n o ++ before)
 unfolding tokens_from
 longer n skipped b bs before o begun front =

@@ -69,6 +69,7 @@ record Finishes (s : State) : Type 0 where
   tree : Tree
   ends : (n : ℕ) → (steps s (tokens_from n false text) >>= at_end 0) ≡ Ok tree
 
+-- closing parentheses end what is open after a unary
 closings : (fs : List Frame) (c : Chain) (t : Tree) → Finishes (settled fs c t)
 unfolding settled steps step at_end tokens_from sign_begun sign_of_byte
 closings [] c t = record { text = []; tree = value_of c t; ends = λ n. refl }
@@ -94,6 +95,7 @@ unfolding tokens_from sign_begun sign_of_byte
 joint_spelled both n = refl
 joint_spelled either n = refl
 
+-- every state can be led to the end
 finishes : (s : State) → IsProper s → Finishes s
 unfolding steps step
 finishes (wanted fs c) p =
@@ -130,13 +132,14 @@ can_go_on text before s r =
       reads = whole (front.bytes ++ 32 ∷ last.text) last.tree (subst (λ l. IsExpr 0 l [] last.tree) (sym tokens) (expr_from 0 (before ++ rest) last.tree ends));
     }
 
--- the tokens of a readable text have no fault
+-- the tokens of an expression have no fault
 readable_by : (tokens : List Token) (t : Tree) (f : Fault) → IsExpr 0 tokens [] t → steps start tokens ≡ Err f → ⊥
 readable_by tokens t f e fails =
     let reads : (steps start tokens >>= at_end 0) ≡ Ok t = expr_read 0 tokens t e in
     let broken : (steps start tokens >>= at_end 0) ≡ Err f = ap (λ r. r >>= at_end 0) fails in
     cc
 
+-- the tokens of a readable text have no fault
 readable_runs : (text : List ℕ) (t : Tree) (f : Fault) → Reads text t → steps start (tokens_of text) ≡ Err f → ⊥
 unfolding steps
 readable_runs _ _ f (blank text every) fails =

@@ -9,18 +9,22 @@ use Rattle.vk_expr.specs.Standing.{CanStandAfter, other_than, IsMixed, WantsUnar
 use Rattle.vk_expr.proofs.Complete.{same}
 use Rattle.vk_expr.proofs.GoingLemmas.{Reaches, name_spelled, joint_word, joint_spelled, can_stand, cannot_stand}
 
+-- where a unary is wanted, a name can stand
 unary_wanted : (text : List ℕ) (before : List Token) (fs : List Frame) (c : Chain) → Reaches text before (wanted fs c) → WantsUnary before
 unfolding step
 unary_wanted text before fs c r = (codes "a", can_stand text before (wanted fs c) (settled fs c (mark (codes "a"))) (codes "a") (name (codes "a")) r name_spelled (λ n. refl))
 
+-- after a chain, its own operator can stand
 joint_stands : (text : List ℕ) (before : List Token) (fs : List Frame) (joint : Joint) (xs : List Tree) (t : Tree) → Reaches text before (ended fs (joined joint xs) t) → CanStandAfter before (joins joint)
 unfolding step
 joint_stands text before fs joint xs t r = can_stand text before (ended fs (joined joint xs) t) (wanted fs (joined joint (xs ++ t ∷ []))) (joint_word joint) (joins joint) r (joint_spelled joint) (λ n. rw (same joint) refl)
 
+-- where a unary is wanted, no operator can stand
 no_joint : (before : List Token) (fs : List Frame) (c : Chain) (joint : Joint) → steps start before ≡ Ok (wanted fs c) → CanStandAfter before (joins joint) → ⊥
 unfolding step
 no_joint before fs c joint runs = cannot_stand before (wanted fs c) (joins joint) runs (λ n. refl)
 
+-- after a unary, no name can stand
 no_unary : (before : List Token) (fs : List Frame) (c : Chain) (t : Tree) → steps start before ≡ Ok (ended fs c t) → WantsUnary before → ⊥
 unfolding step
 no_unary before fs c t runs wants = cannot_stand before (ended fs c t) (name wants.0) runs (λ n. refl) wants.1
@@ -29,10 +33,12 @@ no_unary before fs c t runs wants = cannot_stand before (ended fs c t) (name wan
 misplaced_here : (before : List Token) (at : ℕ) (sign : Sign) (f : Fault) → unexpected at ≡ f → (IsMixed before sign → ⊥) → (IsTooDeep before sign → ⊥) → IsToldBy before (token at sign) f
 misplaced_here before at sign f is other deeper = subst (λ f. IsToldBy before (token at sign) f) is (misplaced before at sign other deeper)
 
+-- what may not be deeper tells that
 deep_here : (before : List Token) (at : ℕ) (sign : Sign) (next : State) (b : Bool) (f : Fault) → cond b (Ok next) (Err deep) ≡ Err f → IsTooDeep before sign → IsToldBy before (token at sign) f
 deep_here before at sign next true f fails deeper = cc
 deep_here before at sign next false f fails deeper = subst (λ f. IsToldBy before (token at sign) f) (cc) (too_deep before at sign deeper)
 
+-- the other operator than a chain has tells that
 mixed_here : (before : List Token) (at : ℕ) (joint other : Joint) (next : State) (f : Fault) → cond (same_joint joint other) (Ok next) (Err (mixed at)) ≡ Err f → CanStandAfter before (joins other) → IsToldBy before (token at (joins joint)) f
 mixed_here before at both both next f fails stands = cc
 mixed_here before at either either next f fails stands = cc
@@ -58,6 +64,7 @@ told_by text before (ended fs c t) (token at negates) f r fails = misplaced_here
 told_by text before (ended fs c t) (token at opens) f r fails = misplaced_here before at opens f (cc) (λ m. m) (no_unary before fs c t r.runs)
 told_by text before (ended fs c t) (token at stray) f r fails = misplaced_here before at stray f (cc) (λ m. m) (λ d. d)
 
+-- no sign is mixed and too deep
 not_both : (before : List Token) (sign : Sign) → IsMixed before sign → IsTooDeep before sign → ⊥
 not_both before (name word) m d = m
 not_both before negates m d = m

@@ -61,10 +61,10 @@ unfoldable pub open_places : List ℕ → List Token → List ℕ
 open_places ps [] = ps
 open_places ps (t ∷ ts) = open_places (open_after ps t) ts
 
--- what the end of a text of this length tells: the innermost open parenthesis, or the end itself
+-- what the end of a text, at this place, tells after these tokens: the innermost open parenthesis, or itself
 pub data IsToldByEnd : ℕ → List Token → Fault → Type 0 where
-  too_short : (length : ℕ) (tokens : List Token) → open_places [] tokens ≡ [] → IsToldByEnd length tokens (unexpected length)
-  inside : (length at : ℕ) (outer : List ℕ) (tokens : List Token) → open_places [] tokens ≡ at ∷ outer → IsToldByEnd length tokens (unclosed at)
+  too_short : (end : ℕ) (tokens : List Token) → open_places [] tokens ≡ [] → IsToldByEnd end tokens (unexpected end)
+  inside : (end at : ℕ) (outer : List ℕ) (tokens : List Token) → open_places [] tokens ≡ at ∷ outer → IsToldByEnd end tokens (unclosed at)
 
 -- the first fault of a text: at its first token such that no readable text begins with the tokens up
 -- to it; or at the end of a text that isn't readable, where a readable text begins with all its tokens

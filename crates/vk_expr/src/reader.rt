@@ -290,9 +290,10 @@ fn is_blank_text(bytes: &[u8]) -> bool
 
 /// Reads a platform expression in one pass from left to right. A text of blanks alone is `Always`.
 /// NOT is `!` or `not`, AND is `&` or `and`, OR is `|` or `,`; a level has ANDs or ORs, never both.
-/// Otherwise the first fault is told: `Unexpected` and `Mixed` at the first token that no expression
-/// goes on with, or where the text ends too early; `Open` at the innermost parenthesis that isn't
-/// closed; `Deep` where more than 64 NOTs and parentheses would be open.
+/// Otherwise the first fault is told, at the first token such that no readable text begins with the
+/// tokens up to it: `Mixed` where the other operator could stand, `Deep` for a NOT or parenthesis where
+/// a name could stand, since more than 64 would be open, and else `Unexpected`. Where the text ends too
+/// early it is `Open` at the innermost parenthesis that isn't closed, or `Unexpected` at the end.
 #[tactic(auto, unfolding(crate::specs::Reading::reading_of))]
 pub fn read(alloc: Global, text: &str) -> Result<Expr, ExprFault>
     requires short { length text.now < 2 ^ 32 }
