@@ -3,3 +3,5 @@ mod DocumentLemmas
 pub mod MovingLemmas
 mod WordLemmas
 mod DigitLemmas
+pub mod SameLemmas
+pub mod TellingLemmas

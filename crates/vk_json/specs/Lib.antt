@@ -7,3 +7,4 @@ pub mod FaultViews
 pub mod Digits
 pub mod Words
 pub mod Files
+pub mod Standing

@@ -1,1 +1,2 @@
 mod OverrideLemmas
+mod KeyLemmas

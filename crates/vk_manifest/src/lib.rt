@@ -4,7 +4,9 @@
 
 mod dependencies;
 mod features;
+mod laws;
 mod manifests;
 mod overrides;
 
+pub use laws::unknown_members;
 pub use manifests::{read_manifest, read_manifest_in};
