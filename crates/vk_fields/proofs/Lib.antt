@@ -1,3 +1,4 @@
 pub mod Saying
 pub mod Schemes
 pub mod SameLemmas
+pub mod TellingLemmas

@@ -117,7 +117,8 @@ says_member : {A : Type 0} (P : A → Type 0) (ms : Members) (key : List ℕ) (v
 says_member P ms key v (Ok x) has says = says
 says_member P ms key v (Err e) has says = stands_member ms key v e has says
 
-says_under : {A : Type 0} (P : A → Type 0) (key : List ℕ) (d v : Data) (r : Result A Fault) → get key d ≡ Some v → Says P v r → Says P d (inside (member_step key) r)
+-- what is said of a member's reading is said of it from outside
+pub says_under : {A : Type 0} (P : A → Type 0) (key : List ℕ) (d v : Data) (r : Result A Fault) → get key d ≡ Some v → Says P v r → Says P d (inside (member_step key) r)
 says_under P key d v r found says =
     let has = get_has key d v found in
     rw has.1 (says_member P has.0 key v r has.2 says)
@@ -209,3 +210,12 @@ after_says Good f ds earlier n (v ∷ xs) are reads good =
 pub list_after_says : {A : Type 0} (Good : List A → Type 0) (f : List A → Reading A) → ((earlier : List A) → Good earlier → Reads (λ y. Good (earlier ++ y ∷ [])) (f earlier)) → Good []
     → (ds : Items) → Says Good (json.array ds) (read_after (λ before m v. inside (item_step m) (f before v)) [] 0 (list_of ds))
 list_after_says Good f reads good ds = after_says Good f ds [] 0 (list_of ds) (λ k v e. let at_k : k ≡ k + 0 = omega arith in subst (λ m. slice_get (list_of ds) m ≡ Some v) at_k e) reads good
+
+-- what is said of the fault that was told, and of the value that was given
+pub told_stands : {A : Type 0} (P : A → Type 0) (d : Data) (r : Result A Fault) (fault : Fault) → Says P d r → r ≡ Err fault → StandsIn d fault
+told_stands P d (Ok x) fault says e = (cc)
+told_stands P d (Err told) fault says e = let same : told ≡ fault = cc in subst (StandsIn d) same says
+
+pub given_has : {A : Type 0} (P : A → Type 0) (d : Data) (r : Result A Fault) (x : A) → Says P d r → r ≡ Ok x → P x
+given_has P d (Ok y) x says e = let same : y ≡ x = cc in subst P same says
+given_has P d (Err told) x says e = (cc)

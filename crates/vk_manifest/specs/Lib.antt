@@ -1,2 +1,3 @@
 pub mod Manifests
 pub mod Keys
+pub mod Names

@@ -8,5 +8,5 @@ mod laws;
 mod manifests;
 mod overrides;
 
-pub use laws::unknown_members;
+pub use laws::{fault_places, manifest_names, unknown_members};
 pub use manifests::{read_manifest, read_manifest_in};

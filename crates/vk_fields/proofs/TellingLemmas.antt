@@ -1,0 +1,137 @@
+-- What readings of texts and versions give, and where what they tell stands.
+use Rattle.std.proofs.Common.{◌≡◌, ◌≢◌, ℕ, Bool, true, false, List, [], ◌∷◌, refl, ap, sym, ◌∙◌, subst}
+use Rattle.std.specs.Prelude.{Option, Some, None, IsSome, Result, Ok, Err, codes}
+use Rattle.std.specs.Option.{is_some}
+use Rattle.serde_json.specs.Data.{Data}
+use Rattle.serde_json.specs.Find.{get}
+use Rattle.vk_spec.specs.Reading.{◌>>=◌, or_fault}
+use Rattle.vk_base.specs.Names.{NameWrong, bad, reserved, IsName, IsFeatureName, NameRule, port_rule, named, name_fault, reads_name, reads_feature}
+use Rattle.vk_base.specs.PathReading.{path_of}
+use Rattle.vk_base.proofs.NameLemmas.{rule_from_no_fault}
+use Rattle.vk_base.proofs.FeatureLemmas.{feature-holds, feature-same}
+use Rattle.vk_version.specs.Schemes as version
+use Rattle.vk_version.specs.Schemes.{Scheme, relaxed, semver, date, string}
+use Rattle.vk_version.specs.Readings.{reads_ask, reads_version, unless, string_fault}
+use Rattle.vk_expr.specs.Reading as expression
+use Rattle.vk_expr.specs.Reading.{reading_of}
+use Rattle.vk_json.specs.Documents.{Fault}
+use Rattle.vk_json.specs.declared.faults.Why.{Why}
+use Rattle.vk_json.specs.declared.faults.Why.TheVariants as why
+use Rattle.vk_json.specs.Places.{here, member_step}
+use Rattle.vk_json.specs.Readings.{text_at, number_at, wanted}
+use Rattle.vk_json.specs.Standing.{StandsIn}
+use Rattle.vk_json.proofs.TellingLemmas.{Says, Reads, Anything, says_then, says_weaker, or_says, told_here, told_at, text_says, number_says, wanted_says, optional_or_says}
+use Rattle.vk_fields.specs.Wording.{name_word, path_word, version_word, expression_word}
+use Rattle.vk_fields.specs.Texts.{said_here, by_rule, port_name_at, feature_name_at, path_at, expression_at, ask_at, plain_at}
+use Rattle.vk_fields.specs.Versions.{key_of, scheme_in, scheme_by, after_found, next_scheme, port_version_at, version_text_at, version_with, version_if, version_at, version_needed_at, ask_under}
+use Rattle.vk_fields.proofs.Schemes.{by_is_in}
+
+-- ---- no rule's fault is told as a missing member
+
+pub name_there : (fault : NameWrong) → name_word fault ≢ why.Missing
+name_there (bad at) e = (cc)
+name_there reserved e = (cc)
+
+version_there : (fault : version.Fault) → version_word fault ≢ why.Missing
+version_there version.shape e = (cc)
+version_there version.number e = (cc)
+version_there version.day e = (cc)
+version_there version.suffix e = (cc)
+
+expression_there : (fault : expression.Fault) → expression_word fault ≢ why.Missing
+expression_there (expression.unexpected at) e = (cc)
+expression_there (expression.mixed at) e = (cc)
+expression_there (expression.unclosed at) e = (cc)
+expression_there expression.deep e = (cc)
+
+-- ---- texts
+
+pub said_says : {A F : Type 0} (word : F → Why) (P : A → Type 0) (d : Data) (said : Result A F) → ((fault : F) → word fault ≢ why.Missing) → ((x : A) → said ≡ Ok x → P x) → Says P d (said_here word said)
+said_says word P d (Ok x) there keeps = keeps x refl
+said_says word P d (Err fault) there keeps = told_here d (word fault) (there fault)
+
+by_rule_says : {A F : Type 0} (word : F → Why) (rule : List ℕ → Result A F) (P : A → Type 0) → ((fault : F) → word fault ≢ why.Missing) → ((text : List ℕ) (x : A) → rule text ≡ Ok x → P x) → Reads P (by_rule word rule)
+by_rule_says word rule P there keeps d =
+    says_then Anything P d (text_at d) (λ text. said_here word (rule text)) (text_says d) (λ text any. said_says word P d (rule text) there (keeps text))
+
+named_keeps : (rule : NameRule) (text name : List ℕ) (fault : Option ℕ) → name_fault rule text ≡ fault → named text fault ≡ Ok name → IsName rule name
+named_keeps rule text name None none e = let same : text ≡ name = cc in subst (IsName rule) same (rule_from_no_fault rule text none)
+named_keeps rule text name (Some at) fault e = (cc)
+
+pub port_name_says : Reads (IsName port_rule) port_name_at
+port_name_says = by_rule_says name_word (reads_name port_rule) (IsName port_rule) name_there (λ text name e. named_keeps port_rule text name (name_fault port_rule text) refl e)
+
+-- a text that reads as a feature's name is that name
+pub feature_keeps : (text name : List ℕ) → reads_feature text ≡ Ok name → IsFeatureName name
+feature_keeps text name e = subst IsFeatureName (sym (feature-same text name e)) (feature-holds text name e)
+
+pub feature_name_says : Reads IsFeatureName feature_name_at
+feature_name_says = by_rule_says name_word reads_feature IsFeatureName name_there feature_keeps
+
+pub path_says : Reads Anything path_at
+path_says = by_rule_says path_word path_of Anything (λ wrong e. (cc)) (λ text path e. tt)
+
+pub expression_says : Reads Anything expression_at
+expression_says = by_rule_says expression_word reading_of Anything expression_there (λ text tree e. tt)
+
+pub ask_says : Reads Anything ask_at
+ask_says = by_rule_says version_word reads_ask Anything version_there (λ text ask e. tt)
+
+plain_says : Reads Anything plain_at
+plain_says = by_rule_says version_word (λ text. unless (string_fault text) text) Anything version_there (λ text plain e. tt)
+
+version_text_says : (scheme : Scheme) (port : ℕ) → Reads Anything (version_text_at scheme port)
+version_text_says scheme port = by_rule_says version_word (λ text. reads_version scheme text port) Anything version_there (λ text v e. tt)
+
+-- ---- versions
+
+module _ (d : Data) where
+  found_says : (found : Option Scheme) (next : Scheme) (member : Option Data) → get (key_of next) d ≡ member → IsSome member → Says Anything d (after_found found next)
+  found_says None next member e there = tt
+  found_says (Some found) next (Some v) e there = told_at (key_of next) d v why.TwoVersions e (λ same. (cc))
+  found_says (Some found) next None e there = let no : false ≡ true = there in (cc)
+
+  next_by : (found : Option Scheme) (next : Scheme) (b : Bool) → is_some (get (key_of next) d) ≡ b → Says Anything d (next_scheme found next d)
+  next_by found next true there = rw there (found_says found next (get (key_of next) d) refl there)
+  next_by found next false there = rw there tt
+
+  next_says : (found : Option Scheme) (next : Scheme) → Says Anything d (next_scheme found next d)
+  next_says found next = next_by found next (is_some (get (key_of next) d)) refl
+
+  by_says : Says Anything d (scheme_by d)
+  unfolding scheme_by
+  by_says =
+      says_then Anything Anything d (next_scheme None relaxed d) (λ first. next_scheme first semver d >>= λ second. next_scheme second date d >>= λ third. next_scheme third string d) (next_says None relaxed) (λ first any.
+      says_then Anything Anything d (next_scheme first semver d) (λ second. next_scheme second date d >>= λ third. next_scheme third string d) (next_says first semver) (λ second any.
+      says_then Anything Anything d (next_scheme second date d) (λ third. next_scheme third string d) (next_says second date) (λ third any. next_says third string)))
+
+  pub scheme_says : Says Anything d (scheme_in d)
+  scheme_says = subst (λ r. Says Anything d r) (by_is_in d) by_says
+
+  port_says : Says Anything d (port_version_at d)
+  port_says = optional_or_says Anything number_at number_says (codes "port-version") d 0 tt
+
+  with_says : (scheme : Scheme) (port : Result ℕ Fault) → Says Anything d port → Says Anything d (version_with scheme port d)
+  with_says scheme (Ok port) says = wanted_says Anything (version_text_at scheme port) (version_text_says scheme port) (key_of scheme) d
+  with_says scheme (Err fault) says =
+      says_then Anything Anything d (wanted (version_text_at scheme 0) (key_of scheme) d) (λ version. Err fault) (wanted_says Anything (version_text_at scheme 0) (version_text_says scheme 0) (key_of scheme) d) (λ version any. says)
+
+  if_says : (scheme : Option Scheme) → Says Anything d (version_if scheme d)
+  if_says None = says_then Anything Anything d (port_version_at d) (λ port. Ok None) port_says (λ port any. tt)
+  if_says (Some scheme) = says_then Anything Anything d (version_with scheme (port_version_at d) d) (λ version. Ok (Some version)) (with_says scheme (port_version_at d) port_says) (λ version any. tt)
+
+  pub version_says : Says Anything d (version_at d)
+  unfolding version_at
+  version_says = says_then Anything Anything d (scheme_in d) (λ scheme. version_if scheme d) scheme_says (λ scheme any. if_says scheme)
+
+  pub version_needed_says : Says Anything d (version_needed_at d)
+  unfolding version_needed_at
+  version_needed_says =
+      says_then Anything Anything d (scheme_in d) (λ found. or_fault (here why.NoVersion) found >>= λ scheme. version_with scheme (port_version_at d) d) scheme_says (λ found any.
+      says_then Anything Anything d (or_fault (here why.NoVersion) found) (λ scheme. version_with scheme (port_version_at d) d) (or_says d why.NoVersion found (λ e. (cc))) (λ scheme any. with_says scheme (port_version_at d) port_says))
+
+  pub ask_under_says : (key : List ℕ) → Says Anything d (ask_under key d)
+  unfolding ask_under
+  ask_under_says key =
+      says_then Anything Anything d (wanted plain_at key d) (λ text. port_version_at d >>= λ port. Ok (record { text = text; port = port })) (wanted_says Anything plain_at plain_says key d) (λ text any.
+      says_then Anything Anything d (port_version_at d) (λ port. Ok (record { text = text; port = port })) port_says (λ port any. tt))
