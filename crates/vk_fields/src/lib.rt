@@ -10,3 +10,6 @@ mod wording;
 pub use texts::{AskText, ExpressionText, FeatureNameText, PathText, PlainText, PortNameText};
 pub use versions::{ask_under, key, port_version, scheme, version, version_needed};
 pub use wording::{wrong_expression, wrong_name, wrong_path, wrong_version};
+
+#[cfg(test)]
+mod tests;
