@@ -11,7 +11,11 @@ fn doc(alloc: Global, text: &str) -> Result<Doc, Fail> {
 }
 
 fn read<R: Reader>(alloc: Global, doc: &Doc, key: &str, reader: &R) -> Result<R::Out, Fail> {
-    Ok(wanted(alloc, doc.value(), key, reader).ok().ok_or("no value")?)
+    Ok(
+        wanted(alloc, doc.value(), key, reader)
+            .ok()
+            .ok_or("no value")?,
+    )
 }
 
 #[test]
@@ -22,7 +26,10 @@ fn texts_are_read_by_their_rules(rt: HostRuntime) -> Result<(), Fail> {
         "{\"port\":\"fmt\",\"feature\":\"x\",\"path\":\"a/b\",\"when\":\"\",\"ask\":\"1#2\",\"plain\":\"1\"}",
     )?;
     assert_eq!(rt; read(alloc, &doc, "port", &PortNameText)?.as_str(), "fmt");
-    assert_eq!(rt; read(alloc, &doc, "feature", &FeatureNameText)?.as_str(), "x");
+    assert_eq!(rt;
+        read(alloc, &doc, "feature", &FeatureNameText)?.as_str(),
+        "x"
+    );
     assert_eq!(rt; read(alloc, &doc, "path", &PathText)?.parts().len(), 2);
     assert_eq!(rt; read(alloc, &doc, "ask", &AskText)?.port, 2);
     assert_eq!(rt; read(alloc, &doc, "plain", &PlainText)?.as_str(), "1");
@@ -33,7 +40,10 @@ fn texts_are_read_by_their_rules(rt: HostRuntime) -> Result<(), Fail> {
 #[test]
 fn a_version_is_read_with_its_port_version(rt: HostRuntime) -> Result<(), Fail> {
     let alloc = rt.alloc();
-    let doc = doc(alloc, "{\"version-date\":\"2024-02-29\",\"port-version\":3}")?;
+    let doc = doc(
+        alloc,
+        "{\"version-date\":\"2024-02-29\",\"port-version\":3}",
+    )?;
     let value = doc.value();
     let scheme = scheme(alloc, value).ok().ok_or("a fault")?;
     let key = key(scheme.ok_or("no scheme")?);
@@ -58,7 +68,10 @@ fn word(fault: FileFault) -> Result<Why, Fail> {
 #[test]
 fn each_fault_has_its_word(rt: HostRuntime) -> Result<(), Fail> {
     let alloc = rt.alloc();
-    assert_eq!(rt; word(wrong_name(alloc, NameFault::Reserved))?, Why::Reserved);
+    assert_eq!(rt;
+        word(wrong_name(alloc, NameFault::Reserved))?,
+        Why::Reserved
+    );
     assert_eq!(rt; word(wrong_path(alloc, PathFault::Empty))?, Why::Path);
     assert_eq!(rt; word(wrong_version(alloc, VersionFault::Day))?, Why::Day);
     assert_eq!(rt; word(wrong_expression(alloc, ExprFault::Deep))?, Why::Depth);

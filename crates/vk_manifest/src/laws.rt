@@ -18,21 +18,18 @@ pub fn unknown_members()
     ensures feature_use { (ms ns : Members) → AgreeOn use_keys (object ms) (object ns) → use_at (object ms) ≡ use_at (object ns) }
     ensures feature { (name : List ℕ) (ms ns : Members) → AgreeOn feature_keys (object ms) (object ns) → feature_at name (object ms) ≡ feature_at name (object ns) }
     ensures version_override { (earlier : List (List ℕ)) (ms ns : Members) → AgreeOn override_keys (object ms) (object ns) → override_from earlier (object ms) ≡ override_from earlier (object ns) }
-{
-}
+{}
 
 /// Every fault of a document is told at a value that is there, but for a member that is missing, which
 /// is told at its key. Bytes that are no document have one fault, at the whole.
 pub fn fault_places()
     ensures document { (bytes : List ℕ) (root : Bool) (d : Data) (fault : Fault) → json_of bytes ≡ Ok d → manifest_of bytes root ≡ Err fault → StandsIn d fault }
     ensures no_document { (bytes : List ℕ) (root : Bool) (fault : Fault) → json_of bytes ≡ Err fault → (manifest_of bytes root ≡ Err fault) × (fault ≡ here why.Json) }
-{
-}
+{}
 
 /// What every manifest that reads has: names that keep their rules, and no port overridden twice. A
 /// port's has a name and a version, and no overrides.
 pub fn manifest_names()
     ensures names { (bytes : List ℕ) (root : Bool) (m : Manifest Tree) → manifest_of bytes root ≡ Ok m → IsNamed m }
     ensures port { (bytes : List ℕ) (m : Manifest Tree) → manifest_of bytes false ≡ Ok m → IsPort m }
-{
-}
+{}
