@@ -1,0 +1,7 @@
+mod FrontLemmas
+mod OrderLemmas
+mod StepLemmas
+mod AskLemmas
+mod FolderLemmas
+mod TableLemmas
+mod EntryLemmas

@@ -1,0 +1,6 @@
+pub mod Fronts
+pub mod Folders
+pub mod Tables
+pub mod TableViews
+pub mod Baselines
+pub mod BaselineViews

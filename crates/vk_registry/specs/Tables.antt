@@ -1,0 +1,82 @@
+-- A versions file: the versions of a port that a registry has, each with the port's folder.
+use Rattle.std.specs.Prelude.{◌≡◌, ◌==◌, ◌&&◌, [], ℕ, Bool, List, Option, Some, None, Result, Ok, Err, codes, map, slice_get, if◌then◌else◌}
+use Rattle.std.specs.List.{All, Contains, list_any}
+use Rattle.std.specs.Str.{bytes_eq}
+use Rattle.serde_json.specs.Data.{Data}
+use Rattle.vk_spec.specs.Lists.{NoRepeats}
+use Rattle.vk_spec.specs.Paths.{Path}
+use Rattle.vk_spec.specs.Reading.{◌>>=◌, or_fault, read_after}
+use Rattle.vk_spec.specs.Versions.{Version, Ask}
+use Rattle.vk_json.specs.declared.faults.Why.TheVariants as why
+use Rattle.vk_json.specs.Documents.{Fault, json_of}
+use Rattle.vk_json.specs.Looks.{items_of}
+use Rattle.vk_json.specs.Places.{here, inside, item_step}
+use Rattle.vk_json.specs.Readings.{Reading, object_at, wanted}
+use Rattle.vk_fields.specs.Versions.{version_needed_at}
+use Rattle.vk_registry.specs.Folders.{IsBelow, folder_at}
+
+-- a version, and the folder of its port below the registry
+pub record Row : Type 0 where
+  pub version : Version
+  pub path : Path
+
+-- the ask that means a row: its version's text and port-version
+abbrev pub ask_in : Row → Ask
+ask_in row = record { text = row.version.text; port = row.version.port }
+
+-- a row, whose version has to be there
+unfoldable pub row_at : Reading Row
+row_at d = do
+  object ← object_at d
+  version ← version_needed_at d
+  path ← wanted folder_at (codes "path") d
+  Ok (record { version = version; path = path })
+
+-- two asks are one where text and port-version are
+abbrev pub same_ask : Ask → Ask → Bool
+same_ask a b = bytes_eq a.text b.text && (a.port == b.port)
+
+-- an ask that is none of these
+abbrev pub new_ask : List Ask → Ask → Result (Unit {0}) Fault
+new_ask asks ask = if list_any (same_ask ask) asks then Err (here why.Twice) else Ok tt
+
+-- a row whose ask is none of these
+unfoldable pub row_from : List Ask → Reading Row
+row_from asks d = do
+  row ← row_at d
+  new ← new_ask asks (ask_in row)
+  Ok row
+
+abbrev pub asks_of : List Row → List Ask
+asks_of rows = map ask_in rows
+
+-- a row, after those before it
+abbrev pub row_item : List Row → ℕ → Reading Row
+row_item earlier n d = inside (item_step n) (row_from (asks_of earlier) d)
+
+unfoldable pub rows_at : Reading (List Row)
+rows_at d = or_fault (here why.List) (items_of d) >>= read_after row_item [] 0
+
+unfoldable pub table_at : Reading (List Row)
+table_at d = object_at d >>= λ object. wanted rows_at (codes "versions") d
+
+-- the rows of a versions file, by its bytes
+abbrev pub table_of : List ℕ → Result (List Row) Fault
+table_of bytes = json_of bytes >>= table_at
+
+-- what every table keeps
+pub record IsTable (rows : List Row) : Type 0 where
+  -- no two rows have the same text and port-version
+  pub distinct : NoRepeats (asks_of rows)
+  -- each folder is below the registry
+  pub below : All (λ row. IsBelow row.path) rows
+
+-- the row at this place has the text and the port-version of the ask
+pub record IsRowAt (rows : List Row) (ask : Ask) (place : ℕ) : Type 0 where
+  pub row : Row
+  pub stands : slice_get rows place ≡ Some row
+  pub asked : ask_in row ≡ ask
+
+-- no row has them
+abbrev pub HasNoRow : List Row → Ask → Type 0
+HasNoRow rows ask = Contains (asks_of rows) ask → ⊥
