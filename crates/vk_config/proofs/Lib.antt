@@ -1,0 +1,4 @@
+mod CutLemmas
+mod StepLemmas
+mod ClosenessLemmas
+mod ServingLaws

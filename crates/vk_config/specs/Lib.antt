@@ -1,0 +1,9 @@
+pub mod Configs
+pub mod Patterns
+pub mod Registries
+pub mod Readings
+pub mod Embedding
+pub mod Serving
+pub mod Views
+pub mod Closeness
+pub mod FoundViews

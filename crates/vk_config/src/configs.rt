@@ -1,0 +1,117 @@
+//! A configuration: in a file of its own, or in a root manifest.
+ghost use Rattle.std.specs.Prelude.{◌≡◌, List, Option, map, option_map};
+ghost use Rattle.serde_json.specs.View.{view};
+ghost use Rattle.vk_spec.specs.Reading.{Gives};
+ghost use Rattle.vk_json.specs.DocumentView.{file_fault_of};
+ghost use Rattle.vk_config.specs.Configs as plain;
+ghost use Rattle.vk_config.specs.Registries.{source_at};
+ghost use Rattle.vk_config.specs.Readings.{unless_null, paths_under, registries_in, config_at, config_of};
+ghost use Rattle.vk_config.specs.Views.{source_view, registry_view, config_view};
+
+use crate::registries::{Registry, RegistryObject, Source, SourceObject};
+use serde_json::Value;
+use std::alloc::Global;
+use vk_base::{List, TreePath};
+use vk_fields::PathText;
+use vk_json::{Doc, FileFault, ListOf, Reader, object, optional_or};
+
+/// What a project says of registries and overlays.
+#[derive(Drop)]
+pub struct Config {
+    /// The registries with patterns, in their order.
+    pub registries: List<Registry>,
+    /// Where a port comes from that no pattern takes.
+    pub default: Option<Source>,
+    /// Folders of ports that stand before every registry, from the project's folder on.
+    pub overlay_ports: List<TreePath>,
+    /// Folders of triplet files, from the project's folder on.
+    pub overlay_triplets: List<TreePath>,
+}
+
+/// What a root manifest has of a configuration.
+#[derive(Drop)]
+pub enum Embedded {
+    /// None.
+    Nothing,
+    /// One, under one of its two keys.
+    One(Config),
+    /// Both keys are there.
+    Two,
+}
+
+// Reads a default registry, which may be null.
+#[derive(Drop)]
+struct DefaultSource;
+
+impl Reader for DefaultSource {
+    type Out = Option<Source>;
+
+    ghost Plain = { Option plain.Source };
+
+    ghost plain = { option_map source_view };
+
+    ghost reads = { λ r. unless_null source_at };
+
+    fn read(&self, alloc: Global, value: &Value) -> Result<Option<Source>, FileFault> {
+        if value.is_null() {
+            return Ok(None);
+        }
+        Ok(Some(SourceObject.read(alloc, value)?))
+    }
+}
+
+fn paths(alloc: Global, value: &Value, key: &str) -> Result<List<TreePath>, FileFault>
+    ensures { Gives (λ paths. paths) file_fault_of result (paths_under key.now (view value.now)) }
+{
+    optional_or(alloc, value, key, &ListOf(PathText), List::new(alloc))
+}
+
+fn registries(alloc: Global, value: &Value) -> Result<List<Registry>, FileFault>
+    ensures { Gives (map registry_view) file_fault_of result (registries_in (view value.now)) }
+{
+    optional_or(
+        alloc,
+        value,
+        "registries",
+        &ListOf(RegistryObject),
+        List::new(alloc),
+    )
+}
+
+/// Reads a configuration.
+#[derive(Drop)]
+pub struct ConfigObject;
+
+#[tactic(auto, unfolding(crate::specs::Readings::config_at))]
+impl Reader for ConfigObject {
+    type Out = Config;
+
+    ghost Plain = { plain.Config };
+
+    ghost plain = { config_view };
+
+    ghost reads = { λ r. config_at };
+
+    fn read(&self, alloc: Global, value: &Value) -> Result<Config, FileFault> {
+        object(alloc, value)?;
+        let default = optional_or(alloc, value, "default-registry", &DefaultSource, None)?;
+        let overlay_ports = paths(alloc, value, "overlay-ports")?;
+        let overlay_triplets = paths(alloc, value, "overlay-triplets")?;
+        let registries = registries(alloc, value)?;
+        Ok(Config {
+            registries,
+            default,
+            overlay_ports,
+            overlay_triplets,
+        })
+    }
+}
+
+/// Reads a configuration file: the configuration, or its first fault in the order `default-registry`,
+/// `overlay-ports`, `overlay-triplets`, `registries`. Other keys are passed over.
+pub fn read_config(alloc: Global, bytes: &[u8]) -> Result<Config, FileFault>
+    ensures { Gives config_view file_fault_of result (config_of bytes.now) }
+{
+    let doc = Doc::read(alloc, bytes)?;
+    ConfigObject.read(alloc, doc.value())
+}

@@ -1,0 +1,16 @@
+//! A project's configuration: its registries, with the ports that each serves, and its overlays. It
+//! promises upwards that a file is the configuration that its definition gives, or the first fault
+//! with its place, and that a port goes to exactly the registry whose pattern takes it best.
+#![tactic(auto)]
+
+mod configs;
+mod embedding;
+mod patterns;
+mod registries;
+mod serving;
+
+pub use configs::{Config, Embedded, read_config};
+pub use embedding::{embedded, embedded_in};
+pub use patterns::Pattern;
+pub use registries::{Registry, Source};
+pub use serving::{registry_of, serving_rule};
