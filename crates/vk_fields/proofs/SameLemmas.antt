@@ -1,7 +1,6 @@
 -- The version of two values that have the same members under its keys.
-use Rattle.std.proofs.Common.{◌≡◌, ℕ, List, [], ◌∷◌, ap, refl}
+use Rattle.std.proofs.Common.{◌≡◌, ℕ, ap, refl}
 use Rattle.std.specs.Prelude.{Option, Some, None, Result, Ok, Err, codes}
-use Rattle.std.specs.Option.{is_some}
 use Rattle.serde_json.specs.Data.{Data}
 use Rattle.serde_json.specs.Find.{get}
 use Rattle.vk_spec.specs.Reading.{◌>>=◌, or_fault}

@@ -1,6 +1,6 @@
 -- Looking for the schemes key by key finds the one that is there.
-use Rattle.std.proofs.Common.{◌≡◌, ℕ, Bool, true, false, List, [], ◌∷◌, refl}
-use Rattle.std.specs.Prelude.{Option, Some, None, Result, Ok, Err, if◌then◌else◌}
+use Rattle.std.proofs.Common.{◌≡◌, Bool, true, false, [], ◌∷◌, refl}
+use Rattle.std.specs.Prelude.{Option, None, Result, Ok, if◌then◌else◌}
 use Rattle.std.specs.List.{filter}
 use Rattle.std.specs.Option.{is_some}
 use Rattle.serde_json.specs.Data.{Data}
@@ -8,7 +8,7 @@ use Rattle.serde_json.specs.Find.{get}
 use Rattle.vk_spec.specs.Reading.{◌>>=◌}
 use Rattle.vk_json.specs.Documents.{Fault}
 use Rattle.vk_version.specs.Schemes.{Scheme, relaxed, semver, date, string}
-use Rattle.vk_fields.specs.Versions.{key_of, after_found, next_scheme, only_scheme, schemes_in, scheme_in, scheme_by}
+use Rattle.vk_fields.specs.Versions.{key_of, after_found, only_scheme, scheme_in, scheme_by}
 
 -- one key that is there or isn't
 abbrev looks : (Scheme → Bool) → Option Scheme → Scheme → Result (Option Scheme) Fault

@@ -1,5 +1,5 @@
 -- What readings of texts and versions give, and where what they tell stands.
-use Rattle.std.proofs.Common.{◌≡◌, ◌≢◌, ℕ, Bool, true, false, List, [], ◌∷◌, refl, ap, sym, ◌∙◌, subst}
+use Rattle.std.proofs.Common.{◌≡◌, ◌≢◌, ℕ, Bool, true, false, List, refl, sym, subst}
 use Rattle.std.specs.Prelude.{Option, Some, None, IsSome, Result, Ok, Err, codes}
 use Rattle.std.specs.Option.{is_some}
 use Rattle.serde_json.specs.Data.{Data}
@@ -17,10 +17,9 @@ use Rattle.vk_expr.specs.Reading.{reading_of}
 use Rattle.vk_json.specs.Documents.{Fault}
 use Rattle.vk_json.specs.declared.faults.Why.{Why}
 use Rattle.vk_json.specs.declared.faults.Why.TheVariants as why
-use Rattle.vk_json.specs.Places.{here, member_step}
+use Rattle.vk_json.specs.Places.{here}
 use Rattle.vk_json.specs.Readings.{text_at, number_at, wanted}
-use Rattle.vk_json.specs.Standing.{StandsIn}
-use Rattle.vk_json.proofs.TellingLemmas.{Says, Reads, Anything, says_then, says_weaker, or_says, told_here, told_at, text_says, number_says, wanted_says, optional_or_says}
+use Rattle.vk_json.proofs.TellingLemmas.{Says, Reads, Anything, says_then, or_says, told_here, told_at, text_says, number_says, wanted_says, optional_or_says}
 use Rattle.vk_fields.specs.Wording.{name_word, path_word, version_word, expression_word}
 use Rattle.vk_fields.specs.Texts.{said_here, by_rule, port_name_at, feature_name_at, path_at, expression_at, ask_at, plain_at}
 use Rattle.vk_fields.specs.Versions.{key_of, scheme_in, scheme_by, after_found, next_scheme, port_version_at, version_text_at, version_with, version_if, version_at, version_needed_at, ask_under}

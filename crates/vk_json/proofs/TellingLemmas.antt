@@ -1,5 +1,5 @@
 -- What every reading gives, and where each fault that it tells stands.
-use Rattle.std.proofs.Common.{◌≡◌, ◌≢◌, ◌+◌, ℕ, zero, suc, List, [], ◌∷◌, ◌++◌, refl, ap, sym, ◌∙◌, subst, arith, append_assoc}
+use Rattle.std.proofs.Common.{◌≡◌, ◌≢◌, ◌+◌, ℕ, zero, suc, List, [], ◌∷◌, ◌++◌, refl, sym, subst, arith, append_assoc}
 use Rattle.std.specs.Prelude.{Option, Some, None, IfSome, IsSome, Result, Ok, Err, MatchResult, slice_get}
 use Rattle.std.specs.List.{All, Contains}
 use Rattle.std.specs.declared.cmp.Ordering.{Ordering}
@@ -20,7 +20,7 @@ use Rattle.vk_json.specs.declared.faults.Why.TheVariants as why
 use Rattle.vk_json.specs.Looks.{list_of}
 use Rattle.vk_json.specs.Places.{here, moved, inside, member_step, item_step}
 use Rattle.vk_json.specs.Readings.{Reading, MemberReading, text_at, bool_at, number_at, members_at, object_at, if_there, wanted, optional, read_or, optional_or, text_or_object, item_at, each_item, pairs_of, member_at, each_member}
-use Rattle.vk_json.specs.Standing.{Leads, itself, by_member, by_item, StandsIn, at_value, at_key}
+use Rattle.vk_json.specs.Standing.{itself, by_member, by_item, StandsIn, at_value, at_key}
 
 -- ---- members and items
 

@@ -1,7 +1,7 @@
 -- Members that the manual doesn't name change nothing.
 use Rattle.std.proofs.Common.{◌≡◌, ℕ, Bool, true, false, List, [], arith, refl}
-use Rattle.std.specs.Prelude.{Option, Some, None, codes}
-use Rattle.serde_json.specs.Data.{Data, Members, object}
+use Rattle.std.specs.Prelude.{codes}
+use Rattle.serde_json.specs.Data.{Members, object}
 use Rattle.serde_json.specs.Find.{get}
 use Rattle.vk_version.specs.Schemes.{Scheme, relaxed, semver, date, string}
 use Rattle.vk_expr.specs.Trees.{always}
@@ -15,7 +15,7 @@ use Rattle.vk_fields.specs.Wording.{name_word}
 use Rattle.vk_fields.specs.Texts.{said_here, port_name_at, feature_name_at, expression_at, ask_at}
 use Rattle.vk_fields.specs.Versions.{key_of}
 use Rattle.vk_fields.proofs.SameLemmas.{scheme_same, version_same, version_needed_same, ask_same}
-use Rattle.vk_manifest.specs.Manifests.{use_at, use_of_object, dependency_at, dependency_of_object, dependencies_in, feature_at, features_in, new_name, override_from, overrides_at, name_in, version_in, overrides_if, manifest_at}
+use Rattle.vk_manifest.specs.Manifests.{use_at, use_of_object, dependency_at, dependency_of_object, feature_at, new_name, override_from, overrides_at, name_in, version_in, overrides_if, manifest_at}
 use Rattle.vk_manifest.specs.Keys.{manifest_keys, dependency_keys, use_keys, feature_keys, override_keys, AgreeOn}
 
 module _ (ms ns : Members) where

@@ -1,6 +1,6 @@
 -- What the parts of a manifest give, and where what they tell stands.
-use Rattle.std.proofs.Common.{◌≡◌, ℕ, Bool, true, false, List, [], ◌∷◌, ◌++◌, inl, inr, refl, ap, sym, ◌∙◌, subst}
-use Rattle.std.specs.Prelude.{Option, Some, None, IfSome, IsSome, Result, Ok, Err, codes, if◌then◌else◌}
+use Rattle.std.proofs.Common.{◌≡◌, ℕ, Bool, true, false, List, [], ◌∷◌, ◌++◌, inl, inr, refl, sym, subst}
+use Rattle.std.specs.Prelude.{Option, Some, None, IfSome, IsSome, Ok, Err, codes, if◌then◌else◌}
 use Rattle.std.specs.List.{All, Contains, list_any}
 use Rattle.std.specs.Str.{bytes_eq}
 use Rattle.std.proofs.lemmas.List.{map-append}
@@ -9,23 +9,21 @@ use Rattle.std.proofs.lemmas.Slice.Eq.{bytes_eq-Decides}
 use Rattle.serde_json.specs.Data.{Data}
 use Rattle.serde_json.specs.Data as json
 use Rattle.serde_json.specs.Find.{get}
-use Rattle.vk_spec.specs.Reading.{◌>>=◌, or_fault}
 use Rattle.vk_spec.specs.Lists.{NoRepeats}
-use Rattle.vk_spec.specs.Versions.{Version}
-use Rattle.vk_spec.specs.Manifests.{FeatureUse, Dependency, Feature, Override, Manifest}
+use Rattle.vk_spec.specs.Manifests.{Override, Manifest}
 use Rattle.vk_spec.proofs.ListLemmas.{contains_nothing, contains_cases, no_repeats_push}
 use Rattle.vk_base.specs.Names.{IsName, IsFeatureName, port_rule, reads_feature}
 use Rattle.vk_base.proofs.NameLemmas.{neither}
 use Rattle.vk_expr.specs.Trees.{Tree, always}
 use Rattle.vk_json.specs.declared.faults.Why.TheVariants as why
 use Rattle.vk_json.specs.Places.{here, inside, member_step}
-use Rattle.vk_json.specs.Readings.{Reading, bool_at, optional, each_item, each_member}
+use Rattle.vk_json.specs.Readings.{bool_at, optional, each_item, each_member}
 use Rattle.vk_json.proofs.TellingLemmas.{Says, Reads, Anything, says_then, says_weaker, says_under, or_says, told_here, bool_says, object_says, wanted_says, wanted_there, optional_says, optional_or_says, text_or_object_says, each_item_says, each_member_says, list_after_says}
 use Rattle.vk_fields.specs.Wording.{name_word}
 use Rattle.vk_fields.specs.Texts.{port_name_at, feature_name_at, expression_at, ask_at}
-use Rattle.vk_fields.specs.Versions.{key_of, version_at, version_needed_at}
+use Rattle.vk_fields.specs.Versions.{key_of}
 use Rattle.vk_fields.proofs.TellingLemmas.{name_there, said_says, feature_keeps, port_name_says, feature_name_says, expression_says, ask_says, scheme_says, version_says, version_needed_says, ask_under_says}
-use Rattle.vk_manifest.specs.Manifests.{condition_under, use_of_text, use_of_object, use_at, uses_under, dependency_of_text, dependency_of_object, dependency_at, dependencies_in, supports_in, feature_at, features_in, new_name, override_from, names_of, overrides_at, overrides_in, name_in, version_in, overrides_if, manifest_at}
+use Rattle.vk_manifest.specs.Manifests.{condition_under, use_of_text, use_of_object, use_at, uses_under, dependency_of_text, dependency_of_object, dependency_at, dependencies_in, feature_at, features_in, new_name, override_from, names_of, overrides_at, overrides_in, name_in, version_in, overrides_if, manifest_at}
 use Rattle.vk_manifest.specs.Names.{IsNamedUse, IsNamedDependency, IsNamedFeature, IsNamedOverride, IsNamed, IsPort}
 
 condition_says : (key : List ℕ) → Reads Anything (condition_under key)

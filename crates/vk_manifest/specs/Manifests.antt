@@ -1,9 +1,7 @@
 -- What the document of a manifest means, in the order in which it is read.
-use Rattle.std.specs.Prelude.{ℕ, Bool, true, false, List, [], ◌∷◌, Option, Some, None, option_map, map, Result, Ok, Err, codes, if◌then◌else◌}
+use Rattle.std.specs.Prelude.{ℕ, Bool, true, false, List, [], Option, Some, None, map, Result, Ok, Err, codes, if◌then◌else◌}
 use Rattle.std.specs.List.{list_any}
 use Rattle.std.specs.Str.{bytes_eq}
-use Rattle.serde_json.specs.Data.{Data}
-use Rattle.serde_json.specs.Find.{get}
 use Rattle.vk_spec.specs.Reading.{◌>>=◌, or_fault, read_after}
 use Rattle.vk_spec.specs.Versions.{Version}
 use Rattle.vk_spec.specs.Manifests.{FeatureUse, Dependency, Feature, Override, Manifest}

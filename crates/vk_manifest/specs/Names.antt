@@ -1,5 +1,5 @@
 -- What every manifest that reads has.
-use Rattle.std.specs.Prelude.{◌≡◌, Bool, true, false, List, [], Option, IfSome, IsSome}
+use Rattle.std.specs.Prelude.{◌≡◌, [], IfSome, IsSome}
 use Rattle.std.specs.List.{All}
 use Rattle.vk_spec.specs.Lists.{NoRepeats}
 use Rattle.vk_spec.specs.Manifests.{FeatureUse, Dependency, Feature, Override, Manifest}
