@@ -1,6 +1,6 @@
 -- What a part gives, told from outside.
 use Rattle.std.proofs.Common.{◌≡◌, List, ℕ}
-use Rattle.std.specs.Prelude.{Option, Some, None, option_map, Result, Ok, Err}
+use Rattle.std.specs.Prelude.{Option, Some, None, option_map, Result}
 use Rattle.vk_spec.specs.Reading.{Fails}
 use Rattle.vk_json.specs.Documents.{Fault}
 use Rattle.vk_json.specs.Places.{moved, inside}

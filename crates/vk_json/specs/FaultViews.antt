@@ -1,6 +1,5 @@
 -- How the error of a part becomes the error of the whole.
 use Rattle.std.specs.Prelude.{◌≡◌, List, ℕ, Option, Some, None, option_map}
-use Rattle.vk_json.specs.Documents.{Fault}
 use Rattle.vk_json.specs.DocumentView.{file_fault_of}
 use Rattle.vk_json.specs.Places.{moved}
 use Rattle.vk_json.specs.declared.faults.FileFault.{FileFault}

@@ -1,5 +1,5 @@
 -- Places in a document: JSON Pointers (RFC 6901).
-use Rattle.std.specs.Prelude.{◌++◌, ◌==◌, ℕ, List, [], ◌∷◌, codes, decimal, Result, Ok, Err, if◌then◌else◌}
+use Rattle.std.specs.Prelude.{◌++◌, ◌==◌, ℕ, List, [], codes, decimal, Result, Ok, Err, if◌then◌else◌}
 use Rattle.std.specs.List.{flat_map}
 use Rattle.std.specs.Str.{chars}
 use Rattle.std.specs.Char.{encode_utf8}
