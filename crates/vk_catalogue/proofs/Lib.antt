@@ -1,0 +1,4 @@
+pub mod AskLemmas
+pub mod ShelfLemmas
+pub mod GivenLemmas
+pub mod SoundLemmas

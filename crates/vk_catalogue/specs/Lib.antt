@@ -1,0 +1,8 @@
+pub mod Catalogues
+pub mod Views
+pub mod PageViews
+pub mod Schedules
+pub mod Shelves
+pub mod MemCatalogues
+pub mod GivenManifests
+pub mod SoundPages

@@ -1,0 +1,49 @@
+use vk_base::{Text, TreePath};
+use vk_json::Why;
+use vk_version::{Ask, Version};
+
+/// Where a port's given version comes from.
+#[derive(Clone, Drop)]
+pub enum Given {
+    /// The version of the manifest in the first overlay that has the port.
+    Overlay(Version),
+    /// What an override in the root manifest asks for.
+    Override(Ask),
+    /// What the entry in the baseline of the port's registry asks for.
+    Baseline(Ask),
+}
+
+/// In what a versions table and a manifest differ; the first in this order.
+#[derive(Clone, Copy, Debug, PartialEq, Eq)]
+pub enum Field {
+    /// The port's name.
+    Name,
+    /// Which versions the version can be compared with.
+    Class,
+    /// The version's text.
+    Text,
+    /// The port-version.
+    Port,
+}
+
+/// Why a port has no given version, or a version no manifest.
+#[derive(Clone, Drop)]
+pub enum Wrong {
+    /// No registry serves the port.
+    NoRegistry,
+    /// The baseline of its registry has no entry for it.
+    NoBaseline,
+    /// A file that isn't as it has to be: where in it, a JSON Pointer (RFC 6901), and why.
+    BadFile {
+        path: TreePath,
+        place: Text,
+        why: Why,
+    },
+    /// A manifest that isn't what the table says of it: what the table has, and what it has.
+    Disagrees {
+        path: TreePath,
+        field: Field,
+        table: Text,
+        manifest: Text,
+    },
+}
