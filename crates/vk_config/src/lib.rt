@@ -8,6 +8,8 @@ mod embedding;
 mod patterns;
 mod registries;
 mod serving;
+#[cfg(test)]
+mod tests;
 
 pub use configs::{Config, Embedded, read_config};
 pub use embedding::{embedded, embedded_in};

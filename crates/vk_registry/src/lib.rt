@@ -6,6 +6,8 @@
 mod baselines;
 mod folders;
 mod tables;
+#[cfg(test)]
+mod tests;
 
 pub use baselines::{Baseline, BaselineEntry, baseline_of, baseline_rule, read_baseline};
 pub use tables::{Row, Table, find, read_table, table_rule};
