@@ -1,0 +1,104 @@
+//! Answers as texts.
+
+use std::alloc::{AllocError, AllocFailed, Global};
+use vk_base::{Memory, Text};
+use vk_config::Embedded;
+use vk_json::FileFault;
+use vk_registry::{Baseline, Table};
+use vk_version::Ask;
+
+/// Why a row isn't answered.
+#[derive(Drop)]
+pub enum Stop {
+    /// It is of no form.
+    Row,
+    /// Want of memory.
+    Memory,
+}
+
+impl Stop {
+    /// The stop in words.
+    pub fn word(&self) -> &'static str {
+        match self {
+            Stop::Row => "no row",
+            Stop::Memory => "no memory",
+        }
+    }
+}
+
+impl From<Memory> for Stop {
+    fn from(_: Memory) -> Self {
+        Stop::Memory
+    }
+}
+
+impl From<AllocError> for Stop {
+    fn from(_: AllocError) -> Self {
+        Stop::Memory
+    }
+}
+
+impl<T: Drop> From<AllocFailed<T>> for Stop {
+    fn from(_: AllocFailed<T>) -> Self {
+        Stop::Memory
+    }
+}
+
+/// A fault, as its place and its word; the whole document's place is `-`.
+pub fn of_fault(alloc: Global, fault: FileFault) -> Result<String, Stop> {
+    let FileFault::Wrong { place, why } = fault else {
+        return Err(Stop::Memory);
+    };
+    let word = why.word(alloc)?;
+    if place.is_empty() {
+        return Ok(format!(in alloc; "- {word}")?);
+    }
+    Ok(format!(in alloc; "{place} {word}")?)
+}
+
+/// What a root manifest has.
+pub fn of_embedded(embedded: &Embedded) -> &'static str {
+    match embedded {
+        Embedded::Nothing => "nothing",
+        Embedded::One(_) => "one",
+        Embedded::Two => "two",
+    }
+}
+
+/// A place, or that there is none.
+pub fn of_place(alloc: Global, place: Option<usize>) -> Result<String, Stop> {
+    match place {
+        Some(place) => Ok(format!(in alloc; "{place}")?),
+        None => Ok(String::from_str(alloc, "none")?),
+    }
+}
+
+/// An ask, or that there is none.
+pub fn of_ask(alloc: Global, ask: Option<&Ask>) -> Result<String, Stop> {
+    match ask {
+        Some(ask) => Ok(format!(in alloc; "{}#{}", ask.text, ask.port)?),
+        None => Ok(String::from_str(alloc, "none")?),
+    }
+}
+
+/// The entries, in their order.
+pub fn of_baseline(alloc: Global, baseline: &Baseline) -> Result<String, Stop> {
+    let mut told = Text::from_str(alloc, "baseline")?;
+    for entry in baseline.entries() {
+        let one = format!(in alloc; " {}={}#{}", entry.port, entry.ask.text, entry.ask.port)?;
+        told.push_str(one.as_str())?;
+    }
+    Ok(told.into_string())
+}
+
+/// The rows, in their order.
+pub fn of_table(alloc: Global, table: &Table) -> Result<String, Stop> {
+    let mut told = Text::from_str(alloc, "table")?;
+    for row in table.rows() {
+        let path = row.path.text(alloc)?;
+        let version = &row.version;
+        let one = format!(in alloc; " {}#{}={path}", version.text(), version.port())?;
+        told.push_str(one.as_str())?;
+    }
+    Ok(told.into_string())
+}
