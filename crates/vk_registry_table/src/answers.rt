@@ -1,4 +1,7 @@
 //! Answers as texts.
+ghost use Rattle.std.specs.Prelude.{◌≡◌, IfOk, string_bytes};
+ghost use Rattle.vk_config.specs.Views.{embedded_view};
+ghost use Rattle.vk_registry_table.specs.Told.{told_embedded, told_place};
 
 use std::alloc::{AllocError, AllocFailed, Global};
 use vk_base::{Memory, Text};
@@ -57,7 +60,9 @@ pub fn of_fault(alloc: Global, fault: FileFault) -> Result<String, Stop> {
 }
 
 /// What a root manifest has.
-pub fn of_embedded(embedded: &Embedded) -> &'static str {
+pub fn of_embedded(embedded: &Embedded) -> &'static str
+    ensures { result.now ≡ told_embedded (embedded_view embedded.now) }
+{
     match embedded {
         Embedded::Nothing => "nothing",
         Embedded::One(_) => "one",
@@ -66,7 +71,9 @@ pub fn of_embedded(embedded: &Embedded) -> &'static str {
 }
 
 /// A place, or that there is none.
-pub fn of_place(alloc: Global, place: Option<usize>) -> Result<String, Stop> {
+pub fn of_place(alloc: Global, place: Option<usize>) -> Result<String, Stop>
+    ensures { IfOk result (λ told. string_bytes told ≡ told_place place) }
+{
     match place {
         Some(place) => Ok(format!(in alloc; "{place}")?),
         None => Ok(String::from_str(alloc, "none")?),
