@@ -1,0 +1,3 @@
+pub mod Projects
+pub mod Starts
+pub mod Views
