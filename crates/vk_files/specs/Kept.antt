@@ -4,6 +4,7 @@ use Rattle.std.specs.FinMap as files_map
 use Rattle.vk_spec.specs.Paths.{Path}
 use Rattle.vk_spec.specs.Files.{Files}
 use Rattle.vk_spec.specs.States.{State, Looks}
+use Rattle.vk_files.specs.Notes.{AreRight}
 
 -- the longest file that is read, in bytes
 abbrev pub most_bytes : ℕ
@@ -29,13 +30,12 @@ Kept = List (Path × Seen)
 abbrev pub paths_of : Kept → List Path
 paths_of kept = map (λ e. e.0) kept
 
--- what is kept of a path is what the files have there
-abbrev pub IsSeen : Files → (Path × Seen) → Type 0
-IsSeen files e = e.1 ≡ seen_at e.0 files
+-- what is kept of each path is what the files have there
+abbrev pub IsSeen : Files → Path → Seen → Type 0
+IsSeen files path seen = seen ≡ seen_at path files
 
 abbrev pub IsOf : Files → Kept → Type 0
-IsOf files [] = Unit {0}
-IsOf files (e ∷ kept) = IsSeen files e × IsOf files kept
+IsOf files kept = AreRight (IsSeen files) kept
 
 -- a tree, and what is kept of it
 pub record Held : Type 0 where

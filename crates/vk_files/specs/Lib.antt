@@ -1,3 +1,6 @@
+pub mod Notes
 pub mod Kept
 pub mod Views
+pub mod StopViews
 pub mod Readings
+pub mod StandingViews

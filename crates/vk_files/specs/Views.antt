@@ -1,16 +1,14 @@
 -- What contracts see of what is kept, and of why a file gave nothing.
-use Rattle.std.specs.Prelude.{ℕ, Bool, true, false, List, map, Option, Some, None, Result, Ok, Err}
+use Rattle.std.specs.Prelude.{Bool, map, Option}
 use Rattle.std.specs.Cmp.Lexicographic.{pointwise}
 use Rattle.std.specs.Str.{bytes_eq}
 use Rattle.std.specs.Map.{lookup}
 use Rattle.vk_spec.specs.Paths.{Path}
 use Rattle.vk_spec.specs.States.{State}
 use Rattle.vk_files.specs.Kept.{Seen, absent, too_large, holds, Kept, Held}
-use Rattle.vk_files.specs.declared.caches.Found.{Found}
-use Rattle.vk_files.specs.declared.caches.Found.TheVariants as found
+use Rattle.vk_files.specs.declared.found.Found.{Found}
+use Rattle.vk_files.specs.declared.found.Found.TheVariants as found
 use Rattle.vk_files.specs.declared.caches.FileCache.{FileCache}
-use Rattle.vk_files.specs.declared.stops.Stop.{Stop}
-use Rattle.vk_files.specs.declared.stops.Stop.TheVariants as stop
 
 -- paths are one where their parts are
 abbrev pub same_path : Path → Path → Bool
@@ -19,7 +17,7 @@ same_path = pointwise bytes_eq
 abbrev pub seen_view : Found → Seen
 seen_view found.Absent = absent
 seen_view found.TooLarge = too_large
-seen_view (found.Bytes bytes) = holds bytes
+seen_view (found.Bytes b) = holds b.bytes
 
 -- what is kept, in the order in which it was asked for
 abbrev pub kept_of : FileCache → Kept
@@ -32,19 +30,3 @@ kept_at path kept = lookup (same_path path) kept
 -- a tree, with what is kept of it
 abbrev pub held : FileCache → State → Held
 held cache tree = record { kept = kept_of cache; tree = tree }
-
--- the refusal that is told, unless the tree failed or memory was wanting
-abbrev pub refusal_in : {F P : Type 0} → (F → P) → Stop F → Option P
-refusal_in view (stop.Refused refusal) = Some (view refusal)
-refusal_in view stop.TreeFailed = None
-refusal_in view stop.Memory = None
-
--- the tree failed
-abbrev pub is_tree_failed : {F : Type 0} → Stop F → Bool
-is_tree_failed (stop.Refused refusal) = false
-is_tree_failed stop.TreeFailed = true
-is_tree_failed stop.Memory = false
-
-abbrev pub has_tree_failed : {X F : Type 0} → Result X (Stop F) → Bool
-has_tree_failed (Ok x) = false
-has_tree_failed (Err s) = is_tree_failed s

@@ -1,10 +1,16 @@
-ghost use Rattle.std.specs.Prelude.{◌≡◌, [], IsSome, OnOk, option_map};
+ghost use Rattle.std.specs.Prelude.{◌≡◌, ◌<◌, ◌++◌, ◌∷◌, [], ℕ, List, Option, None, IsSome, OnOk, IfOk, option_map};
 ghost use Rattle.std.specs.Option.{option_copied};
+ghost use Rattle.indexmap.specs.IndexMap.{spare};
 ghost use Rattle.vk_spec.specs.Lists.{NoRepeats};
-ghost use Rattle.vk_files.specs.Kept.{ReadOnce, most_bytes, paths_of};
-ghost use Rattle.vk_files.specs.Views.{held, kept_of, kept_at, seen_view, has_tree_failed};
+ghost use Rattle.vk_spec.specs.Paths.{Path};
+ghost use Rattle.vk_spec.specs.Calls.{ReadsFile, NoLonger, noted};
+ghost use Rattle.vk_tree.specs.Answers.{read_answer, read_failed};
+ghost use Rattle.vk_files.specs.Kept.{ReadOnce, most_bytes, paths_of, seen_in};
+ghost use Rattle.vk_files.specs.Views.{held, kept_of, kept_at, seen_view};
+ghost use Rattle.vk_files.specs.StopViews.{has_look_failed, noted_by};
 
-use crate::stops::Stop;
+use crate::found::{FileBytes, Found};
+use crate::stops::LookStop;
 use indexmap::IndexMap;
 use std::alloc::Global;
 use vk_base::{List, TreePath};
@@ -13,17 +19,6 @@ use vk_tree::{ReadFault, Tree};
 /// The longest file that is read, in bytes.
 pub const MOST_BYTES: u64 = 16_777_216;
 
-/// What stands at a path.
-#[derive(Drop)]
-pub enum Found {
-    /// No file.
-    Absent,
-    /// A file that is longer than the longest that is read.
-    TooLarge,
-    /// A file with these bytes.
-    Bytes(List<u8>),
-}
-
 /// What was read of a tree, by path. What stands at a path is kept, so that no path is read twice.
 #[derive(Drop)]
 pub struct FileCache {
@@ -31,13 +26,18 @@ pub struct FileCache {
 }
 
 // What a call of the tree found.
-fn found_in<F>(read: Result<List<u8>, ReadFault>) -> Result<Found, Stop<F>> {
+fn found_in(read: Result<List<u8>, ReadFault>) -> Result<Found, LookStop>
+    requires { NoLonger most_bytes (read_answer read) }
+    ensures seen { (o : Option (List ℕ)) → ReadsFile o most_bytes (read_answer read) → IfOk result (λ found. seen_view found ≡ seen_in o) }
+    ensures failed { has_look_failed result ≡ read_failed read }
+    ensures noted { (path : Path) → noted path (read_answer read) ≡ noted_by path result }
+{
     match read {
-        Ok(bytes) => Ok(Found::Bytes(bytes)),
+        Ok(bytes) => Ok(Found::Bytes(FileBytes { bytes })),
         Err(ReadFault::Missing) => Ok(Found::Absent),
         Err(ReadFault::TooLarge) => Ok(Found::TooLarge),
-        Err(ReadFault::Failed) => Err(Stop::TreeFailed),
-        Err(ReadFault::Memory) => Err(Stop::Memory),
+        Err(ReadFault::Failed) => Err(LookStop::TreeFailed),
+        Err(ReadFault::Memory) => Err(LookStop::Memory),
     }
 }
 
@@ -58,21 +58,33 @@ impl FileCache {
         let _ = self.found.len();
     }
 
-    // Asks the tree for a path that it wasn't asked for yet.
-    fn ask<F, T: Tree>(&mut self, tree: &mut T, path: &TreePath) -> Result<(), Stop<F>>
-        ensures once { ReadOnce (has_tree_failed result) (held self.old (T.state tree.old)) (held self.new (T.state tree.new)) }
+    // Keeps what stands at a path, for which there is room.
+    fn keep(&mut self, path: TreePath, found: Found)
+        requires room { 0 < spare self.old.found }
+        requires new { kept_at path (kept_of self.old) ≡ None }
+        ensures { kept_of self.new ≡ kept_of self.old ++ (path, seen_view found) ∷ [] }
+    {
+        let _ = self.found.insert(path, found);
+    }
+
+    // Asks the tree for a path that it wasn't asked for yet. The room for what stands there is taken
+    // first, so that nothing that was read is forgotten.
+    #[tactic(auto, using(crate::proofs::OnceLemmas::still_read, crate::proofs::OnceLemmas::found_read, crate::proofs::OnceLemmas::seen_told, crate::proofs::CacheLemmas::last_kept))]
+    fn ask<T: Tree>(&mut self, tree: &mut T, path: &TreePath) -> Result<(), LookStop>
+        requires { kept_at path.now (kept_of self.old) ≡ None }
+        ensures once { ReadOnce (has_look_failed result) (held self.old (T.state tree.old)) (held self.new (T.state tree.new)) }
         ensures there { OnOk result (IsSome (kept_at path.now (kept_of self.new))) }
     {
         let key = path.clone()?;
         self.found.reserve(1)?;
         let found = found_in(tree.read(path, MOST_BYTES))?;
-        self.found.insert(key, found)?;
+        self.keep(key, found);
         Ok(())
     }
 
     /// Looks at a path, for which the tree is asked unless it was before.
-    pub fn look<F, T: Tree>(&mut self, tree: &mut T, path: &TreePath) -> Result<(), Stop<F>>
-        ensures once { ReadOnce (has_tree_failed result) (held self.old (T.state tree.old)) (held self.new (T.state tree.new)) }
+    pub fn look<T: Tree>(&mut self, tree: &mut T, path: &TreePath) -> Result<(), LookStop>
+        ensures once { ReadOnce (has_look_failed result) (held self.old (T.state tree.old)) (held self.new (T.state tree.new)) }
         ensures there { OnOk result (IsSome (kept_at path.now (kept_of self.new))) }
     {
         if self.found.contains_key(path) {

@@ -3,9 +3,11 @@
 #![tactic(auto)]
 
 mod caches;
+mod found;
 mod readers;
 mod stops;
 
-pub use caches::{FileCache, Found, MOST_BYTES};
-pub use readers::FileReader;
-pub use stops::{BadFile, Stop};
+pub use caches::{FileCache, MOST_BYTES};
+pub use found::{FileBytes, Found};
+pub use readers::{FileReader, Standing, file_standing, read_file};
+pub use stops::{BadFile, LookStop, Stop};

@@ -1,5 +1,7 @@
 ghost use Rattle.std.specs.Prelude.{◌≡◌};
 ghost use Rattle.vk_files.specs.declared.stops.Stop.TheVariants.{Memory};
+ghost use Rattle.vk_files.specs.declared.stops.LookStop.TheVariants as look;
+ghost use Rattle.vk_files.specs.StopViews.{stop_after};
 
 use std::alloc::{AllocError, AllocFailed};
 use vk_base as base;
@@ -26,6 +28,34 @@ pub enum Stop<F> {
     TreeFailed,
     /// Want of memory.
     Memory,
+}
+
+/// Why a path wasn't looked at.
+#[derive(Clone, Copy, Debug, PartialEq, Eq)]
+pub enum LookStop {
+    /// A call of the tree failed.
+    TreeFailed,
+    /// Want of memory.
+    Memory,
+}
+
+impl From<AllocError> for LookStop {
+    ghost from_gives = { λ _ e. e ≡ look.Memory };
+
+    fn from(_: AllocError) -> Self {
+        LookStop::Memory
+    }
+}
+
+impl<F> From<LookStop> for Stop<F> {
+    ghost from_gives = { λ stop e. e ≡ stop_after stop };
+
+    fn from(stop: LookStop) -> Self {
+        match stop {
+            LookStop::TreeFailed => Stop::TreeFailed,
+            LookStop::Memory => Stop::Memory,
+        }
+    }
 }
 
 impl<F> From<AllocError> for Stop<F> {

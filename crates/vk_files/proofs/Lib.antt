@@ -1,0 +1,4 @@
+pub mod NoteLemmas
+pub mod OnceLemmas
+pub mod CacheLemmas
+pub mod ReadLemmas

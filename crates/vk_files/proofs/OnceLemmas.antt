@@ -1,0 +1,74 @@
+-- Files that are read once: one after the other.
+use Rattle.std.specs.FinMap as map
+use Rattle.std.proofs.Common.{◌≡◌, Bool, true, false, ℕ, List, [], ◌∷◌, ◌++◌, refl, ap, sym, subst, ◌∙◌}
+use Rattle.std.specs.Prelude.{Option, Some, None, IfSome}
+use Rattle.std.proofs.lemmas.List.{append-nil, append_assoc, map-append}
+use Rattle.vk_spec.specs.Paths.{Path}
+use Rattle.vk_spec.specs.Files.{Files}
+use Rattle.vk_spec.specs.Calls.{Answer, Reads, ReadsFile, NoLonger, is_failed, noted}
+use Rattle.vk_spec.specs.States.{Told, State, Looks, OnlyRead}
+use Rattle.vk_spec.proofs.StateLemmas.{looks_nothing, looks_then, told_before}
+use Rattle.vk_files.specs.Kept.{Seen, Kept, seen_at, seen_in, paths_of, IsOf, IsSeen, Held, ReadOnce, most_bytes}
+use Rattle.vk_files.proofs.NoteLemmas.{right_more}
+
+pub nothing_read : (h : Held) → ReadOnce false h h
+nothing_read h = record { more = []; kept = sym (append-nil h.kept); looks = looks_nothing h.tree; right = everywhere h.tree.told }
+  where
+    everywhere : (told : Option Told) → IfSome told (λ t. IsOf t.files [])
+    everywhere None = tt
+    everywhere (Some t) = tt
+
+-- nothing was done, by what is kept and by the answer
+pub still_read : {failed : Bool} {kept now : Kept} {s : State} → failed ≡ false → now ≡ kept → ReadOnce failed (record { kept = kept; tree = s }) (record { kept = now; tree = s })
+still_read calm same = rw calm (rw same (nothing_read _))
+
+one_right : (path : Path) (seen : Seen) (told : Option Told) → IfSome told (λ t. IsSeen t.files path seen) → IfSome told (λ t. IsOf t.files ((path, seen) ∷ []))
+one_right path seen None right = tt
+one_right path seen (Some t) right = (right, tt)
+
+-- a path was asked for, and what stands there is kept
+pub found_read : {path : Path} {answer : Answer (List ℕ)} {a b : State} {kept now : Kept} (seen : Seen) → Reads path most_bytes answer a b → noted path answer ≡ path ∷ [] → is_failed answer ≡ false
+    → IfSome a.told (λ t. IsSeen t.files path seen) → now ≡ kept ++ (path, seen) ∷ [] → ReadOnce false (record { kept = kept; tree = a }) (record { kept = now; tree = b })
+found_read {path = path} {answer = answer} {a = a} {b = b} seen r is_noted calm right is = record {
+  more = (path, seen) ∷ [];
+  kept = is;
+  looks = subst (λ f. Looks (path ∷ []) f a b) calm (subst (λ asked. Looks asked (is_failed answer) a b) is_noted r.looks);
+  right = one_right path seen a.told right;
+}
+
+-- a path was asked for in vain
+pub nothing_found : {path : Path} {answer : Answer (List ℕ)} {failed : Bool} {a b : State} {kept : Kept} → Reads path most_bytes answer a b → noted path answer ≡ [] → is_failed answer ≡ failed
+    → ReadOnce failed (record { kept = kept; tree = a }) (record { kept = kept; tree = b })
+nothing_found {answer = answer} {a = a} {b = b} {kept = kept} r is_noted is = record {
+  more = [];
+  kept = sym (append-nil kept);
+  looks = subst (λ f. Looks [] f a b) is (subst (λ asked. Looks asked (is_failed answer) a b) is_noted r.looks);
+  right = everywhere a.told;
+}
+  where
+    everywhere : (told : Option Told) → IfSome told (λ t. IsOf t.files [])
+    everywhere None = tt
+    everywhere (Some t) = tt
+
+-- what was found is what the files have
+pub seen_told : (path : Path) (answer : Answer (List ℕ)) (seen : Seen) (told : Option Told) → ((o : Option (List ℕ)) → ReadsFile o most_bytes answer → seen ≡ seen_in o)
+    → IfSome told (λ t. ReadsFile (map.get t.files path) most_bytes answer) → IfSome told (λ t. IsSeen t.files path seen)
+seen_told path answer seen None is content = tt
+seen_told path answer seen (Some t) is content = is _ content
+
+both_right : (one two : Kept) (told : Option Told) → IfSome told (λ t. IsOf t.files one) → IfSome told (λ t. IsOf t.files two) → IfSome told (λ t. IsOf t.files (one ++ two))
+both_right one two None x y = tt
+both_right one two (Some t) x y = right_more (IsSeen t.files) one two x y
+
+-- one after the other
+pub once_then : {failed : Bool} {a b c : Held} → ReadOnce false a b → ReadOnce failed b c → ReadOnce failed a c
+once_then {failed = failed} {a = a} {b = b} {c = c} x y = record {
+  more = x.more ++ y.more;
+  kept = y.kept ∙ ap (λ k. k ++ y.more) x.kept ∙ append_assoc a.kept x.more y.more;
+  looks = subst (λ asked. Looks asked failed a.tree c.tree) (sym (map-append (λ e. e.0) x.more y.more)) (looks_then x.looks y.looks);
+  right = both_right x.more y.more a.tree.told x.right (told_before (λ f. IsOf f y.more) (record { asked = paths_of x.more; looks = x.looks }) y.right);
+}
+
+-- what was kept before is still right, and so is what was kept since
+pub kept_right : {failed : Bool} {a b : Held} (files : Files) (log : List Path) → ReadOnce failed a b → a.tree.told ≡ Some (record { files = files; log = log }) → IsOf files a.kept → IsOf files b.kept
+kept_right {a = a} {b = b} files log r told right = subst (IsOf files) (sym r.kept) (right_more (IsSeen files) a.kept r.more right (subst (λ (o : Option Told). IfSome o (λ t. IsOf t.files r.more)) told r.right))
