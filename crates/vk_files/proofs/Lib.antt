@@ -2,3 +2,4 @@ pub mod NoteLemmas
 pub mod OnceLemmas
 pub mod CacheLemmas
 pub mod ReadLemmas
+pub mod NotingLemmas

@@ -1,0 +1,124 @@
+-- Where a port's versions are: the first overlay that has it, or the registry that serves it.
+use Rattle.std.specs.Prelude.{◌++◌, ◌==◌, ℕ, Bool, true, false, List, [], ◌∷◌, length, slice_get, Option, Some, None, option_map, Result, Ok, Err, bytes_eq, if◌then◌else◌}
+use Rattle.std.specs.List.{find}
+use Rattle.vk_spec.specs.Paths.{Path}
+use Rattle.vk_spec.specs.Files.{Files}
+use Rattle.vk_spec.specs.Reading.{◌>>=◌, or_fault}
+use Rattle.vk_spec.specs.Versions.{Version, Ask}
+use Rattle.vk_spec.specs.Manifests.{Manifest, Override}
+use Rattle.vk_spec.specs.Pages.{Wrong, no_registry, no_baseline, Given, override, baseline}
+use Rattle.vk_base.specs.Paths.{joined}
+use Rattle.vk_expr.specs.Trees.{Tree}
+use Rattle.vk_config.specs.Configs.{Source, filesystem, git, builtin, artifact, Config}
+use Rattle.vk_config.specs.Closeness.{place_of}
+use Rattle.vk_registry.specs.Baselines.{ask_for, baseline_by}
+use Rattle.vk_registry.specs.Tables.{Row, table_of}
+use Rattle.vk_files.specs.Readings.{Standing, missing, too_long, readable, standing_at, file_at}
+use Rattle.vk_opening.specs.Projects.{manifest_path}
+use Rattle.vk_opening.specs.Starts.{Overlay, is_port, has_ports, Start}
+use Rattle.vk_pages.specs.RegistryFiles.{baseline_path, table_path}
+use Rattle.vk_pages.specs.Wrongs.{or_wrong, manifest_file, version_in}
+use Rattle.vk_pages.specs.Agreement.{named}
+
+-- an overlay has the port, in this folder, at its one version; or a registry does: what is given, the registry's folder, and its table
+pub data Home : Type 0 where
+  in_overlay : Path → Version → Manifest Tree → Home
+  in_registry : Given → Path → List Row → Home
+
+-- a file stands there, whatever is in it
+abbrev pub is_there : Standing → Bool
+is_there missing = false
+is_there too_long = true
+is_there readable = true
+
+abbrev pub stands : Path → Files → Bool
+stands path files = is_there (standing_at path files)
+
+-- the folder of a port among those of a folder
+abbrev pub port_folder : Path → List ℕ → Path
+port_folder folder port = folder ++ port ∷ []
+
+abbrev pub is_named : List ℕ → Option (List ℕ) → Bool
+is_named port None = false
+is_named port (Some name) = bytes_eq port name
+
+-- whether an overlay has the port
+abbrev pub has_port : List ℕ → Files → Overlay → Bool
+has_port port files (is_port folder m) = is_named port m.name
+has_port port files (has_ports folder) = stands (manifest_path (port_folder folder port)) files
+
+-- the overlay's port, with the version of its manifest
+unfoldable pub overlay_home : Path → Manifest Tree → Result Home Wrong
+overlay_home folder m = version_in (manifest_path folder) m >>= λ v. Ok (in_overlay folder v m)
+
+-- the port in its folder of an overlay, whose manifest has to have its name
+unfoldable pub folder_home : List ℕ → Path → Files → Result Home Wrong
+folder_home port folder files = do
+  m ← manifest_file (manifest_path folder) files
+  m ← named (manifest_path folder) port m
+  overlay_home folder m
+
+abbrev pub home_in : List ℕ → Files → Overlay → Result Home Wrong
+home_in port files (is_port folder m) = overlay_home folder m
+home_in port files (has_ports folder) = folder_home port (port_folder folder port) files
+
+-- a registry in a folder, and the name of the baseline that counts
+pub record Served : Type 0 where
+  pub folder : Path
+  pub baseline : List ℕ
+
+-- where a registry of files is; no other serves a port yet
+abbrev pub served_by : Path → Option Source → Result Served Wrong
+served_by project (Some (filesystem path name)) = Ok (record { folder = joined project path; baseline = name })
+served_by project (Some git) = Err no_registry
+served_by project (Some builtin) = Err no_registry
+served_by project (Some artifact) = Err no_registry
+served_by project None = Err no_registry
+
+-- the source at a place: their number is the default registry's
+abbrev pub source_at : Config → ℕ → Option Source
+source_at config place = if place == length config.registries then config.default else option_map (λ r. r.source) (slice_get config.registries place)
+
+abbrev pub source_in : Config → Option ℕ → Option Source
+source_in config None = None
+source_in config (Some place) = source_at config place
+
+-- the registry that serves the port
+abbrev pub served_for : Start → List ℕ → Result Served Wrong
+served_for start port = served_by start.folder (source_in start.config (place_of start.config port))
+
+-- what the root manifest sets for the port
+abbrev pub override_for : List Override → List ℕ → Option Ask
+override_for overrides port = option_map (λ o. o.ask) (find (λ o. bytes_eq o.name port) overrides)
+
+-- what the registry's baseline has for the port
+unfoldable pub baseline_for : Served → List ℕ → Files → Result Given Wrong
+baseline_for served port files = do
+  entries ← or_wrong (file_at (baseline_by served.baseline) (baseline_path served.folder) files)
+  ask ← or_fault no_baseline (ask_for port entries)
+  Ok (baseline ask)
+
+-- an override counts before the baseline, which isn't looked at then
+abbrev pub given_by : Option Ask → Served → List ℕ → Files → Result Given Wrong
+given_by (Some ask) served port files = Ok (override ask)
+given_by None served port files = baseline_for served port files
+
+-- the port's table in a registry
+abbrev pub table_in : Served → List ℕ → Files → Result (List Row) Wrong
+table_in served port files = or_wrong (file_at table_of (table_path port served.folder) files)
+
+unfoldable pub registry_home : Start → List ℕ → Files → Result Home Wrong
+registry_home start port files = do
+  served ← served_for start port
+  given ← given_by (override_for start.overrides port) served port files
+  rows ← table_in served port files
+  Ok (in_registry given served.folder rows)
+
+-- the home in the first overlay that has the port, if one does
+abbrev pub home_by : Option Overlay → Start → List ℕ → Files → Result Home Wrong
+home_by (Some overlay) start port files = home_in port files overlay
+home_by None start port files = registry_home start port files
+
+-- where the port's versions are, or the first thing that is wrong
+abbrev pub home_of : Start → List ℕ → Files → Result Home Wrong
+home_of start port files = home_by (find (has_port port files) start.overlays) start port files

@@ -1,0 +1,6 @@
+pub mod RegistryFiles
+pub mod Wrongs
+pub mod Agreement
+pub mod Homes
+pub mod Pages
+pub mod HomeViews

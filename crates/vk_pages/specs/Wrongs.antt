@@ -1,0 +1,33 @@
+-- What is wrong with a port, by its files.
+use Rattle.std.specs.Prelude.{false, ℕ, List, [], Result, Ok, Err}
+use Rattle.vk_spec.specs.Paths.{Path}
+use Rattle.vk_spec.specs.Files.{Files}
+use Rattle.vk_spec.specs.Reading.{◌>>=◌, or_fault}
+use Rattle.vk_spec.specs.Versions.{Version}
+use Rattle.vk_spec.specs.Manifests.{Manifest}
+use Rattle.vk_spec.specs.Pages.{Wrong, bad_file}
+use Rattle.vk_expr.specs.Trees.{Tree}
+use Rattle.vk_json.specs.Documents.{Fault}
+use Rattle.vk_json.specs.Words.{word_of}
+use Rattle.vk_json.specs.declared.faults.Why.TheVariants as why
+use Rattle.vk_manifest.specs.Manifests.{manifest_of}
+use Rattle.vk_files.specs.Readings.{Bad, file_at}
+
+-- a file that isn't as it has to be, with the word for it
+abbrev pub wrong_of : Bad → Wrong
+wrong_of bad = bad_file bad.path bad.place (word_of bad.why)
+
+abbrev pub or_wrong : {A : Type 0} → Result A Bad → Result A Wrong
+or_wrong (Ok x) = Ok x
+or_wrong (Err bad) = Err (wrong_of bad)
+
+-- a port's manifest, by its bytes
+abbrev pub port_manifest : List ℕ → Result (Manifest Tree) Fault
+port_manifest bytes = manifest_of bytes false
+
+abbrev pub manifest_file : Path → Files → Result (Manifest Tree) Wrong
+manifest_file path files = or_wrong (file_at port_manifest path files)
+
+-- the version of a port's manifest; every port's has one
+abbrev pub version_in : Path → Manifest Tree → Result Version Wrong
+version_in path m = or_fault (bad_file path [] (word_of why.NoVersion)) m.version
