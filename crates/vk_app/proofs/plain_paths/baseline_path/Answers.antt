@@ -1,5 +1,0 @@
-use Rattle.std.proofs.Common.{append_assoc}
-use Rattle.vk_app.proofs.plain_paths.baseline_path.Goals as goal
-
-pub returns : goal.returns
-returns c = rw (c.in_ok-versions_path.ensures, append_assoc) at c.child-2.ensures
