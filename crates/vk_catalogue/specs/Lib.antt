@@ -1,4 +1,3 @@
-pub mod Catalogues
 pub mod Views
 pub mod PageViews
 pub mod Schedules

@@ -1,7 +1,7 @@
 -- A catalogue in memory: what is known of it, and what its calls do.
-use Rattle.std.specs.Prelude.{◌≡◌, ℕ, Bool, true, List, [], Option, Some, None}
+use Rattle.std.specs.Prelude.{◌≡◌, Bool, true, [], Some, None}
 use Rattle.vk_spec.specs.Pages as plain
-use Rattle.vk_catalogue.specs.Catalogues.{Origin, CatalogueState}
+use Rattle.vk_spec.specs.Catalogues.{Origin, CatalogueState}
 use Rattle.vk_expr.specs.Trees.{Tree}
 pub use Rattle.vk_catalogue.specs.Shelves.{IsPageFor}
 use Rattle.vk_catalogue.specs.Shelves.{Shelved, page_among, pages_of}

@@ -1,5 +1,5 @@
 ghost use Rattle.std.specs.Prelude.{◌≡◌, ◌↔◌, ◌++◌, ◌∷◌, [], IsTrue, IfOk, OnOk, OnErr, false};
-ghost use Rattle.vk_catalogue.specs.Catalogues.{Asks, OnlyAsked, OnPage, CanAskVersion, CanAskManifest, SaysGiven, SaysVersion, SaysManifest};
+ghost use Rattle.vk_spec.specs.Catalogues.{Asks, OnlyAsked, OnPage, CanAskVersion, CanAskManifest, SaysGiven, SaysVersion, SaysManifest};
 ghost use Rattle.vk_version.specs.AskViews.{ask_view};
 ghost use Rattle.vk_catalogue.specs.Views.{cat_failed, given_answer, version_answer, manifest_answer};
 ghost use Rattle.vk_catalogue.specs.PageViews.{page_view};
