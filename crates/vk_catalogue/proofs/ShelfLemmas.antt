@@ -1,18 +1,19 @@
 -- The pages of a shelf: what is found on it, and that a page that is put is found.
-use Rattle.std.proofs.Common.{◌≡◌, ℕ, Bool, true, false, cond, List, [], ◌∷◌, ◌++◌, map, refl, ap, sym, subst, ◌∙◌}
-use Rattle.std.specs.Prelude.{Option, Some, None, option_map, Result, Err, bytes_eq}
-use Rattle.std.specs.List.{Contains, find}
+use Rattle.std.proofs.Common.{◌≡◌, ℕ, Bool, true, false, cond, List, [], ◌∷◌, ◌++◌, map, refl, ap, sym, ◌∙◌}
+use Rattle.std.specs.Prelude.{Option, Some, None, option_map, bytes_eq}
+use Rattle.std.specs.List.{find}
 use Rattle.std.specs.Map.{lookup}
 use Rattle.std.proofs.lemmas.List.{map-append}
-use Rattle.vk_spec.specs.Versions.{Ask}
+use Rattle.vk_spec.specs.Versions.{Ask, ask_of, same_ask}
+use Rattle.vk_spec.specs.Pages.{row_in}
 use Rattle.vk_spec.specs.Pages as plain
-use Rattle.vk_catalogue.specs.Catalogues.{IsPage, ArePages, ask_of, same_ask, row_in}
+use Rattle.vk_spec.specs.Catalogues.{IsPage, ArePages}
 use Rattle.vk_spec.proofs.ListLemmas.{contains_nothing}
 use Rattle.vk_expr.specs.Trees.{Tree}
 use Rattle.vk_catalogue.specs.declared.shelves.Held.{Held}
 use Rattle.vk_catalogue.specs.declared.pages.PageRow.{PageRow}
 use Rattle.vk_catalogue.specs.PageViews.{held_view, row_view}
-use Rattle.vk_catalogue.specs.Shelves.{Shelved, no_page, page_or_none, page_among, held_for, pages_of, page_on, IsPageFor}
+use Rattle.vk_catalogue.specs.Shelves.{Shelved, no_page, page_or_none, page_among, held_for, pages_of, page_on}
 
 -- a page without a registry is one
 pub no_page_is : IsPage no_page

@@ -9,3 +9,5 @@ pub mod Reading
 pub mod Versions
 pub mod Manifests
 pub mod Pages
+pub mod Earlies
+pub mod Catalogues

@@ -1,11 +1,11 @@
 -- Nothing was asked; one after the other; and what was answered, brought back to the start.
-use Rattle.std.proofs.Common.{◌≡◌, subst, ℕ, List, true, false, ap, refl, sym, ◌∙◌, arith}
-use Rattle.std.specs.Prelude.{Bool, Option, Some, None, IfSome, Result, Ok, Err, IfOk}
+use Rattle.std.proofs.Common.{◌≡◌, subst, ℕ, List, true, false, refl, sym, ◌∙◌}
+use Rattle.std.specs.Prelude.{Bool, Option, Some, None, IfSome, Ok, Err, IfOk}
 use Rattle.vk_spec.specs.Counts.{MayHaveRisen, Rose}
 use Rattle.vk_spec.specs.Calls.{Answer, Fault, stops, is_failed}
 use Rattle.vk_spec.specs.Versions.{Version, Ask}
 use Rattle.vk_spec.specs.Pages.{Page, Given}
-use Rattle.vk_catalogue.specs.Catalogues.{Pages, ArePages, CatalogueState, OnPage, OnlyAsked, Asks, SaysGiven, SaysVersion, CanAskVersion, CanAskManifest}
+use Rattle.vk_spec.specs.Catalogues.{Pages, ArePages, CatalogueState, OnPage, OnlyAsked, Asks, SaysGiven, SaysVersion, CanAskVersion, CanAskManifest}
 use Rattle.vk_spec.proofs.CountLemmas.{counted_then, counted_risen, counted_rose}
 
 -- ---- only asked
