@@ -1,12 +1,5 @@
 mod FrontLemmas
-mod DocumentLemmas
-pub mod EndLemmas
-mod FolderLemmas
-mod ReportLemmas
 mod ManifestLemmas
 mod OrderLaws
-mod PartLemmas
 pub mod FormLemmas
-pub mod TreeReadingLemmas
-pub mod TreeLoopLemmas
-pub mod PlanLemmas
+pub mod AskReadingLemmas

@@ -13,9 +13,10 @@ use Rattle.vk_app.specs.Forms.{Form, must, needs, formed}
 abbrev pub Words : Type 0
 Words = List (Option (List ℕ))
 
--- the target triplet; the overlay folder is read, and not looked into yet
+-- the target triplet, and the folder of triplets
 pub record Request : Type 0 where
   pub triplet : List ℕ
+  pub overlay : Path
 
 -- what stands after an option's name and `=`
 unfoldable pub value_after : List ℕ → Option (List ℕ) → Form (List ℕ)
@@ -38,7 +39,7 @@ plan_request first second third = do
   command ← command_of first
   target ← target_of second
   overlay ← overlay_of third
-  Ok (record { triplet = target })
+  Ok (record { triplet = target; overlay = overlay })
 
 -- `plan`, `--triplet=NAME`, `--overlay-triplets=DIR`: these three, and in this order
 abbrev pub reads_request : Words → Form Request

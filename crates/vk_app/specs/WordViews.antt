@@ -13,4 +13,4 @@ abbrev pub words_view : List Word → Words
 words_view words = map word_view words
 
 abbrev pub request_view : made.Request → Request
-request_view r = record { triplet = r.triplet }
+request_view r = record { triplet = r.triplet; overlay = r.overlay }

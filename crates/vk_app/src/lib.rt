@@ -3,25 +3,12 @@
 //! every other end.
 #![tactic(auto)]
 
-mod documents;
-mod ends;
-mod folders;
 mod fronts;
+mod items;
 pub mod laws;
-mod manifests;
-mod plain_baselines;
-mod plain_configs;
-mod plain_files;
 mod plain_manifests;
-mod plain_paths;
-mod plain_tables;
-mod plain_values;
+mod port_plans;
 mod port_sets;
-mod reports;
 mod requests;
-mod runs;
 mod stops;
-#[cfg(test)]
-mod tests;
-
-pub use runs::{Ran, run};
+mod troubles;

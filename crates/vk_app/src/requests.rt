@@ -6,20 +6,20 @@ ghost use Rattle.vk_base.specs.NameFaults.{name_fault_of};
 ghost use Rattle.vk_base.specs.PathReading.{path_of};
 ghost use Rattle.vk_base.specs.PathFaults.{path_fault_of};
 ghost use Rattle.vk_app.specs.Forms.{formed};
-ghost use Rattle.vk_app.specs.PlainFaults.{words_fault_of};
+ghost use Rattle.vk_app.specs.WordFaults.{words_fault_of};
 ghost use Rattle.vk_app.specs.Requests.{value_after, command_of, target_of, overlay_of, plan_request, reads_request};
 ghost use Rattle.vk_app.specs.WordViews.{word_view, words_view, request_view};
 
 use crate::fronts::after;
-use crate::plain_values::is_same;
 use crate::stops::WordsFault;
 use std::alloc::Global;
 use vk_base::{List, NameFault, PathFault, TreePath, TripletName, Word};
 
-/// What is asked for: a plan for a triplet.
+/// What is asked for: a plan for a triplet, whose file is in a folder of triplets.
 #[derive(Drop)]
 pub struct Request {
     pub triplet: TripletName,
+    pub overlay: TreePath,
 }
 
 fn text_of(word: &Word) -> Option<&str>
@@ -48,7 +48,7 @@ fn check_command(word: &Word) -> Result<(), WordsFault>
     let Some(text) = text_of(word) else {
         return Err(WordsFault::Form);
     };
-    if is_same(text, "plan") {
+    if text == "plan" {
         return Ok(());
     }
     Err(WordsFault::Form)
@@ -122,8 +122,8 @@ fn plan_request(
 {
     check_command(first)?;
     let triplet = read_target(alloc, second)?;
-    let _overlay = read_overlay(alloc, third)?;
-    Ok(Request { triplet })
+    let overlay = read_overlay(alloc, third)?;
+    Ok(Request { triplet, overlay })
 }
 
 /// The request that the words are. `Form` exactly where they aren't `plan`, `--triplet=NAME` and

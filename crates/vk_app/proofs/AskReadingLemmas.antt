@@ -1,0 +1,135 @@
+-- One asking after another.
+use Rattle.std.proofs.Common.{◌≡◌, ◌+◌, ◌<◌, ◌≤◌, ℕ, Bool, true, false, List, [], ◌∷◌, ◌++◌, length, get_or, map, refl, ap, sym, subst, ◌∙◌}
+use Rattle.std.specs.Prelude.{Option, Some, None, IfSome, option_map, Result, Ok, Err, IfOk}
+use Rattle.vk_spec.specs.Reading.{◌>>=◌, or_fault, read_each, Gives, Fails}
+use Rattle.vk_spec.specs.Calls.{Answer, is_failed}
+use Rattle.vk_spec.specs.Versions.{Version, Ask}
+use Rattle.vk_spec.specs.Pages.{Page, Wrong, Given, given_ask}
+use Rattle.vk_spec.specs.Manifests.{Manifest}
+use Rattle.vk_spec.specs.Catalogues.{Pages, CatalogueState, OnlyAsked, Asks, SaysGiven, SaysVersion, SaysManifest}
+use Rattle.vk_spec.proofs.AskLemmas.{asked_nothing, asked_then, asked_once, pages_before}
+use Rattle.vk_spec.proofs.ReadingLemmas.{with_front, left_from, goes_on_by, ends_by, is_done_by}
+use Rattle.vk_files.proofs.ReadLemmas.{gives_then, fails_on}
+use Rattle.vk_expr.specs.Trees.{Tree}
+use Rattle.vk_app.specs.PortPlans.{Item, Trouble, wrong, no_version, or_trouble, given_for, version_for, listed, manifest_for, item_with, item_at, item_of}
+use Rattle.vk_app.specs.AskReadings.{AsksAs, trouble_of, has_failed}
+use Rattle.vk_app.specs.declared.troubles.PortStop.{PortStop}
+use Rattle.vk_app.specs.declared.troubles.PortStop.TheVariants as stop
+
+everywhere : {C : Type 0} {P : C → Type 0} (o : Option C) → ((x : C) → P x) → IfSome o P
+everywhere None each = tt
+everywhere (Some x) each = each x
+
+-- what needs no catalogue
+pub asks_pure : {X Y : Type 0} (view : X → Y) (answer : Result X PortStop) (meaning : Pages Tree → Result Y Trouble) (s : CatalogueState Tree) → has_failed answer ≡ false → ((p : Pages Tree) → Gives view trouble_of answer (meaning p)) → AsksAs view answer meaning s s
+asks_pure view answer meaning s calm gives = record { only = rw calm (asked_nothing s); content = everywhere s.pages gives }
+
+-- want of memory
+pub asks_memory : {X Y : Type 0} (view : X → Y) (meaning : Pages Tree → Result Y Trouble) (s : CatalogueState Tree) → AsksAs view (Err stop.Memory) meaning s s
+asks_memory view meaning s = asks_pure view (Err stop.Memory) meaning s refl (λ p. tt)
+
+-- something was asked, and then more
+pub asks_then : {X Y Z W : Type 0} {view : X → Y} {next_view : Z → W} {x : X} {answer : Result Z PortStop} {meaning : Pages Tree → Result Y Trouble} {a b c : CatalogueState Tree} (next : Y → Pages Tree → Result W Trouble)
+    → AsksAs view (Ok x) meaning a b → AsksAs next_view answer (next (view x)) b c → AsksAs next_view answer (λ p. meaning p >>= λ y. next y p) a c
+asks_then {view = view} {next_view = next_view} {x = x} {answer = answer} {meaning = meaning} {a = a} next first then = record {
+  only = asked_then first.only then.only;
+  content = two a.pages first.content (pages_before (λ p. Gives next_view trouble_of answer (next (view x) p)) first.only then.content);
+}
+  where
+    two : (o : Option (Pages Tree)) → IfSome o (λ p. meaning p ≡ Ok (view x)) → IfSome o (λ p. Gives next_view trouble_of answer (next (view x) p)) → IfSome o (λ p. Gives next_view trouble_of answer (meaning p >>= λ y. next y p))
+    two None is gives = tt
+    two (Some p) is gives = gives_then view trouble_of next_view x answer (meaning p) (λ y. next y p) is gives
+
+-- asking stopped, so nothing more was asked
+pub asks_stopped : {X Y Z W : Type 0} {view : X → Y} {s : PortStop} {meaning : Pages Tree → Result Y Trouble} {a b : CatalogueState Tree} (next_view : Z → W) (next : Y → Pages Tree → Result W Trouble)
+    → AsksAs view (Err s) meaning a b → AsksAs {X = Z} next_view (Err s) (λ p. meaning p >>= λ y. next y p) a b
+asks_stopped {s = s} {meaning = meaning} {a = a} next_view next one = record { only = one.only; content = all a.pages one.content }
+  where
+    all : (o : Option (Pages Tree)) → IfSome o (λ p. Fails (trouble_of s) (meaning p)) → IfSome o (λ p. Fails (trouble_of s) (meaning p >>= λ y. next y p))
+    all None fails = tt
+    all (Some p) fails = fails_on (trouble_of s) (meaning p) (λ y. next y p) fails
+
+-- one call, by what it answered
+pub asks_one : {A X Y : Type 0} {port : List ℕ} {Says : Page Tree → A → Type 0} {said : Answer A} {a b : CatalogueState Tree} (view : X → Y) (answer : Result X PortStop) (meaning : Pages Tree → Result Y Trouble)
+    → Asks port Says said a b → is_failed said ≡ has_failed answer → ((p : Pages Tree) → IfOk said (Says (p port)) → Gives view trouble_of answer (meaning p)) → AsksAs view answer meaning a b
+asks_one {port = port} {Says = Says} {said = said} {a = a} view answer meaning one e gives = record { only = asked_once one e; content = by a.pages said one.told gives }
+  where
+    by : (o : Option (Pages Tree)) (y : Answer _) → IfOk y (λ x. IfSome o (λ p. Says (p port) x)) → ((p : Pages Tree) → IfOk y (Says (p port)) → Gives view trouble_of answer (meaning p)) → IfSome o (λ p. Gives view trouble_of answer (meaning p))
+    by None y told gives = tt
+    by (Some p) (Ok x) told gives = gives p told
+    by (Some p) (Err f) told gives = gives p tt
+
+-- ---- the members of a list, one by one
+
+pub record AskedSoFar {V X R A : Type 0} (view : V → X) (out : R → A) (one : X → Pages Tree → Result A Trouble) (front : List R) (i : ℕ) (vs : List V) (before now : CatalogueState Tree) : Type 0 where
+  pub only : OnlyAsked false before now
+  pub content : IfSome before.pages (λ p. with_front (map out front) (left_from (λ _ x. one x p) i (map view vs)) ≡ read_each (λ _ x. one x p) 0 (map view vs))
+
+nothing_yet : {A F : Type 0} (read : Result (List A) F) → with_front [] read ≡ read
+nothing_yet (Ok xs) = refl
+nothing_yet (Err fault) = refl
+
+pub so_far_none : {V X R A : Type 0} (view : V → X) (out : R → A) (one : X → Pages Tree → Result A Trouble) (front : List R) (vs : List V) (s : CatalogueState Tree) → front ≡ [] → AskedSoFar view out one front 0 vs s s
+so_far_none view out one front vs s none = record {
+  only = asked_nothing s;
+  content = rw none (everywhere s.pages (λ p. nothing_yet (read_each (λ _ x. one x p) 0 (map view vs))));
+}
+
+both : {P Q R : Pages Tree → Type 0} (o : Option (Pages Tree)) → IfSome o P → IfSome o Q → ((p : Pages Tree) → P p → Q p → R p) → IfSome o R
+both None p q join = tt
+both (Some x) p q join = join x p q
+
+pub so_far_more : {V X R A : Type 0} (view : V → X) (out : R → A) (one : X → Pages Tree → Result A Trouble) (front : List R) (y : R) (i : ℕ) (vs : List V) (v : V) (a b c : CatalogueState Tree)
+    → i < length vs → v ≡ get_or vs i v → AskedSoFar view out one front i vs a b → AsksAs out (Ok y) (one (view v)) b c → AskedSoFar view out one (front ++ y ∷ []) (i + 1) vs a c
+so_far_more view out one front y i vs v a b c within is so_far then = record {
+  only = asked_then so_far.only then.only;
+  content = both a.pages so_far.content (pages_before (λ p. Gives out trouble_of (Ok y) (one (view v) p)) so_far.only then.content)
+      (λ p sofar gives. goes_on_by view out (λ _ x. one x p) front y i vs v _ within is gives sofar);
+}
+
+pub so_far_stopped : {V X R A : Type 0} (view : V → X) (out : R → A) (one : X → Pages Tree → Result A Trouble) (front : List R) (s : PortStop) (i : ℕ) (vs : List V) (v : V) (a b c : CatalogueState Tree)
+    → i < length vs → v ≡ get_or vs i v → AskedSoFar view out one front i vs a b → AsksAs {X = R} out (Err s) (one (view v)) b c → AsksAs {X = List R} (λ l. map out l) (Err s) (λ p. read_each (λ _ x. one x p) 0 (map view vs)) a c
+so_far_stopped {R = R} view out one front s i vs v a b c within is so_far then = record {
+  only = asked_then so_far.only then.only;
+  content = both a.pages so_far.content (pages_before (λ p. Gives {X = R} out trouble_of (Err s) (one (view v) p)) so_far.only then.content)
+      (λ p sofar fails. ends_by view out (λ _ x. one x p) (trouble_of s) front i vs v _ within is fails sofar);
+}
+
+pub so_far_all : {V X R A : Type 0} (view : V → X) (out : R → A) (one : X → Pages Tree → Result A Trouble) (front : List R) (i : ℕ) (vs : List V) (a b : CatalogueState Tree)
+    → length vs ≤ i → AskedSoFar view out one front i vs a b → AsksAs (λ l. map out l) (Ok front) (λ p. read_each (λ _ x. one x p) 0 (map view vs)) a b
+so_far_all view out one front i vs a b past so_far = record {
+  only = so_far.only;
+  content = both a.pages so_far.content so_far.content (λ p sofar _. is_done_by view out (λ _ x. one x p) front i vs _ past sofar);
+}
+
+pub so_far_lacking : {V X R A : Type 0} (view : V → X) (out : R → A) (one : X → Pages Tree → Result A Trouble) (front : List R) (y : R) (i : ℕ) (vs : List V) (v : V) (a b c : CatalogueState Tree)
+    → AskedSoFar view out one front i vs a b → AsksAs out (Ok y) (one (view v)) b c → AsksAs {X = List R} (λ l. map out l) (Err stop.Memory) (λ p. read_each (λ _ x. one x p) 0 (map view vs)) a c
+so_far_lacking view out one front y i vs v a b c so_far then = record {
+  only = asked_then so_far.only then.only;
+  content = everywhere a.pages (λ p. tt);
+}
+
+-- ---- what is said of a port
+
+pub given_said_of : (port : List ℕ) (pages : Pages Tree) (said : Result Given Wrong) → SaysGiven (pages port) said → given_for port pages ≡ or_trouble port said
+given_said_of port pages said e = ap (or_trouble port) (sym e)
+
+-- ---- an item, step by step
+
+pub after_version : List ℕ → Ask → Version → Pages Tree → Result Item Trouble
+after_version port ask v pages = manifest_for port ask pages >>= λ m. item_with port v m
+
+pub asks_item_at : {X : Type 0} {view : X → Item} {answer : Result X PortStop} {a b : CatalogueState Tree} (port : List ℕ) (ask : Ask)
+    → AsksAs view answer (λ p. version_for port ask p >>= λ v. after_version port ask v p) a b → AsksAs view answer (item_at port ask) a b
+unfolding item_at after_version
+asks_item_at port ask one = one
+
+pub asks_after_version : {X : Type 0} {view : X → Item} {answer : Result X PortStop} {a b : CatalogueState Tree} (port : List ℕ) (ask : Ask) (v : Version)
+    → AsksAs view answer (λ p. manifest_for port ask p >>= λ m. item_with port v m) a b → AsksAs view answer (after_version port ask v) a b
+unfolding after_version
+asks_after_version port ask v one = one
+
+pub asks_item : {X : Type 0} {view : X → Item} {answer : Result X PortStop} {a b : CatalogueState Tree} (port : List ℕ)
+    → AsksAs view answer (λ p. given_for port p >>= λ given. item_at port (given_ask given) p) a b → AsksAs view answer (item_of port) a b
+unfolding item_of
+asks_item port one = one

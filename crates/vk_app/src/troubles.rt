@@ -1,0 +1,62 @@
+ghost use Rattle.std.specs.Prelude.{◌≡◌};
+ghost use Rattle.vk_app.specs.declared.troubles.PortStop.TheVariants as stop;
+ghost use Rattle.vk_app.specs.PortStops.{stop_after};
+
+use std::alloc::{AllocError, AllocFailed};
+use vk_base::{Memory, PortName};
+use vk_catalogue::{CatStop, Wrong};
+use vk_version::{Ask, Version};
+
+/// Why a port has no item in the plan.
+#[derive(Drop)]
+pub enum Trouble {
+    /// Something is wrong with the port.
+    Wrong(PortName, Wrong),
+    /// Its table lacks the version that is given.
+    NoVersion(PortName, Ask),
+    /// At this version it wants more than is planned today.
+    WantsMore(PortName, Version),
+}
+
+/// Why a port gave no item.
+#[derive(Drop)]
+pub enum PortStop {
+    Trouble(Trouble),
+    Failed,
+    Memory,
+}
+
+impl From<AllocError> for PortStop {
+    ghost from_gives = { λ _ e. e ≡ stop.Memory };
+
+    fn from(_: AllocError) -> Self {
+        PortStop::Memory
+    }
+}
+
+impl<T: Drop> From<AllocFailed<T>> for PortStop {
+    ghost from_gives = { λ _ e. e ≡ stop.Memory };
+
+    fn from(_: AllocFailed<T>) -> Self {
+        PortStop::Memory
+    }
+}
+
+impl From<Memory> for PortStop {
+    ghost from_gives = { λ _ e. e ≡ stop.Memory };
+
+    fn from(_: Memory) -> Self {
+        PortStop::Memory
+    }
+}
+
+impl From<CatStop> for PortStop {
+    ghost from_gives = { λ stopped e. e ≡ stop_after stopped };
+
+    fn from(stopped: CatStop) -> Self {
+        match stopped {
+            CatStop::Failed => PortStop::Failed,
+            CatStop::Memory => PortStop::Memory,
+        }
+    }
+}
