@@ -1,5 +1,6 @@
 mod FrontLemmas
 mod ManifestLemmas
 mod OrderLaws
+mod ReportLemmas
 pub mod FormLemmas
 pub mod AskReadingLemmas

@@ -7,4 +7,7 @@ pub mod PlainManifests
 pub mod PortPlans
 pub mod PortStops
 pub mod AskReadings
+pub mod Refusals
+pub mod RefusalViews
+pub mod ShortReports
 pub mod WordViews

@@ -9,6 +9,8 @@ pub mod laws;
 mod plain_manifests;
 mod port_plans;
 mod port_sets;
+mod refusals;
+mod reports;
 mod requests;
 mod stops;
 mod troubles;
