@@ -4,13 +4,14 @@ use Rattle.std.specs.List.{list_any, Contains}
 use Rattle.vk_spec.specs.Paths.{Path}
 use Rattle.vk_spec.specs.Versions.{Class, dot, date, text, Version, Ask, ask_of, same_ask}
 use Rattle.vk_spec.specs.Manifests.{Manifest}
-use Rattle.vk_spec.specs.Pages.{Wrong, no_registry, no_baseline, bad_file, disagrees, Given, overlay, override, baseline, Row, Page, row_in, version_in, manifest_in}
+use Rattle.vk_spec.specs.Pages.{Wrong, no_registry, no_baseline, bad_file, disagrees, Given, overlay, override, baseline, Row, row_in, version_in, manifest_in}
+use Rattle.vk_spec.specs.Catalogues as the
 use Rattle.vk_resolution.specs.Keys.{same_key}
 use Rattle.vk_resolution.specs.Settings.{Condition, Setting}
 
 -- the page of each port
 abbrev pub Pages : Type 0
-Pages = List ℕ → Page Condition
+Pages = the.Pages Condition
 
 -- whether two classes are one
 abbrev pub same_class : Class → Class → Bool
