@@ -9,7 +9,7 @@ use Rattle.vk_spec.specs.Manifests.{Manifest}
 use Rattle.vk_spec.specs.Catalogues.{Pages, CatalogueState, OnlyAsked, Asks, SaysGiven, SaysVersion, SaysManifest}
 use Rattle.vk_spec.proofs.AskLemmas.{asked_nothing, asked_then, asked_once, pages_before}
 use Rattle.vk_spec.proofs.ReadingLemmas.{with_front, left_from, goes_on_by, ends_by, is_done_by}
-use Rattle.vk_files.proofs.ReadLemmas.{gives_then, fails_on}
+use Rattle.vk_spec.proofs.ReadingLemmas.{gives_then, fails_on}
 use Rattle.vk_expr.specs.Trees.{Tree}
 use Rattle.vk_app.specs.PortPlans.{Item, Trouble, wrong, no_version, or_trouble, given_for, version_for, listed, manifest_for, item_with, item_at, item_of}
 use Rattle.vk_app.specs.AskReadings.{AsksAs, trouble_of, has_failed}

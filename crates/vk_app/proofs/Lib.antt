@@ -1,4 +1,3 @@
-mod FrontLemmas
 mod ManifestLemmas
 mod OrderLaws
 mod ReportLemmas

@@ -1,4 +1,3 @@
-pub mod Fronts
 pub mod Forms
 pub mod WordFaults
 pub mod Requests

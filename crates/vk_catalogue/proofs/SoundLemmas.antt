@@ -4,12 +4,12 @@ use Rattle.std.specs.Prelude.{◌↔◌, IsTrue, Result, Ok, Err, IfErr, if◌th
 use Rattle.std.specs.List.{Contains, list_any, list_all}
 use Rattle.std.proofs.lemmas.List.{append_assoc, append-nil}
 use Rattle.std.proofs.lemmas.List.Elements.{Contains-append_right}
+use Rattle.vk_spec.proofs.ListLemmas.{any_by, contains_nothing, contains_first, contains_later, contains_cases, no_repeats_push}
 use Rattle.vk_spec.specs.Lists.{NoRepeats}
 use Rattle.vk_spec.specs.Versions.{Ask, ask_of, same_ask}
 use Rattle.vk_spec.specs.Pages.{Wrong, no_registry, no_baseline, bad_file, disagrees, Row}
 use Rattle.vk_spec.specs.Catalogues.{IsPage, CanBeOfRow}
 use Rattle.vk_spec.proofs.VersionLemmas.{is_new, is_found}
-use Rattle.vk_spec.proofs.ListLemmas.{contains_nothing, contains_first, contains_later, contains_cases, no_repeats_push}
 use Rattle.vk_expr.specs.Trees.{Tree}
 use Rattle.vk_catalogue.specs.declared.pages.PageRow.{PageRow}
 use Rattle.vk_catalogue.specs.declared.pages.Page as rust
@@ -115,10 +115,6 @@ sound_by p distinct given rows d g r = (
       let three = r ∙ right_are_rows p.rows page.row_wrongs in
       rw (one, two, three) refl),
 )
-
-any_by : {X Y : Type 0} (f : X → Y) (p : Y → Bool) (xs : List X) → list_any p (map f xs) ≡ list_any (λ x. p (f x)) xs
-any_by f p [] = refl
-any_by f p (x ∷ xs) = ap (λ b. p (f x) || b) (any_by f p xs)
 
 -- an ask that is noted is new where none before is the same
 pub told_new : (keys : List rust_ask.Ask) (ask : rust_ask.Ask) (a : Ask) (new : Bool) → ask_view ask ≡ a → new ≡ not (list_any (λ key. same_ask (ask_view ask) (ask_view key)) keys) → new ≡ not (list_any (same_ask a) (map ask_view keys))

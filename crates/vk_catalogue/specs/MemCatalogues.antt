@@ -26,6 +26,7 @@ abbrev pub mem_state : MemCatalogue → CatalogueState Tree
 mem_state m = record {
   pages = Some (page_among (pages_put m));
   origin = no_origin;
+  calls = m.schedule.calls;
   faults = m.faults;
   sure = is_calm m.schedule;
 }

@@ -10,7 +10,8 @@ use Rattle.vk_files.specs.StopViews.{refusal_in, has_tree_failed}
 use Rattle.vk_files.specs.Readings.{ReadsAs, ReadsNoting}
 use Rattle.vk_files.specs.declared.stops.Stop.{Stop}
 use Rattle.vk_files.proofs.OnceLemmas.{nothing_read, once_then}
-use Rattle.vk_files.proofs.ReadLemmas.{still_right, gives_then, fails_on}
+use Rattle.vk_files.proofs.ReadLemmas.{still_right}
+use Rattle.vk_spec.proofs.ReadingLemmas.{fails_on, gives_then}
 
 -- a reader that keeps no notes leaves them right
 pub noting_none : {X Y F P : Type 0} {refusal : F → P} {view : X → Y} {answer : Result X (Stop F)} {meaning : Files → Result Y P} {a b : Held} (Known : Files → Type 0)

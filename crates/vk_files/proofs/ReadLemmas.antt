@@ -6,6 +6,7 @@ use Rattle.vk_spec.specs.Files.{Files}
 use Rattle.vk_spec.specs.Reading.{◌>>=◌, Gives, Fails}
 use Rattle.vk_spec.specs.States.{Told, State, OnlyRead}
 use Rattle.vk_spec.proofs.StateLemmas.{told_before}
+use Rattle.vk_spec.proofs.ReadingLemmas.{fails_on, gives_then}
 use Rattle.vk_json.specs.Documents.{Fault}
 use Rattle.vk_files.specs.Kept.{Seen, Kept, seen_at, paths_of, IsOf, IsSeen, Held, ReadOnce}
 use Rattle.vk_files.specs.StopViews.{refusal_in, is_tree_failed, has_tree_failed, stop_after, has_look_failed}
@@ -31,13 +32,6 @@ told_fails path read (Some f) (Some bad) is fails = rw fails (ap Err (bad_is pat
 everywhere : {P : Told → Type 0} (told : Option Told) → ((t : Told) → P t) → IfSome told P
 everywhere None each = tt
 everywhere (Some t) each = each t
-
-pub fails_on : {A B F : Type 0} (told : Option F) (read : Result A F) (next : A → Result B F) → Fails told read → Fails told (read >>= next)
-fails_on None read next fails = tt
-fails_on (Some fault) read next fails = ap (λ r. r >>= next) fails
-
-pub gives_then : {X Y Z W E F : Type 0} (view : X → Y) (fault_of : E → Option F) (next_view : Z → W) (x : X) (answer : Result Z E) (read : Result Y F) (next : Y → Result W F) → read ≡ Ok (view x) → Gives next_view fault_of answer (next (view x)) → Gives next_view fault_of answer (read >>= next)
-gives_then view fault_of next_view x answer read next is gives = rw is gives
 
 -- what was kept, and what was kept since, is right
 pub still_right : {failed : Bool} {a b : Held} → ReadOnce failed a b → IfSome a.tree.told (λ t. IsOf t.files a.kept → IsOf t.files b.kept)

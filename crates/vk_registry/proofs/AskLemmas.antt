@@ -2,6 +2,7 @@
 use Rattle.std.proofs.Common.{◌≡◌, Bool, true, false, not, ◌||◌, List, [], ◌∷◌, map, refl, ap, sym, ◌∙◌}
 use Rattle.std.specs.Prelude.{Ok, Err, if◌then◌else◌}
 use Rattle.std.specs.List.{list_any}
+use Rattle.vk_spec.proofs.ListLemmas.{any_by}
 use Rattle.vk_spec.specs.Versions as plain
 use Rattle.vk_spec.specs.Versions.{same_ask}
 use Rattle.vk_version.specs.AskViews.{ask_view}
@@ -9,10 +10,6 @@ use Rattle.vk_version.specs.declared.asks.Ask.{Ask}
 use Rattle.vk_json.specs.declared.faults.Why.TheVariants as why
 use Rattle.vk_json.specs.Places.{here}
 use Rattle.vk_registry.specs.Tables.{new_ask}
-
-any_by : {X Y : Type 0} (f : X → Y) (p : Y → Bool) (xs : List X) → list_any p (map f xs) ≡ list_any (λ x. p (f x)) xs
-any_by f p [] = refl
-any_by f p (x ∷ xs) = ap (λ b. p (f x) || b) (any_by f p xs)
 
 not_not : (b : Bool) → not (not b) ≡ b
 not_not true = refl

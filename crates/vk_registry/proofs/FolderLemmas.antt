@@ -12,7 +12,7 @@ use Rattle.vk_json.specs.Places.{here}
 use Rattle.vk_json.specs.Readings.{text_at}
 use Rattle.vk_fields.specs.Texts.{said_here}
 use Rattle.vk_fields.specs.Wording.{path_word}
-use Rattle.vk_registry.specs.Fronts.{after}
+use Rattle.vk_spec.specs.Fronts.{after}
 use Rattle.vk_registry.specs.Folders.{IsBelow, unless_above, folder_of, folder_at}
 use Rattle.vk_registry.proofs.StepLemmas.{bind_ok}
 

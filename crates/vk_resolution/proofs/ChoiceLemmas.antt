@@ -4,15 +4,15 @@ use Rattle.std.specs.Prelude.{Option, Some, None, option_map, option_and_then, o
 use Rattle.std.specs.List.{Contains, list_any, list_all}
 use Rattle.std.proofs.lemmas.Slice.Eq.{bytes_eq-Decides}
 use Rattle.std.proofs.lemmas.List.{append-nil}
-use Rattle.vk_spec.specs.Versions.{Class, dot, date, text, Version, Ask, same_ask, ask_of}
+use Rattle.vk_spec.specs.Versions.{Class, dot, date, text, Version, Ask, same_ask, ask_of, same_version}
 use Rattle.vk_spec.specs.Pages.{Wrong, Given, overlay, override, baseline, Row, row_in, given_ask}
 use Rattle.vk_spec.proofs.ListLemmas.{contains_nothing, contains_first, contains_later, contains_cases, flat_map-contains}
-use Rattle.vk_spec.proofs.VersionLemmas.{asks_equal, ask_itself}
+use Rattle.vk_spec.proofs.VersionLemmas.{asks_equal, ask_itself, version_decides}
 use Rattle.std.specs.declared.cmp.Ordering.TheVariants.{Less}
 use Rattle.vk_resolution.specs.Keys.{IsKey, in_order, Ascends, key_cmp}
 use Rattle.vk_resolution.specs.Least.{from_one, IsClosed}
 use Rattle.vk_resolution.specs.Settings.{Condition, Instance, inst}
-use Rattle.vk_resolution.specs.Givens.{Pages, same_class, same_version, version_at, is_pinned, is_pinned_by}
+use Rattle.vk_resolution.specs.Givens.{Pages, version_at, is_pinned, is_pinned_by}
 use Rattle.vk_resolution.specs.Asking.{Fact, need, floor, visit}
 use Rattle.vk_resolution.specs.Consequences.{Inputs, Step, given_step, steps_from, rules_of, is_below, by_overlay, by_override, by_baseline}
 use Rattle.vk_resolution.specs.Choices.{floor_in, floors_of, given_version_of, greatest_of, chosen_of, class_number, version_key, is_top, tops_of}
@@ -143,34 +143,6 @@ table_has_floors inputs facts least none i f h =
     pinned_overlay : (inputs : Inputs) (p : List ℕ) (v : Version) → (inputs.pages p).given ≡ Ok (overlay v) → is_pinned inputs.setting inputs.pages p ≡ true
     pinned_overlay inputs p v e = ap (is_pinned_by inputs.setting p) e
 
-same_class-is : (c d : Class) → same_class c d ≡ true → c ≡ d
-same_class-is dot dot e = refl
-same_class-is dot date e = (cc)
-same_class-is dot text e = (cc)
-same_class-is date dot e = (cc)
-same_class-is date date e = refl
-same_class-is date text e = (cc)
-same_class-is text dot e = (cc)
-same_class-is text date e = (cc)
-same_class-is text text e = refl
-
-same_class-itself : (c : Class) → same_class c c ≡ true
-same_class-itself dot = refl
-same_class-itself date = refl
-same_class-itself text = refl
-
-pub same_version-is : (v w : Version) → same_version v w ≡ true → v ≡ w
-same_version-is v w e =
-    let parts = both_true (same_class v.class w.class) (same_ask (ask_of v) (ask_of w)) e in
-    let a : v.class ≡ w.class = same_class-is v.class w.class parts.0 in
-    let b : ask_of v ≡ ask_of w = asks_equal (ask_of v) (ask_of w) parts.1 in
-    let c : v.text ≡ w.text = ap (λ (k : Ask). k.text) b in
-    let d : v.port ≡ w.port = ap (λ (k : Ask). k.port) b in
-    λ k. record { class = a k; text = c k; port = d k }
-
-pub same_version-itself : (v : Version) → same_version v v ≡ true
-same_version-itself v = and_true (same_class v.class v.class) (same_ask (ask_of v) (ask_of v)) (same_class-itself v.class) (ask_itself (ask_of v))
-
 class_number-is : (c d : Class) → class_number c ≡ class_number d → c ≡ d
 class_number-is dot dot e = refl
 class_number-is dot date e = (cc)
@@ -225,17 +197,17 @@ module _ (inputs : Inputs) (order : IsOrder inputs.at_most) where
   below_parts v w e = let parts = both_true (inputs.at_most v w) (not (same_version v w)) e in (parts.0, not_true _ parts.1)
 
   below_itself : (v : Version) → is_below inputs v v ≡ false
-  below_itself v = no_is_false _ (λ e. true_false (same_version v v) (same_version-itself v) (below_parts v v e).1)
+  below_itself v = no_is_false _ (λ e. true_false (same_version v v) ((version_decides v v).1 refl) (below_parts v v e).1)
 
   below_then : (v w u : Version) → is_below inputs v w ≡ true → is_below inputs w u ≡ true → is_below inputs v u ≡ true
   below_then v w u e f =
       let one = below_parts v w e in
       let two = below_parts w u f in
       and_true (inputs.at_most v u) (not (same_version v u)) (order.transitive v w u one.0 two.0) (not_false _ (no_is_false _ (λ same. (
-      let is : v ≡ u = same_version-is v u same in
+      let is : v ≡ u = (version_decides v u).0 same in
       let back : inputs.at_most w v ≡ true = subst (λ k. inputs.at_most w k ≡ true) (sym is) two.0 in
       let tied : v ≡ w = order.antisymmetric v w one.0 back in
-      true_false (same_version v w) (subst (λ k. same_version v k ≡ true) tied (same_version-itself v)) one.1
+      true_false (same_version v w) (subst (λ k. same_version v k ≡ true) tied ((version_decides v v).1 refl)) one.1
       ))))
 
   pub record HasTop (floors : List Version) (v : Version) : Type 0 where

@@ -3,13 +3,13 @@ use Rattle.std.proofs.Common.{◌≡◌, ℕ, true, false, cond, ◌&&◌, not, 
 use Rattle.std.specs.Prelude.{Option, Some, None, option_map, flat_map, is_some, Result, Ok, bytes_eq}
 use Rattle.std.specs.List.{Contains}
 use Rattle.std.proofs.lemmas.Slice.Eq.{bytes_eq-Decides}
-use Rattle.vk_spec.specs.Versions.{Version, Ask, same_ask, ask_of}
+use Rattle.vk_spec.specs.Versions.{Version, Ask, same_ask, ask_of, same_version}
 use Rattle.vk_spec.specs.Pages.{Wrong, Given, overlay, override, baseline, Row, row_in}
 use Rattle.vk_spec.proofs.ListLemmas.{contains_nothing, contains_first, flat_map-contains}
-use Rattle.vk_spec.proofs.VersionLemmas.{ask_itself}
+use Rattle.vk_spec.proofs.VersionLemmas.{ask_itself, version_decides}
 use Rattle.vk_resolution.specs.Least.{FollowsFrom, from_one, from_two, IsClosed}
 use Rattle.vk_resolution.specs.Settings.{Condition, Instance, root, inst}
-use Rattle.vk_resolution.specs.Givens.{same_version, version_at, is_pinned, is_pinned_by}
+use Rattle.vk_resolution.specs.Givens.{version_at, is_pinned, is_pinned_by}
 use Rattle.vk_resolution.specs.Asking.{Fact, need, floor, visit, fact_key, asked_of}
 use Rattle.vk_resolution.specs.Consequences.{Inputs, asked_step, asked_at, steps_from, is_visited, is_visited_by, is_not_below, rules_of, by_one}
 use Rattle.vk_resolution.specs.Choices.{floors_of, given_version_of, greatest_of, chosen_of}
@@ -20,7 +20,7 @@ use Rattle.vk_resolution.proofs.Members.{both_true, and_true, not_true, not_fals
 use Rattle.vk_resolution.proofs.FactLemmas.{fact_key-IsKey}
 use Rattle.vk_resolution.proofs.Rounds.{least_exists}
 use Rattle.vk_resolution.proofs.Soundness.{map_some}
-use Rattle.vk_resolution.proofs.ChoiceLemmas.{version_ask, floors_are, floor_is, free_choice, needed_given, step_in, given_floor, floor_in_table, same_version-itself}
+use Rattle.vk_resolution.proofs.ChoiceLemmas.{version_ask, floors_are, floor_is, free_choice, needed_given, step_in, given_floor, floor_in_table}
 
 -- a need that a manifest asks is in each closed list
 asked_need : (inputs : Inputs) (facts : List Fact) → IsClosed (rules_of inputs) facts → (a : Fact) (asked : List Fact) → Contains facts a → steps_from inputs a ≡ flat_map (asked_step inputs a) asked → (x : Fact) → Contains asked x → is_need x ≡ true → Contains facts x
@@ -54,7 +54,7 @@ module _ (inputs : Inputs) (order : IsOrder inputs.at_most) (facts : List Fact) 
       let is_v : r.version ≡ v = (cc) in
       let up : inputs.at_most g.version v ≡ true = above g.version refl in
       let tied : r.version ≡ g.version = order.antisymmetric r.version g.version parts.0 (subst (λ k. inputs.at_most g.version k ≡ true) (sym is_v) up) in
-      true_false (same_version r.version g.version) (subst (λ k. same_version r.version k ≡ true) tied (same_version-itself r.version)) (not_true _ parts.1)
+      true_false (same_version r.version g.version) (subst (λ k. same_version r.version k ≡ true) tied ((version_decides r.version r.version).1 refl)) (not_true _ parts.1)
       )))
 
   visited_as : (given : Result Given Wrong) (a : Ask) → (inputs.pages i.port).given ≡ given → is_visited_by inputs (inputs.pages i.port).rows a given ≡ true → is_visited inputs i.port a ≡ true

@@ -4,21 +4,21 @@ use Rattle.std.specs.Prelude.{Option, Some, None, flat_map, is_some, Result, Ok,
 use Rattle.std.specs.List.{Contains}
 use Rattle.std.proofs.lemmas.Slice.Eq.{bytes_eq-Decides}
 use Rattle.std.proofs.lemmas.List.Elements.{Contains-append_left, Contains-append_right, Contains-append_cases}
-use Rattle.vk_spec.specs.Versions.{Ask, same_ask, ask_of}
+use Rattle.vk_spec.specs.Versions.{Ask, same_ask, ask_of, same_version}
 use Rattle.vk_spec.specs.Manifests.{Manifest, Dependency, FeatureUse, Feature, core, default}
 use Rattle.vk_spec.specs.Pages.{Wrong, Given, overlay, override, baseline, Row, row_in}
 use Rattle.vk_spec.proofs.ListLemmas.{contains_nothing, contains_first, contains_later, contains_cases, contains-flat_map, flat_map-contains}
-use Rattle.vk_spec.proofs.VersionLemmas.{asks_equal, ask_itself}
+use Rattle.vk_spec.proofs.VersionLemmas.{asks_equal, ask_itself, version_decides}
 use Rattle.vk_resolution.specs.Least.{FollowsFrom, from_one, from_two}
 use Rattle.vk_resolution.specs.Settings.{Setting, Condition, Marks, Instance, Who, root, inst, marks_of, triplet_of, same_instance, instance_of, is_root, is_own, feature_of, dependencies_in, dependencies_of, applicable_of, names_of, defaults_of, is_off}
-use Rattle.vk_resolution.specs.Givens.{same_version, manifest_at, is_pinned}
+use Rattle.vk_resolution.specs.Givens.{manifest_at, is_pinned}
 use Rattle.vk_resolution.specs.Asking.{Fact, need, floor, visit, floor_of, asked_of_other, asked_of_own, asked_by, asked_of}
 use Rattle.vk_resolution.specs.Consequences.{Inputs, Step, given_step, asked_step, asked_in, steps_from, is_not_below, is_below, is_visited, is_visited_by, rules_of, by_overlay, by_override, by_baseline, by_one, by_minimum}
 use Rattle.vk_resolution.specs.Sentences.{IsTrueFor, Depends, by_core, by_feature, IsOnItself, is_instance, is_the_root, IsOnAnother, Asks, a_core, a_default, a_feature, a_minimum, own_feature, own_minimum, a_default_feature, MayVisit, of_overlay, of_override, of_baseline, IsKept, Requires, given_floor, a_visit, asked_by_visit, asked_by_root, AskedMeans, RulesMean}
 use Rattle.vk_resolution.proofs.Members.{true_or_false, both_true, and_true, not_true, not_false, no_is_false, true_false, any_contains, contains_any, contains_filter, filter_contains, contains_map, map_contains, contains_single}
 use Rattle.vk_resolution.proofs.FactLemmas.{same_instance-Decides}
 use Rattle.vk_resolution.proofs.Derivations.{visits_are}
-use Rattle.vk_resolution.proofs.ChoiceLemmas.{given_fact, same_version-is, same_version-itself}
+use Rattle.vk_resolution.proofs.ChoiceLemmas.{given_fact}
 
 -- the names of a list, and the uses that they are of
 names_are : (marks : Marks) (uses : List (FeatureUse Condition)) (g : List ℕ) → Contains (names_of marks uses) g → (u : FeatureUse Condition) × Contains uses u × (u.platform marks ≡ true) × (u.name ≡ g)
@@ -269,13 +269,13 @@ not_below_is inputs (Some g) None e = (cc)
 not_below_is inputs (Some g) (Some r) e = (g, r, refl, refl, λ most. by most (true_or_false (same_version r.version g.version)))
   where
     by : inputs.at_most r.version g.version ≡ true → (same_version r.version g.version ≡ true) ⊎ (same_version r.version g.version ≡ false) → r.version ≡ g.version
-    by most (inl same) = same_version-is r.version g.version same
+    by most (inl same) = (version_decides r.version g.version).0 same
     by most (inr other) = absurd (true_false (is_below inputs r.version g.version) (and_true (inputs.at_most r.version g.version) (not (same_version r.version g.version)) most (not_false _ other)) (not_true (is_below inputs r.version g.version) e))
 
 is_not_below_is : (inputs : Inputs) (g r : Row Condition) → (inputs.at_most r.version g.version ≡ true → r.version ≡ g.version) → not (is_below inputs r.version g.version) ≡ true
 is_not_below_is inputs g r same = not_false _ (no_is_false (is_below inputs r.version g.version) (λ below. (
     let parts = both_true (inputs.at_most r.version g.version) (not (same_version r.version g.version)) below in
-    true_false (same_version r.version g.version) (subst (λ k. same_version r.version k ≡ true) (same parts.0) (same_version-itself r.version)) (not_true _ parts.1)
+    true_false (same_version r.version g.version) (subst (λ k. same_version r.version k ≡ true) (same parts.0) ((version_decides r.version r.version).1 refl)) (not_true _ parts.1)
     )))
 
 some_is : {X : Type 0} (o : Option X) → is_some o ≡ true → (x : X) × (o ≡ Some x)

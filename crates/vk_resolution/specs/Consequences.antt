@@ -1,12 +1,12 @@
 -- One step: what follows from one fact or from two, each with its cause.
 use Rattle.std.specs.Prelude.{ℕ, Bool, false, not, ◌&&◌, List, [], ◌∷◌, map, flat_map, Option, Some, None, is_some, Result, Ok, Err, bytes_eq, if◌then◌else◌}
 use Rattle.std.specs.List.{Contains}
-use Rattle.vk_spec.specs.Versions.{Version, Ask, same_ask, ask_of}
+use Rattle.vk_spec.specs.Versions.{Version, Ask, same_ask, ask_of, same_version}
 use Rattle.vk_spec.specs.Manifests.{Manifest}
 use Rattle.vk_spec.specs.Pages.{Wrong, Given, overlay, override, baseline, Row, row_in}
 use Rattle.vk_resolution.specs.Least.{Rules}
 use Rattle.vk_resolution.specs.Settings.{Setting, Condition, Instance, root, inst}
-use Rattle.vk_resolution.specs.Givens.{Pages, same_version, manifest_at, is_pinned}
+use Rattle.vk_resolution.specs.Givens.{Pages, manifest_at, is_pinned}
 use Rattle.vk_resolution.specs.Asking.{Fact, need, floor, visit, asked_of, root_facts_of}
 
 -- what a plan is made from: the setting, the pages, and the order on versions (whether one is at most the other)

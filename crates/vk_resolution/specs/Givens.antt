@@ -2,31 +2,16 @@
 use Rattle.std.specs.Prelude.{◌≡◌, ℕ, Bool, true, false, ◌&&◌, ◌||◌, List, [], ◌∷◌, Option, Result, Ok, Err, bytes_eq, codes, length, drop, ◌-◌}
 use Rattle.std.specs.List.{list_any, Contains}
 use Rattle.vk_spec.specs.Paths.{Path}
-use Rattle.vk_spec.specs.Versions.{Class, dot, date, text, Version, Ask, ask_of, same_ask}
+use Rattle.vk_spec.specs.Versions.{Version, Ask, ask_of}
 use Rattle.vk_spec.specs.Manifests.{Manifest}
-use Rattle.vk_spec.specs.Pages.{Wrong, no_registry, no_baseline, bad_file, disagrees, Given, overlay, override, baseline, Row, Page, row_in, version_in, manifest_in}
+use Rattle.vk_spec.specs.Pages.{Wrong, no_registry, no_baseline, bad_file, disagrees, Given, overlay, override, baseline, Row, row_in, version_in, manifest_in}
+use Rattle.vk_spec.specs.Catalogues as the
 use Rattle.vk_resolution.specs.Keys.{same_key}
 use Rattle.vk_resolution.specs.Settings.{Condition, Setting}
 
 -- the page of each port
 abbrev pub Pages : Type 0
-Pages = List ℕ → Page Condition
-
--- whether two classes are one
-abbrev pub same_class : Class → Class → Bool
-same_class dot dot = true
-same_class dot date = false
-same_class dot text = false
-same_class date dot = false
-same_class date date = true
-same_class date text = false
-same_class text dot = false
-same_class text date = false
-same_class text text = true
-
--- versions are the same where class, text and port-version are
-abbrev pub same_version : Version → Version → Bool
-same_version v w = same_class v.class w.class && same_ask (ask_of v) (ask_of w)
+Pages = the.Pages Condition
 
 -- the row of a port for an ask
 abbrev pub row_at : Pages → List ℕ → Ask → Option (Row Condition)

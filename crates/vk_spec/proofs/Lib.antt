@@ -9,3 +9,4 @@ pub mod SinkLemmas
 pub mod ReadingLemmas
 pub mod VersionLemmas
 pub mod AskLemmas
+pub mod FrontLemmas

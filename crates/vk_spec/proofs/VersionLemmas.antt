@@ -1,9 +1,11 @@
--- Asks are the same where their texts and port-versions are, and are found in a list.
-use Rattle.std.proofs.Common.{◌≡◌, Bool, true, false, ◌&&◌, ◌||◌, eqb, bytes_eq, List, [], ◌∷◌, inl, inr, refl, sym, subst, ◌∙◌, arith}
+-- Asks are the same where their texts and port-versions are, and are found in a list; versions are where their classes are too.
+use Rattle.std.proofs.Common.{◌≡◌, Bool, true, false, ◌&&◌, ◌||◌, eqb, bytes_eq, List, [], ◌∷◌, inl, inr, refl, ap, sym, subst, ◌∙◌, arith}
 use Rattle.std.specs.List.{Contains, list_any}
 use Rattle.std.proofs.lemmas.Bool.Decides.{nat_tests}
 use Rattle.std.proofs.lemmas.Slice.Eq.{bytes_eq-Decides}
-use Rattle.vk_spec.specs.Versions.{Ask, same_ask}
+use Rattle.std.specs.Bool.{Decides}
+use Rattle.vk_spec.specs.Versions as plain
+use Rattle.vk_spec.specs.Versions.{Class, Version, Ask, ask_of, same_ask, same_class, same_version}
 use Rattle.vk_spec.proofs.ListLemmas.{contains_nothing, contains_first, contains_later, contains_cases}
 
 by_tests : (a b : Ask) (text port : Bool) → bytes_eq a.text b.text ≡ text → eqb a.port b.port ≡ port → (text && port) ≡ true → a ≡ b
@@ -47,3 +49,30 @@ is_found (one ∷ asks) ask e = by (same_ask ask one) refl e (is_found asks ask)
     by : (b : Bool) → same_ask ask one ≡ b → (b || list_any (same_ask ask) asks) ≡ true → (list_any (same_ask ask) asks ≡ true → Contains asks ask) → Contains (one ∷ asks) ask
     by true same h f = subst (λ a. Contains (one ∷ asks) a) (sym (asks_equal ask one same)) (contains_first one asks)
     by false same h f = contains_later one ask asks (f h)
+
+both_decide : {P Q : Type 0} (a b : Bool) → Decides a P → Decides b Q → Decides (a && b) (P × Q)
+both_decide true true p q = (λ e. (p.0 refl, q.0 refl), λ e. refl)
+both_decide true false p q = (λ e. (cc), λ e. q.1 e.1)
+both_decide false b p q = (λ e. (cc), λ e. p.1 e.0)
+
+-- the tests decide whether classes and versions are one
+pub class_decides : (c d : Class) → Decides (same_class c d) (c ≡ d)
+class_decides plain.dot plain.dot = (λ e. refl, λ e. refl)
+class_decides plain.dot plain.date = (λ e. (cc), λ e. (cc))
+class_decides plain.dot plain.text = (λ e. (cc), λ e. (cc))
+class_decides plain.date plain.dot = (λ e. (cc), λ e. (cc))
+class_decides plain.date plain.date = (λ e. refl, λ e. refl)
+class_decides plain.date plain.text = (λ e. (cc), λ e. (cc))
+class_decides plain.text plain.dot = (λ e. (cc), λ e. (cc))
+class_decides plain.text plain.date = (λ e. (cc), λ e. (cc))
+class_decides plain.text plain.text = (λ e. refl, λ e. refl)
+
+ask_decides : (a b : Ask) → Decides (same_ask a b) (a ≡ b)
+ask_decides a b = (asks_equal a b, λ e. subst (λ x. same_ask a x ≡ true) e (ask_itself a))
+
+pub version_decides : (v w : Version) → Decides (same_version v w) (v ≡ w)
+version_decides v w =
+    let d = both_decide (same_class v.class w.class) (same_ask (ask_of v) (ask_of w)) (class_decides v.class w.class) (ask_decides (ask_of v) (ask_of w)) in (
+      λ e. let p = d.0 e in λ i. record { class = p.0 i; text = (p.1 i).text; port = (p.1 i).port },
+      λ e. d.1 (ap (λ x. x.class) e, ap ask_of e),
+    )

@@ -1,5 +1,5 @@
 -- What is known of a catalogue of ports, what its calls answer, and what a caller that only asks leaves.
-use Rattle.std.specs.Prelude.{◌≡◌, ℕ, Bool, true, false, List, [], ◌∷◌, map, Option, Some, IfSome, IsSome, Result, IfOk, IfErr, IsOk}
+use Rattle.std.specs.Prelude.{◌≡◌, ◌≤◌, ℕ, Bool, true, false, List, [], ◌∷◌, map, Option, Some, IfSome, IsSome, Result, IfOk, IfErr, IsOk}
 use Rattle.std.specs.List.{Contains}
 use Rattle.vk_spec.specs.Counts.{Counted}
 use Rattle.vk_spec.specs.Lists.{NoRepeats}
@@ -70,6 +70,8 @@ pub record CatalogueState (C : Type 0) : Type 0 where
   -- the page of each port, where it tells them
   pub pages : Option (Pages C)
   pub origin : Origin
+  -- how many calls were made, of it or of what it stands on
+  pub calls : ℕ
   -- how many calls failed
   pub faults : ℕ
   -- no call is to fail
@@ -83,6 +85,7 @@ OnPage port P s = IfSome s.pages (λ pages. P (pages port))
 pub record OnlyAsked {C : Type 0} (failed : Bool) (before after : CatalogueState C) : Type 0 where
   pub pages : after.pages ≡ before.pages
   pub origin : after.origin ≡ before.origin
+  pub calls : before.calls ≤ after.calls
   pub faults : Counted failed before.faults after.faults
   pub sure : after.sure ≡ before.sure
   pub safe : before.sure ≡ true → failed ≡ false

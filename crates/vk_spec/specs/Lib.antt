@@ -5,6 +5,7 @@ pub mod Files
 pub mod States
 pub mod Calls
 pub mod Sinks
+pub mod Fronts
 pub mod Reading
 pub mod Versions
 pub mod Manifests

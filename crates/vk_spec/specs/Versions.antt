@@ -1,5 +1,5 @@
 -- Versions and asks as plain data.
-use Rattle.std.specs.Prelude.{◌&&◌, ◌==◌, ℕ, Bool, List, bytes_eq}
+use Rattle.std.specs.Prelude.{◌&&◌, ◌==◌, ℕ, Bool, true, false, List, bytes_eq}
 
 -- versions of different classes are never compared
 pub data Class : Type 0 where
@@ -25,3 +25,19 @@ ask_of v = record { text = v.text; port = v.port }
 -- asks are the same where text and port-version are
 abbrev pub same_ask : Ask → Ask → Bool
 same_ask a b = bytes_eq a.text b.text && (a.port == b.port)
+
+-- whether two classes are one
+abbrev pub same_class : Class → Class → Bool
+same_class dot dot = true
+same_class dot date = false
+same_class dot text = false
+same_class date dot = false
+same_class date date = true
+same_class date text = false
+same_class text dot = false
+same_class text date = false
+same_class text text = true
+
+-- versions are the same where class, text and port-version are
+abbrev pub same_version : Version → Version → Bool
+same_version v w = same_class v.class w.class && same_ask (ask_of v) (ask_of w)

@@ -10,10 +10,11 @@ use Rattle.std.proofs.lemmas.Bool.{cases_Bool, cases_order, or_cases, or_right}
 use Rattle.std.proofs.lemmas.Bool.Decides.{Decides-eqb, nat_tests}
 use Rattle.std.proofs.lemmas.Cmp.{tied_back}
 use Rattle.std.proofs.lemmas.Slice.Eq.{slice_eq-Decides}
-use Rattle.vk_spec.specs.Versions.{Class, Version}
+use Rattle.vk_spec.specs.Versions.{Class, Version, same_class}
+use Rattle.vk_spec.proofs.VersionLemmas.{class_decides}
 use Rattle.vk_spec.specs.Versions as plain
 use Rattle.vk_version.specs.Readings.{IsVersion}
-use Rattle.vk_version.specs.Orders.{AtMost, Below, Unrelated, rank_cmp, is_date, tie_cmp, unless_tied, is_same_class, order_of, at_most}
+use Rattle.vk_version.specs.Orders.{AtMost, Below, Unrelated, rank_cmp, is_date, tie_cmp, unless_tied, order_of, at_most}
 use Rattle.vk_version.proofs.OrderLemmas.{Ordered, lower, tied, IsTied, ordered_from, ordered_to, rank_total, AtMost-refl, date_parts}
 use Rattle.vk_version.proofs.SameTextLemmas.{same_dates}
 
@@ -44,24 +45,8 @@ Says v w (Some Equal) = AtMost v w × AtMost w v
 Says v w (Some Greater) = (AtMost v w → ⊥) × AtMost w v
 Says v w None = Unrelated v w
 
-class_true : (c d : Class) → is_same_class c d ≡ true → c ≡ d
-class_true plain.dot plain.dot e = refl
-class_true plain.dot plain.date e = (cc)
-class_true plain.dot plain.text e = (cc)
-class_true plain.date plain.dot e = (cc)
-class_true plain.date plain.date e = refl
-class_true plain.date plain.text e = (cc)
-class_true plain.text plain.dot e = (cc)
-class_true plain.text plain.date e = (cc)
-class_true plain.text plain.text e = refl
-
-class_self : (c : Class) → is_same_class c c ≡ true
-class_self plain.dot = refl
-class_self plain.date = refl
-class_self plain.text = refl
-
-class_false : (c d : Class) → is_same_class c d ≡ false → c ≡ d → ⊥
-class_false c d e same = (let yes : is_same_class c d ≡ true = rw same (class_self d) in let clash : true ≡ false = sym yes ∙ e in (cc))
+class_false : (c d : Class) → same_class c d ≡ false → c ≡ d → ⊥
+class_false c d e same = let clash : true ≡ false = sym ((class_decides c d).1 same) ∙ e in (cc)
 
 pub ordered_class : (v w : Version) → Ordered v w → v.class ≡ w.class
 ordered_class v w (lower c r) = c
@@ -142,8 +127,8 @@ says_rank Greater v w c r =
 
 pub says : (v w : Version) → Says v w (order_of v w)
 says v w =
-    elim (cases_Bool (is_same_class v.class w.class)) [
-      | inl same ↦ rw same (says_rank (rank_cmp v w) v w (class_true v.class w.class same) refl)
+    elim (cases_Bool (same_class v.class w.class)) [
+      | inl same ↦ rw same (says_rank (rank_cmp v w) v w ((class_decides v.class w.class).0 same) refl)
       | inr other ↦ rw other (
         (λ h. class_false v.class w.class other (ordered_class v w (ordered_from v w h))),
         (λ h. class_false v.class w.class other (sym (ordered_class w v (ordered_from w v h)))),

@@ -5,7 +5,7 @@ use Rattle.std.specs.declared.cmp.Ordering.TheVariants.{Less, Equal, Greater}
 use Rattle.std.specs.Ordering.{nat_cmp, ordering_then, is_some_and, is_le}
 use Rattle.std.specs.Cmp.Lexicographic.{slice_cmp, pointwise}
 use Rattle.semver.specs.Order.{pre_cmp}
-use Rattle.vk_spec.specs.Versions.{Class, Version}
+use Rattle.vk_spec.specs.Versions.{Class, Version, same_class}
 use Rattle.vk_spec.specs.Versions as plain
 use Rattle.vk_version.specs.Texts.{numbers_in, core_of, suffix_of, pre_in, day_of, later_numbers}
 
@@ -89,15 +89,9 @@ unless_tied Less tie = Some Less
 unless_tied Equal tie = tie
 unless_tied Greater tie = Some Greater
 
-abbrev pub is_same_class : Class → Class → Bool
-is_same_class plain.dot plain.dot = true
-is_same_class plain.date plain.date = true
-is_same_class plain.text plain.text = true
-is_same_class c d = false
-
 -- how a version compares with another, if they are related
 abbrev pub order_of : Version → Version → Option Ordering
-order_of v w = if is_same_class v.class w.class then unless_tied (rank_cmp v w) (tie_cmp v w) else None
+order_of v w = if same_class v.class w.class then unless_tied (rank_cmp v w) (tie_cmp v w) else None
 
 -- whether a version is at most another
 abbrev pub at_most : Version → Version → Bool
