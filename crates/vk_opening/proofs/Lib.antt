@@ -4,3 +4,4 @@ pub mod LoopLemmas
 pub mod SearchLemmas
 pub mod TripletLemmas
 pub mod OpenLemmas
+pub mod LawLemmas

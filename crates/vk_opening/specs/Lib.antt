@@ -11,3 +11,4 @@ pub mod EarlyViews
 pub mod Views
 pub mod Opened
 pub mod OpeningViews
+pub mod Laws

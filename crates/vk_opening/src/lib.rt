@@ -6,6 +6,7 @@
 mod configurations;
 mod copies;
 mod earlies;
+mod laws;
 mod opens;
 mod overlays;
 mod projects;
@@ -16,6 +17,7 @@ mod starts;
 mod triplet_files;
 
 pub use earlies::Early;
+pub use laws::{early_files, first_triplet, two_places};
 pub use opens::{OpenStop, Opened, open};
 pub use settings::Setting;
 pub use starts::{Overlay, Start};
