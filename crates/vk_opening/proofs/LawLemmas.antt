@@ -168,7 +168,14 @@ decided project opening one other agree is =
         let config_same_as : opening.start.config ≡ config = ap (λ r. config_or opening.start.config r) (sym is_opening) in
         let agreed : AgreeAt (early_paths project config) one other = rw config_same_as at agree in
         let ports = map manifest_path (folders_of project.folder project.overlay_ports config.overlay_ports) in
-        rw (early_same one other root_in (manifest_path project.folder) agreed.0, root_is, config_same one other project.folder root.document agreed.1.0, config_is,
-            triplets_same config (agree_front (triplet_paths project config) ports one other agreed.1.1), triplets_are,
-            overlays_same one other (folders_of project.folder project.overlay_ports config.overlay_ports) (agree_rest (triplet_paths project config) ports one other agreed.1.1), overlays_are)
+        rw (
+          early_same one other root_in (manifest_path project.folder) agreed.0,
+          root_is,
+          config_same one other project.folder root.document agreed.1.0,
+          config_is,
+          triplets_same config (agree_front (triplet_paths project config) ports one other agreed.1.1),
+          triplets_are,
+          overlays_same one other (folders_of project.folder project.overlay_ports config.overlay_ports) (agree_rest (triplet_paths project config) ports one other agreed.1.1),
+          overlays_are,
+        )
         is_opening

@@ -4,7 +4,7 @@ use Rattle.std.specs.Prelude.{IfSome, Option, Some, None, Result, Ok, Err}
 use Rattle.vk_spec.specs.Reading.{◌>>=◌}
 use Rattle.vk_spec.specs.Files.{Files}
 use Rattle.vk_spec.specs.Lists.{NoRepeats}
-use Rattle.vk_spec.specs.States.{Told, State}
+use Rattle.vk_spec.specs.States.{State, OnlyRead}
 use Rattle.vk_files.specs.Kept.{Kept, paths_of, IsOf, ReadOnce}
 use Rattle.vk_files.specs.Views.{kept_of}
 use Rattle.vk_files.specs.StopViews.{has_tree_failed, refusal_in}
@@ -23,7 +23,13 @@ use Rattle.vk_opening.specs.Openings as plain
 use Rattle.vk_opening.specs.Openings.{opening_with, triplets_of, overlays_of, opened_of}
 use Rattle.vk_opening.specs.EarlyViews.{early_view}
 use Rattle.vk_opening.specs.OpeningViews.{opening_view, answer_of}
-use Rattle.vk_opening.specs.Opened.{Opens, Tells, IsKept}
+use Rattle.vk_opening.specs.Opened.{Opens, has_failed}
+use Rattle.vk_opening.specs.Views.{opened_files}
+use Rattle.vk_opening.specs.declared.settings.Setting.{Setting}
+use Rattle.vk_opening.specs.declared.starts.Start.{Start}
+use Rattle.vk_opening.specs.declared.opens.Opened.{Opened}
+use Rattle.vk_opening.specs.declared.opens.Opened.TheVariants as opened
+use Rattle.vk_opening.specs.declared.opens.OpenStop.{OpenStop}
 use Rattle.vk_opening.specs.declared.earlies.Early.{Early}
 use Rattle.vk_opening.specs.declared.opens.Opening.{Opening}
 use Rattle.vk_opening.proofs.ReadMore.{two_told}
@@ -72,3 +78,13 @@ opens_with project (Err stop.Memory) files before after kept none distinct r = r
   kept = tt;
   content = two_told before.told r.content r.content (λ t is _. tt);
 }
+
+-- what a caller has of it: nothing but reading was done, no path twice, and what was read is the files'
+pub only_read : {project : Project} {answer : Result Opened OpenStop} {before after : State} → Opens project answer before after → OnlyRead (has_failed answer) before after
+only_read o = record { asked = paths_of o.once.more; looks = o.once.looks }
+
+pub none_twice : {project : Project} {answer : Result Opened OpenStop} {before after : State} (o : Opens project answer before after) → NoRepeats (paths_of o.once.more)
+none_twice o = subst (λ kept. NoRepeats (paths_of kept)) o.once.kept o.distinct
+
+pub start_right : {project : Project} {setting : Setting} {start : Start} {before after : State} → Opens project (Ok (opened.Ready setting start)) before after → IfSome before.told (λ t. IsOf t.files (opened_files start))
+start_right {before = before} o = two_told before.told o.once.right o.once.right (λ t right _. subst (IsOf t.files) (sym o.once.kept ∙ o.kept) right)

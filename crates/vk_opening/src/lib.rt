@@ -21,3 +21,6 @@ pub use laws::{early_files, first_triplet, two_places};
 pub use opens::{OpenStop, Opened, open};
 pub use settings::Setting;
 pub use starts::{Overlay, Start};
+
+#[cfg(test)]
+mod tests;

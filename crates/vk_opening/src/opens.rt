@@ -1,8 +1,6 @@
 //! Opening a project.
 ghost use Rattle.std.specs.Prelude.{◌≡◌, IfOk, map};
-ghost use Rattle.vk_files.specs.Views.{held, kept_of};
-ghost use Rattle.vk_files.specs.StopViews.{has_tree_failed};
-ghost use Rattle.vk_files.specs.Kept.{Kept};
+ghost use Rattle.vk_files.specs.Views.{held};
 ghost use Rattle.vk_files.specs.Readings.{ReadsAs};
 ghost use Rattle.vk_config.specs.Views.{config_view};
 ghost use Rattle.vk_opening.specs.EarlyViews.{early_view};

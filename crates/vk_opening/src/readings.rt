@@ -1,10 +1,8 @@
 //! A file that is read, and its fault as an early line.
-ghost use Rattle.std.specs.Prelude.{◌≡◌, false, Ok, List, ℕ, Result, option_map};
-ghost use Rattle.vk_spec.specs.Reading.{Gives};
+ghost use Rattle.std.specs.Prelude.{◌≡◌, false, Ok, option_map};
 ghost use Rattle.vk_json.specs.DocumentView.{file_fault_of};
-ghost use Rattle.vk_json.specs.Documents.{Fault};
 ghost use Rattle.vk_files.specs.Views.{held};
-ghost use Rattle.vk_files.specs.StopViews.{refusal_in, is_tree_failed, has_tree_failed};
+ghost use Rattle.vk_files.specs.StopViews.{refusal_in, is_tree_failed};
 ghost use Rattle.vk_files.specs.StandingViews.{standing_view};
 ghost use Rattle.vk_files.specs.Readings.{ReadsAs, bad_view, standing_at};
 ghost use Rattle.vk_opening.specs.Roots.{line_of, early_at, line_at};

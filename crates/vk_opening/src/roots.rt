@@ -1,5 +1,4 @@
 //! The root manifest, and the manifests of overlays.
-ghost use Rattle.std.specs.Prelude.{◌≡◌, false};
 ghost use Rattle.vk_spec.specs.Manifests as manifests;
 ghost use Rattle.vk_expr.specs.Trees as trees;
 ghost use Rattle.vk_model.specs.Views.{manifest_view};
