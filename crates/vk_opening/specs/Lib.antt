@@ -1,3 +1,14 @@
 pub mod Projects
+pub mod Earlies
 pub mod Starts
+pub mod Settings
+pub mod Roots
+pub mod Configurations
+pub mod TripletFiles
+pub mod Overlays
+pub mod Openings
+pub mod EarlyViews
 pub mod Views
+pub mod Opened
+pub mod OpeningViews
+pub mod Laws

@@ -1,7 +1,26 @@
 //! The early files of a project: its manifest, its configuration, its triplets and its overlays, read
-//! in their order, or the first early line.
+//! in their order, or the first early line. It promises upwards that the answer is what the files say,
+//! and that each path is read once.
 #![tactic(auto)]
 
+mod configurations;
+mod copies;
+mod earlies;
+mod laws;
+mod opens;
+mod overlays;
+mod projects;
+mod readings;
+mod roots;
+mod settings;
 mod starts;
+mod triplet_files;
 
+pub use earlies::Early;
+pub use laws::{early_files, first_triplet, two_places};
+pub use opens::{OpenStop, Opened, open};
+pub use settings::Setting;
 pub use starts::{Overlay, Start};
+
+#[cfg(test)]
+mod tests;

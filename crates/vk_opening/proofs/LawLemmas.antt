@@ -1,0 +1,181 @@
+-- What early files decide.
+use Rattle.std.proofs.Common.{◌≡◌, ◌+◌, ◌<◌, ℕ, Bool, true, false, List, [], ◌∷◌, ◌++◌, map, refl, ap, sym, ◌∙◌, codes}
+use Rattle.std.specs.Prelude.{Option, Some, None, Result, Ok, Err, if◌then◌else◌}
+use Rattle.std.specs.FinMap as files_map
+use Rattle.std.specs.List.{find}
+use Rattle.std.proofs.lemmas.List.Elements.{All-head, All-tail}
+use Rattle.serde_json.specs.Data.{Data}
+use Rattle.vk_spec.specs.Reading.{◌>>=◌, read_each}
+use Rattle.vk_spec.specs.Paths.{Path}
+use Rattle.vk_spec.specs.Files.{Files}
+use Rattle.vk_json.specs.Documents.{Fault}
+use Rattle.vk_config.specs.Configs.{Config}
+use Rattle.vk_config.specs.Readings.{config_of}
+use Rattle.vk_config.specs.Embedding.{has_both, embedded_at}
+use Rattle.vk_files.specs.Kept.{Seen, seen_in, seen_at, absent, too_large, holds}
+use Rattle.vk_files.specs.Readings.{Standing, missing, too_long, readable, standing_by, standing_at, seen_file, told_at}
+use Rattle.vk_model.specs.declared.projects.Project.{Project}
+use Rattle.vk_triplet.specs.TripletReadings.{Triplet}
+use Rattle.vk_opening.specs.Earlies.{Early, bad_file, two_configurations, no_triplet}
+use Rattle.vk_opening.specs.Starts.{Overlay}
+use Rattle.vk_opening.specs.Laws.{AgreeAt, LacksTriplet, NoneHas, triplet_paths, early_paths}
+use Rattle.vk_opening.specs.Projects.{manifest_path, config_path, triplet_path, folders_of}
+use Rattle.vk_opening.specs.Roots.{Root, root_in, or_early, early_at, port_in}
+use Rattle.vk_opening.specs.Configurations.{has_configuration, alone_in, config_by, config_in}
+use Rattle.vk_opening.specs.TripletFiles.{Triplets, is_at, triplet_in, triplet_file, triplet_from, triplet_at, triplets_at}
+use Rattle.vk_opening.specs.Overlays.{port_at, overlay_by, overlay_at, overlays_at}
+use Rattle.vk_opening.specs.Openings.{Opening, opening_with, triplets_of, overlays_of, opened_of}
+use Rattle.vk_opening.proofs.OpenLemmas.{after_root, after_config, after_triplets, after_overlays}
+
+-- two configurations
+
+given_root : (project : Project) (root : Root) (files : Files) (line : Early) → early_at root_in (manifest_path project.folder) files ≡ Ok root → config_in project.folder root.document files ≡ Err line → opened_of project files ≡ Err line
+unfolding opened_of
+given_root project root files line is refused = rw (is, refused) refl
+
+pub beside_a_file : (project : Project) (root : Root) (files : Files) → early_at root_in (manifest_path project.folder) files ≡ Ok root → has_configuration root.document ≡ true → standing_at (config_path project.folder) files ≡ readable → opened_of project files ≡ Err two_configurations
+unfolding config_in
+beside_a_file project root files is has stands = given_root project root files two_configurations is (rw (stands, has) refl)
+
+pub under_both_keys : (project : Project) (root : Root) (files : Files) → early_at root_in (manifest_path project.folder) files ≡ Ok root → has_both root.document ≡ true → standing_at (config_path project.folder) files ≡ missing → opened_of project files ≡ Err two_configurations
+unfolding config_in embedded_at
+under_both_keys project root files is has stands = given_root project root files two_configurations is (rw (stands, has) refl)
+
+long_is : (path : Path) (seen : Seen) → standing_by seen ≡ too_long → or_early (told_at path (seen_file config_of seen)) ≡ Err (bad_file path [] (codes "large"))
+long_is path absent stands = (cc)
+long_is path too_large stands = refl
+long_is path (holds bytes) stands = (cc)
+
+pub too_long_first : (project : Project) (root : Root) (files : Files) → early_at root_in (manifest_path project.folder) files ≡ Ok root → standing_at (config_path project.folder) files ≡ too_long → opened_of project files ≡ Err (bad_file (config_path project.folder) [] (codes "large"))
+unfolding config_in
+too_long_first project root files is stands =
+    given_root project root files _ is (rw stands (long_is (config_path project.folder) (seen_at (config_path project.folder) files) stands))
+
+-- triplets folder by folder
+
+triplet_step : (name : List ℕ) (folder : Path) (folders : List Path) (files : Files) (there : Bool) → is_at files (triplet_path name folder) ≡ there
+    → triplet_at name (folder ∷ folders) files ≡ (if there then early_at (triplet_in name) (triplet_path name folder) files else triplet_at name folders files)
+unfolding triplet_at triplet_file
+triplet_step name folder folders files true is = rw is refl
+triplet_step name folder folders files false is = rw is refl
+
+pub first_has : (name : List ℕ) (front rest : List Path) (folder : Path) (files : Files) → NoneHas name front files → is_at files (triplet_path name folder) ≡ true → triplet_at name (front ++ folder ∷ rest) files ≡ early_at (triplet_in name) (triplet_path name folder) files
+first_has name [] rest folder files none has = triplet_step name folder rest files true has
+first_has name (before ∷ front) rest folder files none has =
+    triplet_step name before (front ++ folder ∷ rest) files false (All-head (LacksTriplet name files) before front none)
+    ∙ first_has name front rest folder files (All-tail (LacksTriplet name files) before front none) has
+
+pub none_has : (name : List ℕ) (folders : List Path) (files : Files) → NoneHas name folders files → triplet_at name folders files ≡ Err (no_triplet name)
+unfolding triplet_at triplet_file
+none_has name [] files none = refl
+none_has name (folder ∷ folders) files none = triplet_step name folder folders files false (All-head (LacksTriplet name files) folder folders none) ∙ none_has name folders files (All-tail (LacksTriplet name files) folder folders none)
+
+-- files that agree
+
+agree_front : (front more : List Path) (one other : Files) → AgreeAt (front ++ more) one other → AgreeAt front one other
+agree_front [] more one other agree = tt
+agree_front (path ∷ front) more one other agree = (agree.0, agree_front front more one other agree.1)
+
+agree_rest : (front more : List Path) (one other : Files) → AgreeAt (front ++ more) one other → AgreeAt more one other
+agree_rest [] more one other agree = agree
+agree_rest (path ∷ front) more one other agree = agree_rest front more one other agree.1
+
+module _ (one other : Files) where
+  early_same : {A : Type 0} (reading : List ℕ → Result A Fault) (path : Path) → files_map.get other path ≡ files_map.get one path → early_at reading path other ≡ early_at reading path one
+  early_same reading path same = ap (λ o. or_early (told_at path (seen_file reading (seen_in o)))) same
+
+  standing_same : (path : Path) → files_map.get other path ≡ files_map.get one path → standing_at path other ≡ standing_at path one
+  standing_same path same = ap (λ o. standing_by (seen_in o)) same
+
+  by_same : (standing : Standing) (folder : Path) (document : Data) → early_at config_of (config_path folder) other ≡ early_at config_of (config_path folder) one → config_by standing folder document other ≡ config_by standing folder document one
+  by_same missing folder document same = refl
+  by_same too_long folder document same = same
+  by_same readable folder document same = ap (λ read. if has_configuration document then Err two_configurations else read) same
+
+  config_same : (folder : Path) (document : Data) → files_map.get other (config_path folder) ≡ files_map.get one (config_path folder) → config_in folder document other ≡ config_in folder document one
+  unfolding config_in
+  config_same folder document same =
+      ap (λ standing. config_by standing folder document other) (standing_same (config_path folder) same)
+      ∙ by_same (standing_at (config_path folder) one) folder document (early_same config_of (config_path folder) same)
+
+  there_same : (path : Path) → files_map.get other path ≡ files_map.get one path → (there : Bool) → is_at one path ≡ there → is_at other path ≡ there
+  there_same path same there is = is_same ∙ is
+    where
+      is_same : is_at other path ≡ is_at one path
+      is_same = rw same refl
+
+  triplet_same : (name : List ℕ) (folders : List Path) → AgreeAt (map (triplet_path name) folders) one other → triplet_at name folders other ≡ triplet_at name folders one
+  unfolding triplet_at triplet_file
+  triplet_same name [] agree = refl
+  triplet_same name (folder ∷ folders) agree = by (triplet_same name folders agree.1) (is_at one (triplet_path name folder)) refl
+    where
+      by : triplet_at name folders other ≡ triplet_at name folders one → (there : Bool) → is_at one (triplet_path name folder) ≡ there → triplet_at name (folder ∷ folders) other ≡ triplet_at name (folder ∷ folders) one
+      by later true is =
+          triplet_step name folder folders other true (there_same (triplet_path name folder) agree.0 true is)
+          ∙ early_same (triplet_in name) (triplet_path name folder) agree.0 ∙ sym (triplet_step name folder folders one true is)
+      by later false is =
+          triplet_step name folder folders other false (there_same (triplet_path name folder) agree.0 false is)
+          ∙ later ∙ sym (triplet_step name folder folders one false is)
+
+  kind_same : (standing : Standing) (folder : Path) → early_at port_in (manifest_path folder) other ≡ early_at port_in (manifest_path folder) one → overlay_by standing folder other ≡ overlay_by standing folder one
+  kind_same missing folder same = refl
+  kind_same too_long folder same = rw same refl
+  kind_same readable folder same = rw same refl
+
+  overlay_same : (folder : Path) → files_map.get other (manifest_path folder) ≡ files_map.get one (manifest_path folder) → overlay_at folder other ≡ overlay_at folder one
+  unfolding overlay_at
+  overlay_same folder same =
+      ap (λ standing. overlay_by standing folder other) (standing_same (manifest_path folder) same)
+      ∙ kind_same (standing_at (manifest_path folder) one) folder (early_same port_in (manifest_path folder) same)
+
+  each_same : (folders : List Path) (n : ℕ) → AgreeAt (map manifest_path folders) one other → read_each (λ _ folder. overlay_at folder other) n folders ≡ read_each (λ _ folder. overlay_at folder one) n folders
+  unfolding read_each
+  each_same [] n agree = refl
+  each_same (folder ∷ folders) n agree = rw (overlay_same folder agree.0, each_same folders (n + 1) agree.1) refl
+
+  overlays_same : (folders : List Path) → AgreeAt (map manifest_path folders) one other → overlays_at folders other ≡ overlays_at folders one
+  unfolding overlays_at
+  overlays_same folders agree = each_same folders 0 agree
+
+-- a step that went through
+step_ok : {A B F : Type 0} (read : Result A F) (next : A → Result B F) (y : B) → (read >>= next) ≡ Ok y → (x : A) × (read ≡ Ok x) × (next x ≡ Ok y)
+step_ok (Ok x) next y is = (x, refl, is)
+step_ok (Err fault) next y is = (cc)
+
+pub decided : (project : Project) (opening : Opening) (one other : Files) → AgreeAt (early_paths project opening.start.config) one other → opened_of project one ≡ Ok opening → opened_of project other ≡ Ok opening
+unfolding opened_of triplets_at
+decided project opening one other agree is =
+    let root = step_ok (early_at root_in (manifest_path project.folder) one) (λ root. after_root project root one) opening is in
+    let config = step_ok (config_in project.folder root.0.document one) (λ config. after_config project root.0 config one) opening root.2 in
+    let triplets = step_ok (triplets_of project config.0 one) (λ triplets. after_triplets project root.0 config.0 triplets one) opening config.2 in
+    let overlays = step_ok (overlays_of project config.0 one) (λ overlays. after_overlays project root.0 config.0 triplets.0 overlays one) opening triplets.2 in
+    with_config root.0 config.0 triplets.0 overlays.0 root.1 config.1 triplets.1 overlays.1 overlays.2
+  where
+    config_or : Config → Result Opening Early → Config
+    config_or config (Ok o) = o.start.config
+    config_or config (Err line) = config
+
+    triplets_same : (config : Config) → AgreeAt (triplet_paths project config) one other → triplets_of project config other ≡ triplets_of project config one
+    triplets_same config agreed =
+        let folders = folders_of project.folder project.overlay_triplets config.overlay_triplets in
+        let first = agree_front (map (triplet_path project.target) folders) (map (triplet_path project.host) folders) one other agreed in
+        let second = agree_rest (map (triplet_path project.target) folders) (map (triplet_path project.host) folders) one other agreed in
+        rw (triplet_same one other project.target folders first, triplet_same one other project.host folders second) refl
+
+    with_config : (root : Root) (config : Config) (triplets : Triplets) (overlays : List Overlay) → early_at root_in (manifest_path project.folder) one ≡ Ok root → config_in project.folder root.document one ≡ Ok config → triplets_of project config one ≡ Ok triplets → overlays_of project config one ≡ Ok overlays
+        → after_overlays project root config triplets overlays one ≡ Ok opening → opened_of project other ≡ Ok opening
+    with_config root config triplets overlays root_is config_is triplets_are overlays_are is_opening =
+        let config_same_as : opening.start.config ≡ config = ap (λ r. config_or opening.start.config r) (sym is_opening) in
+        let agreed : AgreeAt (early_paths project config) one other = rw config_same_as at agree in
+        let ports = map manifest_path (folders_of project.folder project.overlay_ports config.overlay_ports) in
+        rw (
+          early_same one other root_in (manifest_path project.folder) agreed.0,
+          root_is,
+          config_same one other project.folder root.document agreed.1.0,
+          config_is,
+          triplets_same config (agree_front (triplet_paths project config) ports one other agreed.1.1),
+          triplets_are,
+          overlays_same one other (folders_of project.folder project.overlay_ports config.overlay_ports) (agree_rest (triplet_paths project config) ports one other agreed.1.1),
+          overlays_are,
+        )
+        is_opening

@@ -1,0 +1,35 @@
+-- Two triplets, of which the second may be the first.
+use Rattle.std.proofs.Common.{◌≡◌, ℕ, List, refl}
+use Rattle.std.specs.Prelude.{IfSome, Result, Ok}
+use Rattle.vk_spec.specs.Reading.{◌>>=◌}
+use Rattle.vk_spec.specs.Paths.{Path}
+use Rattle.vk_spec.specs.Files.{Files}
+use Rattle.vk_files.specs.Kept.{Held}
+use Rattle.vk_files.specs.Readings.{ReadsAs}
+use Rattle.vk_triplet.specs.TripletViews.{triplet_view}
+use Rattle.vk_triplet.specs.declared.triplets.Triplet.{Triplet}
+use Rattle.vk_triplet.specs.TripletReadings as plain
+use Rattle.vk_opening.specs.Earlies.{Early}
+use Rattle.vk_opening.specs.TripletFiles.{Triplets, triplet_at, triplets_at}
+use Rattle.vk_opening.specs.Views.{triplets_view}
+use Rattle.vk_opening.specs.EarlyViews.{early_view}
+use Rattle.vk_opening.proofs.ReadMore.{two_told}
+
+-- what is read after the first triplet, and after the second
+abbrev pub after_second : plain.Triplet → plain.Triplet → Files → Result Triplets Early
+after_second first second files = Ok (record { target = first; host = second })
+
+abbrev pub after_first : List ℕ → List Path → plain.Triplet → Files → Result Triplets Early
+after_first host folders first files = triplet_at host folders files >>= λ second. after_second first second files
+
+-- a triplet that was read is also that of the same name
+pub read_for_both : (target host : List ℕ) (folders : List Path) (first second : Triplet) (a b : Held) → target ≡ host → second ≡ first
+    → ReadsAs early_view triplet_view (Ok first) (triplet_at target folders) a b → ReadsAs early_view triplets_view (Ok (record { target = first; host = second })) (triplets_at target host folders) a b
+unfolding triplets_at
+read_for_both target host folders first second a b one same read = record {
+  once = read.once;
+  content = two_told a.tree.told read.content read.content (λ t is _ old. both t.files (is old));
+}
+  where
+    both : (files : Files) → triplet_at target folders files ≡ Ok (triplet_view first) → triplets_at target host folders files ≡ Ok (triplets_view (record { target = first; host = second }))
+    both files is = rw (← one, is, same) refl

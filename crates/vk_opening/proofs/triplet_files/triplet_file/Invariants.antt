@@ -1,0 +1,6 @@
+use Rattle.vk_files.specs.Views.{held}
+use Rattle.vk_opening.proofs.SearchLemmas.{SearchedSoFar}
+use Rattle.vk_opening.proofs.triplet_files.triplet_file.Given as goal
+
+abbrev pub invariant-loop-folder : goal.invariant-loop-folder
+invariant-loop-folder g l = SearchedSoFar l.name l.folder-index l.folders (held l.initial.files (g.T.Tree.state l.initial.tree)) (held l.files (g.T.Tree.state l.tree))

@@ -1,0 +1,28 @@
+-- What was read of a project, as plain data, and the answer that it makes.
+use Rattle.std.specs.Prelude.{map, Result, Ok, Err}
+use Rattle.vk_model.specs.Views.{override_view}
+use Rattle.vk_config.specs.Views.{config_view}
+use Rattle.vk_files.specs.declared.caches.FileCache.{FileCache}
+use Rattle.vk_files.specs.declared.stops.Stop.{Stop}
+use Rattle.vk_files.specs.declared.stops.Stop.TheVariants as stop
+use Rattle.vk_opening.specs.Openings as plain
+use Rattle.vk_opening.specs.Views.{setting_view, overlay_view}
+use Rattle.vk_opening.specs.declared.earlies.Early.{Early}
+use Rattle.vk_opening.specs.declared.opens.Opening.{Opening}
+use Rattle.vk_opening.specs.declared.opens.Opened.{Opened}
+use Rattle.vk_opening.specs.declared.opens.Opened.TheVariants as opened
+use Rattle.vk_opening.specs.declared.opens.OpenStop.{OpenStop}
+use Rattle.vk_opening.specs.declared.opens.OpenStop.TheVariants as open_stop
+
+abbrev pub opening_view : Opening → plain.Opening
+opening_view o = record { setting = setting_view o.setting; start = record { folder = o.folder; config = config_view o.config; overlays = map overlay_view o.overlays; overrides = map override_view o.overrides } }
+
+-- with the files that were read
+abbrev pub ready : Opening → FileCache → Opened
+ready o files = opened.Ready o.setting (record { folder = o.folder; config = o.config; overlays = o.overlays; overrides = o.overrides; files = files })
+
+abbrev pub answer_of : Result Opening (Stop Early) → FileCache → Result Opened OpenStop
+answer_of (Ok o) files = Ok (ready o files)
+answer_of (Err (stop.Refused early)) files = Ok (opened.Refused early)
+answer_of (Err stop.TreeFailed) files = Err open_stop.TreeFailed
+answer_of (Err stop.Memory) files = Err open_stop.Memory

@@ -1,0 +1,49 @@
+-- What the early files of a project give: a setting and a start, or the first early line.
+use Rattle.std.specs.Prelude.{List, [], map, Result, Ok}
+use Rattle.vk_spec.specs.Reading.{◌>>=◌}
+use Rattle.vk_spec.specs.Paths.{Path}
+use Rattle.vk_spec.specs.Files.{Files}
+use Rattle.vk_base.specs.FeatureViews.{feature_view}
+use Rattle.vk_spec.specs.Manifests.{Manifest}
+use Rattle.vk_expr.specs.Trees.{Tree}
+use Rattle.vk_config.specs.Configs.{Config}
+use Rattle.vk_model.specs.declared.projects.Project.{Project}
+use Rattle.vk_opening.specs.Earlies.{Early}
+use Rattle.vk_opening.specs.Starts.{Overlay, Start}
+use Rattle.vk_opening.specs.Settings.{Setting}
+use Rattle.vk_opening.specs.Projects.{manifest_path, folders_of}
+use Rattle.vk_opening.specs.Roots.{Root, root_in, early_at}
+use Rattle.vk_opening.specs.Configurations.{config_in}
+use Rattle.vk_opening.specs.TripletFiles.{Triplets, triplets_at}
+use Rattle.vk_opening.specs.Overlays.{overlays_at}
+
+-- a setting, and what is known besides before any port is looked at
+pub record Opening : Type 0 where
+  pub setting : Setting
+  pub start : Start
+
+-- the triplets, in the folders that the words name and then in those of the configuration
+abbrev pub triplets_of : Project → Config → Files → Result Triplets Early
+triplets_of project config files = triplets_at project.target project.host (folders_of project.folder project.overlay_triplets config.overlay_triplets) files
+
+-- the overlays that the words name, and then those of the configuration
+abbrev pub overlays_of : Project → Config → Files → Result (List Overlay) Early
+overlays_of project config files = overlays_at (folders_of project.folder project.overlay_ports config.overlay_ports) files
+
+-- no default features are off: which are is known from the root's dependencies
+abbrev pub setting_with : Project → Manifest Tree → Triplets → Setting
+setting_with project root triplets = record { root = root; target = triplets.target; host = triplets.host; features = map feature_view project.features; defaults = project.defaults; off = []; max_facts = project.max_facts }
+
+abbrev pub start_with : Project → Manifest Tree → Config → List Overlay → Start
+start_with project root config overlays = record { folder = project.folder; config = config; overlays = overlays; overrides = root.overrides }
+
+abbrev pub opening_with : Project → Root → Config → Triplets → List Overlay → Opening
+opening_with project root config triplets overlays = record { setting = setting_with project root.manifest triplets; start = start_with project root.manifest config overlays }
+
+unfoldable pub opened_of : Project → Files → Result Opening Early
+opened_of project files = do
+  root ← early_at root_in (manifest_path project.folder) files
+  config ← config_in project.folder root.document files
+  triplets ← triplets_of project config files
+  overlays ← overlays_of project config files
+  Ok (opening_with project root config triplets overlays)

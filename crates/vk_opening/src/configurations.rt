@@ -1,0 +1,154 @@
+//! The configuration of a project.
+ghost use Rattle.std.specs.Prelude.{◌≡◌, false};
+ghost use Rattle.serde_json.specs.View.{view};
+ghost use Rattle.vk_spec.specs.Reading.{Gives};
+ghost use Rattle.vk_config.specs.Configs as plain;
+ghost use Rattle.vk_config.specs.Readings.{config_of};
+ghost use Rattle.vk_config.specs.Embedding.{embedded_at};
+ghost use Rattle.vk_config.specs.Views.{config_view, embedded_view};
+ghost use Rattle.vk_files.specs.Views.{held};
+ghost use Rattle.vk_files.specs.StopViews.{refusal_in, has_tree_failed};
+ghost use Rattle.vk_files.specs.StandingViews.{standing_view};
+ghost use Rattle.vk_files.specs.Readings.{ReadsAs, told_at};
+ghost use Rattle.vk_opening.specs.EarlyViews.{early_view};
+ghost use Rattle.vk_opening.specs.Projects.{manifest_path, config_path};
+ghost use Rattle.vk_opening.specs.Roots.{or_early, early_at};
+ghost use Rattle.vk_opening.specs.Configurations.{has_configuration, only_of, embedded_in, alone_in, config_by, config_in};
+
+use crate::earlies::Early;
+use crate::projects::{config_path, manifest_path};
+use crate::readings::{bad_file, read_early, standing};
+use serde_json::Value;
+use std::alloc::Global;
+use vk_base::{List, TreePath};
+use vk_config::{Config, Embedded, read_config};
+use vk_files::{FileCache, FileReader, Standing, Stop};
+use vk_json::{FileFault, member};
+use vk_tree::Tree;
+
+// Reads a configuration file.
+#[derive(Drop)]
+struct ConfigFile;
+
+impl FileReader for ConfigFile {
+    type Out = Config;
+
+    ghost Plain = { plain.Config };
+
+    ghost plain = { config_view };
+
+    ghost reads = { λ r. config_of };
+
+    fn read(&self, alloc: Global, bytes: &[u8]) -> Result<Config, FileFault> {
+        read_config(alloc, bytes)
+    }
+}
+
+fn has_configuration(document: &Value) -> bool
+    ensures { result ≡ has_configuration (view document.now) }
+{
+    member(document, "vcpkg-configuration").is_some() || member(document, "configuration").is_some()
+}
+
+// The configuration that counts, by what the root manifest has of it.
+fn only_of(alloc: Global, embedded: Embedded) -> Result<Config, Stop<Early>>
+    ensures given { Gives config_view (refusal_in early_view) result (only_of (embedded_view embedded)) }
+    ensures calm { has_tree_failed result ≡ false }
+{
+    match embedded {
+        Embedded::Nothing => Ok(Config {
+            registries: List::new(alloc),
+            default: None,
+            overlay_ports: List::new(alloc),
+            overlay_triplets: List::new(alloc),
+        }),
+        Embedded::One(config) => Ok(config),
+        Embedded::Two => Err(Stop::Refused(Early::TwoConfigurations)),
+    }
+}
+
+// What the root manifest has of a configuration, its faults told at its file.
+fn read_embedded(
+    alloc: Global,
+    folder: &TreePath,
+    document: &Value,
+) -> Result<Embedded, Stop<Early>>
+    ensures given { Gives embedded_view (refusal_in early_view) result (or_early (told_at (manifest_path folder.now) (embedded_at (view document.now)))) }
+    ensures calm { has_tree_failed result ≡ false }
+{
+    let path = manifest_path(alloc, folder)?;
+    match vk_config::embedded_in(alloc, document) {
+        Ok(embedded) => Ok(embedded),
+        Err(fault) => Err(bad_file(path, fault)),
+    }
+}
+
+// The configuration in the root manifest.
+fn embedded_in(alloc: Global, folder: &TreePath, document: &Value) -> Result<Config, Stop<Early>>
+    ensures given { Gives config_view (refusal_in early_view) result (embedded_in folder.now (view document.now)) }
+    ensures calm { has_tree_failed result ≡ false }
+{
+    only_of(alloc, read_embedded(alloc, folder, document)?)
+}
+
+// The configuration file's configuration.
+fn config_file<T: Tree>(
+    alloc: Global,
+    files: &mut FileCache,
+    tree: &mut T,
+    folder: &TreePath,
+) -> Result<Config, Stop<Early>>
+    ensures { ReadsAs early_view config_view result (early_at config_of (config_path folder.now)) (held files.old (T.state tree.old)) (held files.new (T.state tree.new)) }
+{
+    let path = config_path(alloc, folder)?;
+    read_early(alloc, files, tree, &path, &ConfigFile)
+}
+
+// The configuration file's configuration, unless the root manifest has one too.
+fn alone_in<T: Tree>(
+    alloc: Global,
+    files: &mut FileCache,
+    tree: &mut T,
+    folder: &TreePath,
+    document: &Value,
+) -> Result<Config, Stop<Early>>
+    ensures { ReadsAs early_view config_view result (alone_in folder.now (view document.now)) (held files.old (T.state tree.old)) (held files.new (T.state tree.new)) }
+{
+    if has_configuration(document) {
+        return Err(Stop::Refused(Early::TwoConfigurations));
+    }
+    config_file(alloc, files, tree, folder)
+}
+
+// The configuration, by how its file stands.
+fn config_by<T: Tree>(
+    alloc: Global,
+    files: &mut FileCache,
+    tree: &mut T,
+    standing: Standing,
+    folder: &TreePath,
+    document: &Value,
+) -> Result<Config, Stop<Early>>
+    ensures { ReadsAs early_view config_view result (config_by (standing_view standing) folder.now (view document.now)) (held files.old (T.state tree.old)) (held files.new (T.state tree.new)) }
+{
+    match standing {
+        Standing::Missing => embedded_in(alloc, folder, document),
+        Standing::TooLong => config_file(alloc, files, tree, folder),
+        Standing::Readable => alone_in(alloc, files, tree, folder, document),
+    }
+}
+
+/// The configuration of the project in a folder, whose root manifest is this document.
+pub fn read_configuration<T: Tree>(
+    alloc: Global,
+    files: &mut FileCache,
+    tree: &mut T,
+    folder: &TreePath,
+    document: &Value,
+) -> Result<Config, Stop<Early>>
+    ensures { ReadsAs early_view config_view result (config_in folder.now (view document.now)) (held files.old (T.state tree.old)) (held files.new (T.state tree.new)) }
+{
+    let path = config_path(alloc, folder)?;
+    let standing = standing(files, tree, &path)?;
+    config_by(alloc, files, tree, standing, folder, document)
+}

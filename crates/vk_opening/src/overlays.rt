@@ -1,0 +1,80 @@
+//! The folders that stand before every registry.
+ghost use Rattle.std.specs.Prelude.{map};
+ghost use Rattle.vk_files.specs.Views.{held};
+ghost use Rattle.vk_files.specs.StandingViews.{standing_view};
+ghost use Rattle.vk_files.specs.Readings.{ReadsAs};
+ghost use Rattle.vk_opening.specs.EarlyViews.{early_view};
+ghost use Rattle.vk_opening.specs.Overlays.{port_at, overlay_by, overlay_at, overlays_at};
+ghost use Rattle.vk_opening.specs.Views.{overlay_view};
+
+use crate::earlies::Early;
+use crate::projects::manifest_path;
+use crate::readings::{read_early, standing};
+use crate::roots::PortFile;
+use crate::starts::Overlay;
+use std::alloc::Global;
+use std::rc::Rc;
+use vk_base::{List, TreePath};
+use vk_files::{FileCache, Standing, Stop};
+use vk_tree::Tree;
+
+// A folder that is a port, with its manifest.
+fn port_at<T: Tree>(
+    alloc: Global,
+    files: &mut FileCache,
+    tree: &mut T,
+    folder: TreePath,
+) -> Result<Overlay, Stop<Early>>
+    ensures { ReadsAs early_view overlay_view result (port_at folder) (held files.old (T.state tree.old)) (held files.new (T.state tree.new)) }
+{
+    let path = manifest_path(alloc, &folder)?;
+    let manifest = read_early(alloc, files, tree, &path, &PortFile)?;
+    Ok(Overlay::Port(folder, Rc::new(alloc, manifest)?))
+}
+
+// A folder, by how the manifest in it stands.
+fn overlay_by<T: Tree>(
+    alloc: Global,
+    files: &mut FileCache,
+    tree: &mut T,
+    standing: Standing,
+    folder: TreePath,
+) -> Result<Overlay, Stop<Early>>
+    ensures { ReadsAs early_view overlay_view result (overlay_by (standing_view standing) folder) (held files.old (T.state tree.old)) (held files.new (T.state tree.new)) }
+{
+    match standing {
+        Standing::Missing => Ok(Overlay::Ports(folder)),
+        Standing::TooLong => port_at(alloc, files, tree, folder),
+        Standing::Readable => port_at(alloc, files, tree, folder),
+    }
+}
+
+fn overlay_at<T: Tree>(
+    alloc: Global,
+    files: &mut FileCache,
+    tree: &mut T,
+    folder: TreePath,
+) -> Result<Overlay, Stop<Early>>
+    ensures { ReadsAs early_view overlay_view result (overlay_at folder) (held files.old (T.state tree.old)) (held files.new (T.state tree.new)) }
+{
+    let path = manifest_path(alloc, &folder)?;
+    let standing = standing(files, tree, &path)?;
+    overlay_by(alloc, files, tree, standing, folder)
+}
+
+/// What each of the folders is, in their order.
+pub fn read_overlays<T: Tree>(
+    alloc: Global,
+    files: &mut FileCache,
+    tree: &mut T,
+    folders: List<TreePath>,
+) -> Result<List<Overlay>, Stop<Early>>
+    ensures { ReadsAs early_view (λ l. map overlay_view l) result (overlays_at folders) (held files.old (T.state tree.old)) (held files.new (T.state tree.new)) }
+{
+    let mut overlays = List::new(alloc);
+    for folder in folders.into_vec() {
+        let overlay = overlay_at(alloc, files, tree, folder)?;
+        overlays.push(overlay)?;
+    }
+    Ok(overlays)
+}

@@ -1,0 +1,175 @@
+//! The triplets of a project, each the first file of its name in folders of triplets.
+ghost use Rattle.std.specs.Prelude.{◌≡◌, ◌↔◌, false, Ok, Err, IsTrue, option_map};
+ghost use Rattle.vk_spec.specs.Reading.{Fails};
+ghost use Rattle.vk_json.specs.DocumentView.{file_fault_of};
+ghost use Rattle.vk_json.specs.Places.{here};
+ghost use Rattle.vk_triplet.specs.TripletReadings as plain;
+ghost use Rattle.vk_triplet.specs.TripletViews.{triplet_view};
+ghost use Rattle.vk_triplet.specs.Views.{triplet_fault_of};
+ghost use Rattle.vk_files.specs.Views.{held};
+ghost use Rattle.vk_files.specs.StopViews.{refusal_in, is_tree_failed};
+ghost use Rattle.vk_files.specs.StandingViews.{standing_view};
+ghost use Rattle.vk_files.specs.Readings.{ReadsAs};
+ghost use Rattle.vk_opening.specs.Earlies as early;
+ghost use Rattle.vk_opening.specs.EarlyViews.{early_view};
+ghost use Rattle.vk_opening.specs.TripletFiles.{triplet_word, triplet_in, is_there, is_at, triplet_file, triplet_from, triplet_at, triplets_at};
+ghost use Rattle.vk_opening.specs.Views.{triplets_view};
+
+use crate::copies::copy_triplet;
+use crate::earlies::Early;
+use crate::projects::triplet_path;
+use crate::readings::{read_early, standing};
+use std::alloc::Global;
+use vk_base::{TreePath, TripletName};
+use vk_files::{FileCache, FileReader, Standing, Stop};
+use vk_json::{FileFault, Why, wrong};
+use vk_tree::Tree;
+use vk_triplet::{Triplet, TripletFault};
+
+// What is wrong with a triplet file, told of the whole.
+fn wrong_triplet(alloc: Global, fault: TripletFault) -> FileFault
+    ensures { file_fault_of result ≡ option_map (λ f. here (triplet_word f)) (triplet_fault_of fault) }
+{
+    match fault {
+        TripletFault::Line { n } => wrong(alloc, Why::Line(n)),
+        TripletFault::NotText => wrong(alloc, Why::Utf8),
+        TripletFault::Memory => FileFault::Memory,
+    }
+}
+
+// Reads the file of the triplet of this name.
+#[derive(Drop)]
+struct TripletFile<'a>(&'a TripletName);
+
+#[tactic(auto, unfolding(crate::specs::TripletFiles::triplet_in), using(vk_fields::proofs::Saying::said_fails))]
+impl FileReader for TripletFile<'_> {
+    type Out = Triplet;
+
+    ghost Plain = { plain.Triplet };
+
+    ghost plain = { triplet_view };
+
+    ghost reads = { λ r. triplet_in r.0.now };
+
+    fn read(&self, alloc: Global, bytes: &[u8]) -> Result<Triplet, FileFault> {
+        match vk_triplet::read(alloc, self.0, bytes) {
+            Ok(triplet) => Ok(triplet),
+            Err(fault) => Err(wrong_triplet(alloc, fault)),
+        }
+    }
+}
+
+fn is_there(standing: Standing) -> bool
+    ensures { result ≡ is_there (standing_view standing) }
+{
+    match standing {
+        Standing::Missing => false,
+        Standing::TooLong => true,
+        Standing::Readable => true,
+    }
+}
+
+// Whether a file stands at a path.
+fn is_at<T: Tree>(files: &mut FileCache, tree: &mut T, path: &TreePath) -> Result<bool, Stop<Early>>
+    ensures { ReadsAs early_view (λ there. there) result (λ files. Ok (is_at files path.now)) (held files.old (T.state tree.old)) (held files.new (T.state tree.new)) }
+{
+    let standing = standing(files, tree, path)?;
+    Ok(is_there(standing))
+}
+
+// The first of the folders' files of a triplet that is there.
+fn triplet_file<T: Tree>(
+    alloc: Global,
+    files: &mut FileCache,
+    tree: &mut T,
+    name: &TripletName,
+    folders: &[TreePath],
+) -> Result<Option<TreePath>, Stop<Early>>
+    ensures { ReadsAs early_view (λ path. path) result (λ files. Ok (triplet_file name.now folders.now files)) (held files.old (T.state tree.old)) (held files.new (T.state tree.new)) }
+{
+    for folder in folders {
+        let path = triplet_path(alloc, name, folder)?;
+        if is_at(files, tree, &path)? {
+            return Ok(Some(path));
+        }
+    }
+    Ok(None)
+}
+
+fn no_triplet(name: &TripletName) -> Stop<Early>
+    ensures told { Fails {Y = plain.Triplet} (refusal_in early_view result) (Err (early.no_triplet name.now)) }
+    ensures calm { is_tree_failed result ≡ false }
+{
+    match name.clone() {
+        Ok(name) => Stop::Refused(Early::NoTriplet { name }),
+        Err(_) => Stop::Memory,
+    }
+}
+
+fn triplet_from<T: Tree>(
+    alloc: Global,
+    files: &mut FileCache,
+    tree: &mut T,
+    name: &TripletName,
+    path: Option<TreePath>,
+) -> Result<Triplet, Stop<Early>>
+    ensures { ReadsAs early_view triplet_view result (triplet_from name.now path) (held files.old (T.state tree.old)) (held files.new (T.state tree.new)) }
+{
+    match path {
+        Some(path) => read_early(alloc, files, tree, &path, &TripletFile(name)),
+        None => Err(no_triplet(name)),
+    }
+}
+
+// The triplet of a name in folders.
+fn read_triplet<T: Tree>(
+    alloc: Global,
+    files: &mut FileCache,
+    tree: &mut T,
+    name: &TripletName,
+    folders: &[TreePath],
+) -> Result<Triplet, Stop<Early>>
+    ensures { ReadsAs early_view triplet_view result (triplet_at name.now folders.now) (held files.old (T.state tree.old)) (held files.new (T.state tree.new)) }
+{
+    let path = triplet_file(alloc, files, tree, name, folders)?;
+    triplet_from(alloc, files, tree, name, path)
+}
+
+fn is_same(one: &TripletName, other: &TripletName) -> bool
+    ensures { IsTrue result ↔ (one.now ≡ other.now) }
+{
+    one == other
+}
+
+/// The triplet that is built for, and that of the machine that builds.
+#[derive(Drop)]
+pub struct Triplets {
+    pub target: Triplet,
+    pub host: Triplet,
+}
+
+/// The two triplets of these names in folders. Where the names are one, its file is read once.
+pub fn read_triplets<T: Tree>(
+    alloc: Global,
+    files: &mut FileCache,
+    tree: &mut T,
+    target: &TripletName,
+    host: &TripletName,
+    folders: &[TreePath],
+) -> Result<Triplets, Stop<Early>>
+    ensures { ReadsAs early_view triplets_view result (triplets_at target.now host.now folders.now) (held files.old (T.state tree.old)) (held files.new (T.state tree.new)) }
+{
+    let first = read_triplet(alloc, files, tree, target, folders)?;
+    if is_same(target, host) {
+        let second = copy_triplet(&first)?;
+        return Ok(Triplets {
+            target: first,
+            host: second,
+        });
+    }
+    let second = read_triplet(alloc, files, tree, host, folders)?;
+    Ok(Triplets {
+        target: first,
+        host: second,
+    })
+}
