@@ -16,7 +16,7 @@ use Rattle.vk_files.specs.Kept.{Seen, seen_in, seen_at, absent, too_large, holds
 use Rattle.vk_files.specs.Readings.{Standing, missing, too_long, readable, standing_by, standing_at, seen_file, told_at}
 use Rattle.vk_model.specs.declared.projects.Project.{Project}
 use Rattle.vk_triplet.specs.TripletReadings.{Triplet}
-use Rattle.vk_opening.specs.Earlies.{Early, bad_file, two_configurations, no_triplet}
+use Rattle.vk_spec.specs.Earlies.{Early, bad_file, two_configurations, no_triplet}
 use Rattle.vk_opening.specs.Starts.{Overlay}
 use Rattle.vk_opening.specs.Laws.{AgreeAt, LacksTriplet, NoneHas, triplet_paths, early_paths}
 use Rattle.vk_opening.specs.Projects.{manifest_path, config_path, triplet_path, folders_of}

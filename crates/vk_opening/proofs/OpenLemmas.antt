@@ -14,23 +14,23 @@ use Rattle.vk_files.specs.declared.stops.Stop.{Stop}
 use Rattle.vk_files.specs.declared.stops.Stop.TheVariants as stop
 use Rattle.vk_model.specs.declared.projects.Project.{Project}
 use Rattle.vk_config.specs.Configs.{Config}
-use Rattle.vk_opening.specs.Earlies as early
+use Rattle.vk_spec.specs.Earlies as early
 use Rattle.vk_opening.specs.Starts.{Overlay}
 use Rattle.vk_opening.specs.Roots.{Root}
 use Rattle.vk_opening.specs.Configurations.{config_in}
 use Rattle.vk_opening.specs.TripletFiles.{Triplets}
 use Rattle.vk_opening.specs.Openings as plain
 use Rattle.vk_opening.specs.Openings.{opening_with, triplets_of, overlays_of, opened_of}
-use Rattle.vk_opening.specs.EarlyViews.{early_view}
+use Rattle.vk_model.specs.EarlyViews.{early_view}
 use Rattle.vk_opening.specs.OpeningViews.{opening_view, answer_of}
 use Rattle.vk_opening.specs.Opened.{Opens, has_failed}
 use Rattle.vk_opening.specs.Views.{opened_files}
-use Rattle.vk_opening.specs.declared.settings.Setting.{Setting}
+use Rattle.vk_model.specs.declared.settings.Setting.{Setting}
 use Rattle.vk_opening.specs.declared.starts.Start.{Start}
 use Rattle.vk_opening.specs.declared.opens.Opened.{Opened}
 use Rattle.vk_opening.specs.declared.opens.Opened.TheVariants as opened
 use Rattle.vk_opening.specs.declared.opens.OpenStop.{OpenStop}
-use Rattle.vk_opening.specs.declared.earlies.Early.{Early}
+use Rattle.vk_model.specs.declared.earlies.Early.{Early}
 use Rattle.vk_opening.specs.declared.opens.Opening.{Opening}
 use Rattle.vk_opening.proofs.ReadMore.{two_told}
 

@@ -9,10 +9,10 @@ use Rattle.vk_files.specs.Readings.{ReadsAs}
 use Rattle.vk_triplet.specs.TripletViews.{triplet_view}
 use Rattle.vk_triplet.specs.declared.triplets.Triplet.{Triplet}
 use Rattle.vk_triplet.specs.TripletReadings as plain
-use Rattle.vk_opening.specs.Earlies.{Early}
+use Rattle.vk_spec.specs.Earlies.{Early}
 use Rattle.vk_opening.specs.TripletFiles.{Triplets, triplet_at, triplets_at}
 use Rattle.vk_opening.specs.Views.{triplets_view}
-use Rattle.vk_opening.specs.EarlyViews.{early_view}
+use Rattle.vk_model.specs.EarlyViews.{early_view}
 use Rattle.vk_opening.proofs.ReadMore.{two_told}
 
 -- what is read after the first triplet, and after the second

@@ -10,7 +10,7 @@ use Rattle.vk_config.specs.Configs.{Config, Embedded, nothing, one, two}
 use Rattle.vk_config.specs.Readings.{config_of}
 use Rattle.vk_config.specs.Embedding.{first_key, second_key, embedded_at}
 use Rattle.vk_files.specs.Readings.{Standing, missing, too_long, readable, standing_at, told_at}
-use Rattle.vk_opening.specs.Earlies.{Early, two_configurations}
+use Rattle.vk_spec.specs.Earlies.{Early, two_configurations}
 use Rattle.vk_opening.specs.Roots.{or_early, early_at}
 use Rattle.vk_opening.specs.Projects.{manifest_path, config_path}
 

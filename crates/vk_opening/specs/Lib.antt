@@ -1,5 +1,4 @@
 pub mod Projects
-pub mod Earlies
 pub mod Starts
 pub mod Settings
 pub mod Roots
@@ -7,7 +6,6 @@ pub mod Configurations
 pub mod TripletFiles
 pub mod Overlays
 pub mod Openings
-pub mod EarlyViews
 pub mod Views
 pub mod Opened
 pub mod OpeningViews

@@ -4,9 +4,9 @@ use Rattle.vk_spec.specs.States.{State}
 use Rattle.vk_spec.specs.Lists.{NoRepeats}
 use Rattle.vk_files.specs.Kept.{Kept, paths_of, ReadOnce}
 use Rattle.vk_model.specs.declared.projects.Project.{Project}
-use Rattle.vk_opening.specs.Earlies as plain
+use Rattle.vk_spec.specs.Earlies as plain
 use Rattle.vk_opening.specs.Openings.{Opening, opened_of}
-use Rattle.vk_opening.specs.EarlyViews.{early_view}
+use Rattle.vk_model.specs.EarlyViews.{early_view}
 use Rattle.vk_opening.specs.Views.{ready_view, opened_files}
 use Rattle.vk_opening.specs.declared.opens.Opened.{Opened}
 use Rattle.vk_opening.specs.declared.opens.Opened.TheVariants as opened

@@ -7,7 +7,7 @@ use Rattle.vk_files.specs.declared.stops.Stop.{Stop}
 use Rattle.vk_files.specs.declared.stops.Stop.TheVariants as stop
 use Rattle.vk_opening.specs.Openings as plain
 use Rattle.vk_opening.specs.Views.{setting_view, overlay_view}
-use Rattle.vk_opening.specs.declared.earlies.Early.{Early}
+use Rattle.vk_model.specs.declared.earlies.Early.{Early}
 use Rattle.vk_opening.specs.declared.opens.Opening.{Opening}
 use Rattle.vk_opening.specs.declared.opens.Opened.{Opened}
 use Rattle.vk_opening.specs.declared.opens.Opened.TheVariants as opened

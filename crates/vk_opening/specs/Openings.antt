@@ -8,7 +8,7 @@ use Rattle.vk_spec.specs.Manifests.{Manifest}
 use Rattle.vk_expr.specs.Trees.{Tree}
 use Rattle.vk_config.specs.Configs.{Config}
 use Rattle.vk_model.specs.declared.projects.Project.{Project}
-use Rattle.vk_opening.specs.Earlies.{Early}
+use Rattle.vk_spec.specs.Earlies.{Early}
 use Rattle.vk_opening.specs.Starts.{Overlay, Start}
 use Rattle.vk_opening.specs.Settings.{Setting}
 use Rattle.vk_opening.specs.Projects.{manifest_path, folders_of}

@@ -4,7 +4,7 @@ use Rattle.vk_spec.specs.Reading.{◌>>=◌, read_each}
 use Rattle.vk_spec.specs.Paths.{Path}
 use Rattle.vk_spec.specs.Files.{Files}
 use Rattle.vk_files.specs.Readings.{Standing, missing, too_long, readable, standing_at}
-use Rattle.vk_opening.specs.Earlies.{Early}
+use Rattle.vk_spec.specs.Earlies.{Early}
 use Rattle.vk_opening.specs.Roots.{port_in, early_at}
 use Rattle.vk_opening.specs.Projects.{manifest_path}
 use Rattle.vk_opening.specs.Starts.{Overlay, is_port, has_ports}

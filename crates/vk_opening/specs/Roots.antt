@@ -10,7 +10,7 @@ use Rattle.vk_json.specs.Documents.{Fault, json_of}
 use Rattle.vk_json.specs.Words.{word_of}
 use Rattle.vk_manifest.specs.Manifests.{manifest_at, manifest_of}
 use Rattle.vk_files.specs.Readings.{Bad, file_at}
-use Rattle.vk_opening.specs.Earlies.{Early, bad_file}
+use Rattle.vk_spec.specs.Earlies.{Early, bad_file}
 
 -- a bad file as an early line
 abbrev pub line_of : Bad → Early

@@ -11,7 +11,7 @@ use Rattle.vk_fields.specs.Texts.{said_here}
 use Rattle.vk_triplet.specs.TripletReadings as triplet
 use Rattle.vk_triplet.specs.TripletReadings.{Triplet, triplet_of}
 use Rattle.vk_files.specs.Readings.{Standing, missing, too_long, readable, standing_at}
-use Rattle.vk_opening.specs.Earlies.{Early, no_triplet}
+use Rattle.vk_spec.specs.Earlies.{Early, no_triplet}
 use Rattle.vk_opening.specs.Roots.{early_at}
 use Rattle.vk_opening.specs.Projects.{triplet_path}
 

@@ -16,7 +16,7 @@ use Rattle.vk_opening.specs.Openings as plain_opening
 use Rattle.vk_opening.specs.declared.starts.Overlay.{Overlay}
 use Rattle.vk_opening.specs.declared.starts.Overlay.TheVariants as overlay
 use Rattle.vk_opening.specs.declared.starts.Start.{Start}
-use Rattle.vk_opening.specs.declared.settings.Setting.{Setting}
+use Rattle.vk_model.specs.declared.settings.Setting.{Setting}
 use Rattle.vk_opening.specs.declared.roots.Root.{Root}
 use Rattle.vk_opening.specs.declared.triplet_files.Triplets.{Triplets}
 

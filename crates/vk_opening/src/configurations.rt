@@ -10,12 +10,12 @@ ghost use Rattle.vk_files.specs.Views.{held};
 ghost use Rattle.vk_files.specs.StopViews.{refusal_in, has_tree_failed};
 ghost use Rattle.vk_files.specs.StandingViews.{standing_view};
 ghost use Rattle.vk_files.specs.Readings.{ReadsAs, told_at};
-ghost use Rattle.vk_opening.specs.EarlyViews.{early_view};
+ghost use Rattle.vk_model.specs.EarlyViews.{early_view};
 ghost use Rattle.vk_opening.specs.Projects.{manifest_path, config_path};
 ghost use Rattle.vk_opening.specs.Roots.{or_early, early_at};
 ghost use Rattle.vk_opening.specs.Configurations.{has_configuration, only_of, embedded_in, alone_in, config_by, config_in};
 
-use crate::earlies::Early;
+use vk_model::Early;
 use crate::projects::{config_path, manifest_path};
 use crate::readings::{bad_file, read_early, standing};
 use serde_json::Value;

@@ -6,7 +6,7 @@ ghost use Rattle.vk_config.specs.Embedding.{has_both};
 ghost use Rattle.vk_files.specs.Readings.{missing, too_long, readable, standing_at};
 ghost use Rattle.vk_model.specs.declared.projects.Project.{Project};
 ghost use Rattle.vk_opening.specs.Configurations.{has_configuration};
-ghost use Rattle.vk_opening.specs.Earlies.{bad_file, two_configurations, no_triplet};
+ghost use Rattle.vk_spec.specs.Earlies.{bad_file, two_configurations, no_triplet};
 ghost use Rattle.vk_opening.specs.Laws.{AgreeAt, NoneHas, early_paths};
 ghost use Rattle.vk_opening.specs.Openings.{Opening, opened_of};
 ghost use Rattle.vk_opening.specs.Projects.{manifest_path, config_path, triplet_path};

@@ -4,22 +4,17 @@
 #![tactic(auto)]
 
 mod configurations;
-mod copies;
-mod earlies;
 mod laws;
 mod opens;
 mod overlays;
 mod projects;
 mod readings;
 mod roots;
-mod settings;
 mod starts;
 mod triplet_files;
 
-pub use earlies::Early;
 pub use laws::{early_files, first_triplet, two_places};
 pub use opens::{OpenStop, Opened, open};
-pub use settings::Setting;
 pub use starts::{Overlay, Start};
 
 #[cfg(test)]

@@ -3,7 +3,7 @@ ghost use Rattle.std.specs.Prelude.{◌≡◌, IfOk, map};
 ghost use Rattle.vk_files.specs.Views.{held};
 ghost use Rattle.vk_files.specs.Readings.{ReadsAs};
 ghost use Rattle.vk_config.specs.Views.{config_view};
-ghost use Rattle.vk_opening.specs.EarlyViews.{early_view};
+ghost use Rattle.vk_model.specs.EarlyViews.{early_view};
 ghost use Rattle.vk_opening.specs.Projects.{manifest_path};
 ghost use Rattle.vk_opening.specs.Roots.{root_in, early_at};
 ghost use Rattle.vk_opening.specs.Openings.{opened_of, opening_with, triplets_of, overlays_of};
@@ -12,20 +12,17 @@ ghost use Rattle.vk_opening.specs.Views.{root_view, triplets_view, overlay_view}
 ghost use Rattle.vk_opening.specs.OpeningViews.{opening_view, ready, answer_of};
 
 use crate::configurations::read_configuration;
-use crate::copies::copy_overrides;
-use crate::earlies::Early;
 use crate::overlays::read_overlays;
 use crate::projects::{folders, manifest_path};
 use crate::readings::read_early;
 use crate::roots::{Root, RootFile};
-use crate::settings::Setting;
 use crate::starts::{Overlay, Start};
 use crate::triplet_files::{Triplets, read_triplets};
 use std::alloc::Global;
 use vk_base::{List, Memory, TreePath};
 use vk_config::Config;
 use vk_files::{FileCache, Stop};
-use vk_model::{Override, Project};
+use vk_model::{Early, Override, Project, Setting};
 use vk_tree::Tree;
 
 /// What the early files of a project give.
@@ -125,7 +122,7 @@ fn opening_with(
         folder: project.folder.clone()?,
         config,
         overlays,
-        overrides: copy_overrides(alloc, root.manifest.overrides.as_slice())?,
+        overrides: root.manifest.overrides.clone()?,
         setting: Setting {
             root: root.manifest,
             target: triplets.target,

@@ -3,11 +3,11 @@ ghost use Rattle.std.specs.Prelude.{map};
 ghost use Rattle.vk_files.specs.Views.{held};
 ghost use Rattle.vk_files.specs.StandingViews.{standing_view};
 ghost use Rattle.vk_files.specs.Readings.{ReadsAs};
-ghost use Rattle.vk_opening.specs.EarlyViews.{early_view};
+ghost use Rattle.vk_model.specs.EarlyViews.{early_view};
 ghost use Rattle.vk_opening.specs.Overlays.{port_at, overlay_by, overlay_at, overlays_at};
 ghost use Rattle.vk_opening.specs.Views.{overlay_view};
 
-use crate::earlies::Early;
+use vk_model::Early;
 use crate::projects::manifest_path;
 use crate::readings::{read_early, standing};
 use crate::roots::PortFile;

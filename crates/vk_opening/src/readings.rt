@@ -6,9 +6,9 @@ ghost use Rattle.vk_files.specs.StopViews.{refusal_in, is_tree_failed};
 ghost use Rattle.vk_files.specs.StandingViews.{standing_view};
 ghost use Rattle.vk_files.specs.Readings.{ReadsAs, bad_view, standing_at};
 ghost use Rattle.vk_opening.specs.Roots.{line_of, early_at, line_at};
-ghost use Rattle.vk_opening.specs.EarlyViews.{early_view};
+ghost use Rattle.vk_model.specs.EarlyViews.{early_view};
 
-use crate::earlies::Early;
+use vk_model::Early;
 use std::alloc::Global;
 use vk_base::TreePath;
 use vk_files as files;

@@ -10,13 +10,12 @@ ghost use Rattle.vk_files.specs.Views.{held};
 ghost use Rattle.vk_files.specs.StopViews.{refusal_in, is_tree_failed};
 ghost use Rattle.vk_files.specs.StandingViews.{standing_view};
 ghost use Rattle.vk_files.specs.Readings.{ReadsAs};
-ghost use Rattle.vk_opening.specs.Earlies as early;
-ghost use Rattle.vk_opening.specs.EarlyViews.{early_view};
+ghost use Rattle.vk_spec.specs.Earlies as early;
+ghost use Rattle.vk_model.specs.EarlyViews.{early_view};
 ghost use Rattle.vk_opening.specs.TripletFiles.{triplet_word, triplet_in, is_there, is_at, triplet_file, triplet_from, triplet_at, triplets_at};
 ghost use Rattle.vk_opening.specs.Views.{triplets_view};
 
-use crate::copies::copy_triplet;
-use crate::earlies::Early;
+use vk_model::Early;
 use crate::projects::triplet_path;
 use crate::readings::{read_early, standing};
 use std::alloc::Global;
@@ -161,7 +160,7 @@ pub fn read_triplets<T: Tree>(
 {
     let first = read_triplet(alloc, files, tree, target, folders)?;
     if is_same(target, host) {
-        let second = copy_triplet(&first)?;
+        let second = first.clone()?;
         return Ok(Triplets {
             target: first,
             host: second,

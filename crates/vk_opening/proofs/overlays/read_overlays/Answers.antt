@@ -2,7 +2,7 @@ use Rattle.std.proofs.Common.{◌≡◌, ◌∙◌, ◌∷◌, sym}
 use Rattle.std.specs.Vec.Iter.{into_iter_items}
 use Rattle.std.proofs.lemmas.Result.{err_from_is_err_and}
 use Rattle.vk_files.proofs.OnceLemmas.{once_then}
-use Rattle.vk_opening.specs.EarlyViews.{early_view}
+use Rattle.vk_model.specs.EarlyViews.{early_view}
 use Rattle.vk_opening.specs.Overlays.{overlay_at, overlays_at}
 use Rattle.vk_opening.specs.Views.{overlay_view}
 use Rattle.vk_opening.proofs.ReadMore.{once_lacking}

@@ -13,7 +13,7 @@ returns-in_err-first g c =
     rw (p.1, p.2) (reads_stopped triplets_view (after_first c.args.host.now c.args.folders.now) c.in_err-first.ensures)
 
 pub returns-then-is_same : goal.returns-then-is_same
-returns-then-is_same g c = read_for_both c.args.target.now c.args.host.now c.args.folders.now _ _ _ _ (c.is_same.ensures.0 c.if-is_same.true) c.in_ok-second.ensures c.in_ok-first.ensures
+returns-then-is_same g c = read_for_both c.args.target.now c.args.host.now c.args.folders.now _ _ _ _ (c.is_same.ensures.0 c.if-is_same.true) c.in_ok-second.ensures.cases c.in_ok-first.ensures
 
 pub returns-in_err-second-2 : goal.returns-in_err-second-2
 unfolding triplets_at
