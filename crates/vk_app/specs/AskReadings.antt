@@ -15,7 +15,7 @@ use Rattle.vk_app.specs.declared.items.Item.{Item}
 abbrev pub trouble_view : Trouble → plain.Trouble
 trouble_view (trouble.Wrong port w) = plain.wrong port (wrong_view w)
 trouble_view (trouble.NoVersion port ask) = plain.no_version port (ask_view ask)
-trouble_view (trouble.WantsMore port version) = plain.wants_more port version
+trouble_view (trouble.WantsMore port version folder) = plain.wants_more port version
 
 abbrev pub item_view : Item → plain.Item
 item_view item = record { port = item.port.now; ask = record { text = item.version.text; port = item.version.port } }

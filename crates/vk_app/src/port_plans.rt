@@ -1,13 +1,17 @@
-//! The items of ports at their given versions, over any catalogue.
-ghost use Rattle.std.specs.Prelude.{◌≡◌, OnOk, map, false};
-ghost use Rattle.vk_spec.specs.Reading.{Gives};
+//! The items of ports at their given versions, over the world of a project.
+ghost use Rattle.std.specs.Prelude.{◌≡◌, OnOk, IfOk, map, false, Err};
+ghost use Rattle.vk_spec.specs.Reading.{Gives, Fails};
+ghost use Rattle.std.specs.List.{Contains};
 ghost use Rattle.vk_spec.specs.Catalogues.{OnPage, CanAskVersion, CanAskManifest};
-ghost use Rattle.vk_spec.specs.Pages.{given_ask};
 ghost use Rattle.vk_version.specs.AskViews.{ask_view};
 ghost use Rattle.vk_model.specs.Views.{manifest_view};
 ghost use Rattle.vk_catalogue.specs.Views.{given_view};
+ghost use Rattle.vk_world.specs.Libraries.{start_of};
+ghost use Rattle.vk_world.specs.Worlds.{world_state, known_in};
+ghost use Rattle.vk_app.specs.PortPlans as plain;
 ghost use Rattle.vk_app.specs.PortPlans.{given_for, version_for, manifest_for, item_with, item_at, item_of, items_of};
-ghost use Rattle.vk_app.specs.AskReadings.{AsksAs, item_view, trouble_of, has_failed};
+ghost use Rattle.vk_app.specs.AskReadings.{AsksAs, item_view, trouble_of, is_failed, has_failed};
+ghost use Rattle.vk_app.specs.Located.{IsLocated, IsLocatedStop};
 
 use crate::items::Item;
 use crate::plain_manifests::wants_nothing;
@@ -17,28 +21,39 @@ use std::rc::Rc;
 use vk_base::{List, PortName};
 use vk_catalogue::{Catalogue, Given};
 use vk_model::Manifest;
+use vk_tree::Tree;
 use vk_version::{Ask, Version};
+use vk_world::World;
 
 // What is given for a port.
 #[tactic(auto, using(vk_spec::proofs::AskLemmas::can_ask_version, crate::proofs::AskReadingLemmas::asks_one, crate::proofs::AskReadingLemmas::given_said_of))]
-fn given<C: Catalogue>(cat: &mut C, port: &PortName) -> Result<Given, PortStop>
-    ensures asks { AsksAs given_view result (given_for port.now) (C.state cat.old) (C.state cat.new) }
-    ensures can { OnOk result (OnPage port.now CanAskVersion (C.state cat.new)) }
+fn given<T: Tree>(world: &mut World<T>, port: &PortName) -> Result<Given, PortStop>
+    ensures asks { AsksAs given_view result (given_for port.now) (world_state (T.state world.old.0) world.old.1) (world_state (T.state world.new.0) world.new.1) }
+    ensures can { OnOk result (OnPage port.now CanAskVersion (world_state (T.state world.new.0) world.new.1)) }
+    ensures start { start_of world.new.1 ≡ start_of world.old.1 }
+    ensures located { IsLocated result (start_of world.new.1) (T.state world.new.0) }
 {
-    match cat.given(port)? {
+    match world.given(port)? {
         Ok(given) => Ok(given),
         Err(wrong) => Err(PortStop::Trouble(Trouble::Wrong(port.clone()?, wrong))),
     }
 }
 
 // The version of a port that an ask means.
-#[tactic(auto, using(vk_spec::proofs::AskLemmas::can_ask_manifest, crate::proofs::AskReadingLemmas::asks_one))]
-fn version<C: Catalogue>(cat: &mut C, port: &PortName, ask: &Ask) -> Result<Version, PortStop>
-    requires { OnPage port.now CanAskVersion (C.state cat.old) }
-    ensures asks { AsksAs (λ v. v) result (version_for port.now (ask_view ask.now)) (C.state cat.old) (C.state cat.new) }
-    ensures can { OnOk result (OnPage port.now (CanAskManifest (ask_view ask.now)) (C.state cat.new)) }
+#[tactic(auto, using(vk_spec::proofs::AskLemmas::can_ask_manifest, crate::proofs::AskReadingLemmas::asks_one, crate::proofs::AskReadingLemmas::listed_known))]
+fn version<T: Tree>(
+    world: &mut World<T>,
+    port: &PortName,
+    ask: &Ask,
+) -> Result<Version, PortStop>
+    requires { OnPage port.now CanAskVersion (world_state (T.state world.old.0) world.old.1) }
+    ensures asks { AsksAs (λ v. v) result (version_for port.now (ask_view ask.now)) (world_state (T.state world.old.0) world.old.1) (world_state (T.state world.new.0) world.new.1) }
+    ensures can { OnOk result (OnPage port.now (CanAskManifest (ask_view ask.now)) (world_state (T.state world.new.0) world.new.1)) }
+    ensures known { IfOk result (λ v. Contains (known_in world.new.1) (port.now, v)) }
+    ensures start { start_of world.new.1 ≡ start_of world.old.1 }
+    ensures located { IsLocated result (start_of world.new.1) (T.state world.new.0) }
 {
-    match cat.version(port, ask)? {
+    match world.version(port, ask)? {
         Some(version) => Ok(version),
         None => Err(PortStop::Trouble(Trouble::NoVersion(
             port.clone()?,
@@ -49,71 +64,96 @@ fn version<C: Catalogue>(cat: &mut C, port: &PortName, ask: &Ask) -> Result<Vers
 
 // The manifest of that version.
 #[tactic(auto, using(crate::proofs::AskReadingLemmas::asks_one))]
-fn manifest<C: Catalogue>(
-    cat: &mut C,
+fn manifest<T: Tree>(
+    world: &mut World<T>,
     port: &PortName,
     ask: &Ask,
 ) -> Result<Rc<Manifest>, PortStop>
-    requires { OnPage port.now (CanAskManifest (ask_view ask.now)) (C.state cat.old) }
-    ensures { AsksAs (λ m. manifest_view m.value) result (manifest_for port.now (ask_view ask.now)) (C.state cat.old) (C.state cat.new) }
+    requires { OnPage port.now (CanAskManifest (ask_view ask.now)) (world_state (T.state world.old.0) world.old.1) }
+    ensures asks { AsksAs (λ m. manifest_view m.value) result (manifest_for port.now (ask_view ask.now)) (world_state (T.state world.old.0) world.old.1) (world_state (T.state world.new.0) world.new.1) }
+    ensures known { known_in world.new.1 ≡ known_in world.old.1 }
+    ensures start { start_of world.new.1 ≡ start_of world.old.1 }
+    ensures located { IsLocated result (start_of world.new.1) (T.state world.new.0) }
 {
-    match cat.manifest(port, ask)? {
+    match world.manifest(port, ask)? {
         Ok(manifest) => Ok(manifest),
         Err(wrong) => Err(PortStop::Trouble(Trouble::Wrong(port.clone()?, wrong))),
     }
 }
 
-// The port at a version whose manifest is there.
-fn item_with<'a>(
+// A port at a version that was answered wants more than is planned today.
+fn wants_more<T: Tree>(world: &World<T>, port: &PortName, version: Version) -> PortStop
+    requires { Contains (known_in world.now.1) (port.now, version) }
+    ensures told { Fails {Y = plain.Item} (trouble_of result) (Err (plain.wants_more port.now version)) }
+    ensures calm { is_failed result ≡ false }
+    ensures located { IsLocatedStop result (start_of world.now.1) (T.state world.now.0) }
+{
+    let Some(folder) = world.folder(port, &version) else {
+        return PortStop::Memory;
+    };
+    match (port.clone(), folder.clone()) {
+        (Ok(port), Ok(folder)) => PortStop::Trouble(Trouble::WantsMore(port, version, folder)),
+        _ => PortStop::Memory,
+    }
+}
+
+// The port at a version that was answered, with its manifest.
+fn item_with<'a, T: Tree>(
+    world: &World<T>,
     port: &'a PortName,
     version: Version,
     manifest: &Manifest,
 ) -> Result<Item<'a>, PortStop>
+    requires { Contains (known_in world.now.1) (port.now, version) }
     ensures told { Gives item_view trouble_of result (item_with port.now version (manifest_view manifest.now)) }
     ensures calm { has_failed result ≡ false }
+    ensures located { IsLocated result (start_of world.now.1) (T.state world.now.0) }
 {
     if wants_nothing(manifest) {
         return Ok(Item { port, version });
     }
-    Err(PortStop::Trouble(Trouble::WantsMore(
-        port.clone()?,
-        version,
-    )))
+    Err(wants_more(world, port, version))
 }
 
 // The item of a port at an ask.
-fn item_at<'a, C: Catalogue>(
-    cat: &mut C,
+fn item_at<'a, T: Tree>(
+    world: &mut World<T>,
     port: &'a PortName,
     ask: &Ask,
 ) -> Result<Item<'a>, PortStop>
-    requires { OnPage port.now CanAskVersion (C.state cat.old) }
-    ensures { AsksAs item_view result (item_at port.now (ask_view ask.now)) (C.state cat.old) (C.state cat.new) }
+    requires { OnPage port.now CanAskVersion (world_state (T.state world.old.0) world.old.1) }
+    ensures asks { AsksAs item_view result (item_at port.now (ask_view ask.now)) (world_state (T.state world.old.0) world.old.1) (world_state (T.state world.new.0) world.new.1) }
+    ensures start { start_of world.new.1 ≡ start_of world.old.1 }
+    ensures located { IsLocated result (start_of world.new.1) (T.state world.new.0) }
 {
-    let version = version(cat, port, ask)?;
-    let manifest = manifest(cat, port, ask)?;
-    item_with(port, version, &manifest)
+    let version = version(world, port, ask)?;
+    let manifest = manifest(world, port, ask)?;
+    item_with(world, port, version, &manifest)
 }
 
 // The item of a port at its given version.
-fn item<'a, C: Catalogue>(cat: &mut C, port: &'a PortName) -> Result<Item<'a>, PortStop>
-    ensures { AsksAs item_view result (item_of port.now) (C.state cat.old) (C.state cat.new) }
+fn item<'a, T: Tree>(world: &mut World<T>, port: &'a PortName) -> Result<Item<'a>, PortStop>
+    ensures asks { AsksAs item_view result (item_of port.now) (world_state (T.state world.old.0) world.old.1) (world_state (T.state world.new.0) world.new.1) }
+    ensures start { start_of world.new.1 ≡ start_of world.old.1 }
+    ensures located { IsLocated result (start_of world.new.1) (T.state world.new.0) }
 {
-    let given = given(cat, port)?;
-    item_at(cat, port, given.ask())
+    let given = given(world, port)?;
+    item_at(world, port, given.ask())
 }
 
 /// The items of ports at their given versions, in the order of the ports, or the first trouble.
-pub fn items<'a, C: Catalogue>(
+pub fn items<'a, T: Tree>(
     alloc: Global,
-    cat: &mut C,
+    world: &mut World<T>,
     ports: &'a [PortName],
 ) -> Result<List<Item<'a>>, PortStop>
-    ensures { AsksAs (λ l. map item_view l) result (items_of ports.now) (C.state cat.old) (C.state cat.new) }
+    ensures asks { AsksAs (λ l. map item_view l) result (items_of ports.now) (world_state (T.state world.old.0) world.old.1) (world_state (T.state world.new.0) world.new.1) }
+    ensures start { start_of world.new.1 ≡ start_of world.old.1 }
+    ensures located { IsLocated result (start_of world.new.1) (T.state world.new.0) }
 {
     let mut items = List::new(alloc);
     for (n, port) in ports.iter().enumerate() {
-        let item = item(cat, port)?;
+        let item = item(world, port)?;
         items.push(item)?;
     }
     Ok(items)

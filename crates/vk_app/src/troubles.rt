@@ -3,7 +3,7 @@ ghost use Rattle.vk_app.specs.declared.troubles.PortStop.TheVariants as stop;
 ghost use Rattle.vk_app.specs.PortStops.{stop_after};
 
 use std::alloc::{AllocError, AllocFailed};
-use vk_base::{Memory, PortName};
+use vk_base::{Memory, PortName, TreePath};
 use vk_catalogue::{CatStop, Wrong};
 use vk_version::{Ask, Version};
 
@@ -14,8 +14,8 @@ pub enum Trouble {
     Wrong(PortName, Wrong),
     /// Its table lacks the version that is given.
     NoVersion(PortName, Ask),
-    /// At this version it wants more than is planned today.
-    WantsMore(PortName, Version),
+    /// At this version it wants more than is planned today; the folder is where it stands.
+    WantsMore(PortName, Version, TreePath),
 }
 
 /// Why a port gave no item.
