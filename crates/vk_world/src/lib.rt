@@ -1,0 +1,7 @@
+//! The world that a plan is made from: what the files of a project say of each port, read as it is
+//! asked for. It promises upwards that each answer is what the files say, and that no file is read
+//! twice.
+#![tactic(auto)]
+
+mod answered;
+mod settling;
