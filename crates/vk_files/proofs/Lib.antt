@@ -3,3 +3,4 @@ pub mod OnceLemmas
 pub mod CacheLemmas
 pub mod ReadLemmas
 pub mod NotingLemmas
+pub mod ReadMore
