@@ -1,5 +1,5 @@
 -- What a call answers that reads files and keeps notes of them, and what it leaves.
-use Rattle.std.specs.Prelude.{◌≡◌, Option, Some, None, IfSome, Result, Ok, Err, IfOk}
+use Rattle.std.specs.Prelude.{◌≡◌, IfSome, Result, Ok, Err, IfOk}
 use Rattle.vk_spec.specs.Files.{Files}
 use Rattle.vk_files.specs.Kept.{IsOf, Held, ReadOnce}
 use Rattle.vk_files.specs.declared.stops.Stop.{Stop}
@@ -17,6 +17,10 @@ pub record Learns {X : Type 0} (answer : Result X CatStop) (Says : Files → X �
 abbrev pub SaysNothing : {X : Type 0} → Files → X → Type 0
 SaysNothing files x = Unit {0}
 
+-- what is answered is what the files mean
+abbrev pub Means : {X Y : Type 0} → (X → Y) → (Files → Y) → Files → X → Type 0
+Means view meaning files x = view x ≡ meaning files
+
 -- a refusal is an answer too; the tree's failure and want of memory are none
 abbrev pub unanswered : {X F : Type 0} → Stop F → Result (Result X F) CatStop
 unanswered (stop.Refused refusal) = Ok (Err refusal)
@@ -26,12 +30,3 @@ unanswered stop.Memory = Err cat.Memory
 abbrev pub settled : {X F : Type 0} → Result X (Stop F) → Result (Result X F) CatStop
 settled (Ok x) = Ok (Ok x)
 settled (Err s) = unanswered s
-
--- a value or a refusal, as they are seen
-abbrev pub said : {X Y F P : Type 0} → (F → P) → (X → Y) → Result X F → Result Y P
-said refusal view (Ok x) = Ok (view x)
-said refusal view (Err f) = Err (refusal f)
-
--- what is answered is what the files mean
-abbrev pub Means : {X Y : Type 0} → (X → Y) → (Files → Y) → Files → X → Type 0
-Means view meaning files x = view x ≡ meaning files

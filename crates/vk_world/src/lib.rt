@@ -4,4 +4,6 @@
 #![tactic(auto)]
 
 mod answered;
+mod homes;
+mod manifests;
 mod settling;
