@@ -1,4 +1,3 @@
-mod FrontLemmas
 mod DocumentLemmas
 pub mod EndLemmas
 mod FolderLemmas

@@ -1,4 +1,3 @@
-pub mod Fronts
 pub mod Forms
 pub mod Orders
 pub mod PlainFaults

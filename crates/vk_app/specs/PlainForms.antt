@@ -11,7 +11,7 @@ use Rattle.vk_base.specs.Names.{reads_name, port_rule}
 use Rattle.vk_base.specs.PathReading.{path_of}
 use Rattle.vk_base.specs.Paths.{is_rooted, ups_of, parts_of}
 use Rattle.vk_json.specs.Looks.{items_of, keys_of, number_of}
-use Rattle.vk_app.specs.Fronts.{after}
+use Rattle.vk_spec.specs.Fronts.{after}
 use Rattle.vk_app.specs.Forms.{Form, must, needs, formed}
 use Rattle.vk_version.specs.Schemes.{relaxed}
 use Rattle.vk_version.specs.Readings.{reads_version}

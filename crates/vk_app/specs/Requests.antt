@@ -6,7 +6,7 @@ use Rattle.vk_spec.specs.Reading.{◌>>=◌}
 use Rattle.vk_base.specs.Names.{reads_name, word_rule}
 use Rattle.vk_base.specs.PathReading.{path_of}
 use Rattle.vk_spec.specs.Paths.{Path}
-use Rattle.vk_app.specs.Fronts.{after}
+use Rattle.vk_spec.specs.Fronts.{after}
 use Rattle.vk_app.specs.Forms.{Form, must, needs, formed}
 
 -- a word of the command line: its bytes, or none where it isn't UTF-8

@@ -1,5 +1,5 @@
 ghost use Rattle.std.specs.Prelude.{◌≡◌, option_map};
-ghost use Rattle.vk_app.specs.Fronts.{after};
+ghost use Rattle.vk_spec.specs.Fronts.{after};
 
 /// What is left of a text after a front, where it begins with it.
 pub fn after<'a>(text: &'a str, front: &str) -> Option<&'a str>

@@ -3,7 +3,8 @@ use Rattle.std.proofs.Common.{◌≡◌, ◌⊎◌, ℕ, Bool, true, false, cond
 use Rattle.std.specs.Prelude.{Option, Some, None, Result, Ok, Err, bytes_eq}
 use Rattle.std.proofs.lemmas.Bool.Decides.{Decides-or, not_from_Decides}
 use Rattle.std.proofs.lemmas.Slice.Eq.{bytes_eq-Decides}
-use Rattle.vk_base.specs.Names.{NameWrong, bad, reserved, named, core, default, is_reserved, reads_name, reads_feature, word_rule, name_fault, BreaksFirst, IsFeatureName}
+use Rattle.vk_spec.specs.Manifests.{core, default}
+use Rattle.vk_base.specs.Names.{NameWrong, bad, reserved, named, is_reserved, reads_name, reads_feature, word_rule, name_fault, BreaksFirst, IsFeatureName}
 use Rattle.vk_base.proofs.NameLemmas.{rule_from_no_fault, no_fault_from_rule, breaks_first}
 
 named-Ok : (text name : List ℕ) (found : Option ℕ) → named text found ≡ Ok name → (found ≡ None) × (name ≡ text)

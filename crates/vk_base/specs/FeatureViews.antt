@@ -1,6 +1,6 @@
 -- What contracts see of a feature's name.
 use Rattle.std.specs.Prelude.{ℕ, List}
-use Rattle.vk_base.specs.Names as the
+use Rattle.vk_spec.specs.Manifests as the
 use Rattle.vk_base.specs.declared.features.FeatureName.{FeatureName}
 use Rattle.vk_base.specs.declared.features.FeatureName.TheVariants.{Core, Default, Named}
 

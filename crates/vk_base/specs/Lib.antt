@@ -6,3 +6,4 @@ pub mod PathReading
 pub mod PathFaults
 pub mod PathHash
 pub mod Tokens
+pub mod Schedules

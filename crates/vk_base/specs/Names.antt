@@ -1,6 +1,7 @@
 -- The rules of names, and the first place at which a text breaks one.
-use Rattle.std.specs.Prelude.{◌≡◌, ◌≢◌, ◌-◌, ◌≤◌, ◌<◌, ◌||◌, ◌&&◌, ◌==◌, ℕ, Bool, true, false, not, nat_lt, nat_le, List, length, take, slice_index, Option, Some, None, Result, Ok, Err, bytes_eq, codes, if◌then◌else◌}
+use Rattle.std.specs.Prelude.{◌≡◌, ◌≢◌, ◌-◌, ◌≤◌, ◌<◌, ◌||◌, ◌&&◌, ◌==◌, ℕ, Bool, true, false, not, nat_lt, nat_le, List, length, take, slice_index, Option, Some, None, Result, Ok, Err, bytes_eq, if◌then◌else◌}
 use Rattle.std.specs.List.{position, All}
+use Rattle.vk_spec.specs.Manifests.{core, default}
 
 -- what a kind of names allows besides lower-case letters, digits, and hyphens inside
 pub record NameRule : Type 0 where
@@ -63,13 +64,6 @@ named text (Some at) = Err (bad at)
 
 abbrev pub reads_name : NameRule → List ℕ → Result (List ℕ) NameWrong
 reads_name rule text = named text (name_fault rule text)
-
--- the word for what a port has without any feature, and the one for its default features
-abbrev pub core : List ℕ
-core = codes "core"
-
-abbrev pub default : List ℕ
-default = codes "default"
 
 -- a feature's name is a word that has no meaning of its own
 pub record IsFeatureName (text : List ℕ) : Type 0 where

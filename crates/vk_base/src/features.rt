@@ -6,7 +6,8 @@ ghost use Rattle.std.specs.Hash as fed;
 ghost use Rattle.std.specs.Cmp.Lexicographic.{slice_cmp, pointwise};
 ghost use Rattle.std.specs.Ordering.{nat_cmp, on, as_partial_cmp};
 ghost use Rattle.vk_spec.specs.Reading.{Gives};
-ghost use Rattle.vk_base.specs.Names.{BreaksFirst, IsFeatureName, core, default, is_reserved, reads_feature, word_rule, bad, reserved};
+ghost use Rattle.vk_spec.specs.Manifests.{core, default};
+ghost use Rattle.vk_base.specs.Names.{BreaksFirst, IsFeatureName, is_reserved, reads_feature, word_rule, bad, reserved};
 ghost use Rattle.vk_base.specs.NameFaults.{name_fault_of};
 ghost use Rattle.vk_base.specs.FeatureViews.{feature_view, IsNamed};
 

@@ -1,4 +1,5 @@
-//! Texts, lists, names, paths and tokens: the types that every later crate uses.
+//! Texts, lists, names, paths and tokens: the types that every later crate uses. For fakes, which of
+//! their calls are to go wrong.
 //! Contracts see a text as its bytes, a list as a list, and a path as its anchor and parts.
 //! It promises upwards that each reader answers the value exactly where its rule holds.
 #![tactic(auto)]
@@ -9,6 +10,7 @@ mod lists;
 mod memory;
 mod names;
 mod paths;
+mod schedules;
 mod texts;
 mod tokens;
 mod words;
@@ -19,6 +21,7 @@ pub use lists::List;
 pub use memory::Memory;
 pub use names::{NameFault, PortName, TripletName, name_order, port_rule, triplet_rule};
 pub use paths::{PathFault, TreePath, path_rule};
+pub use schedules::{Schedule, Turn};
 pub use texts::Text;
 pub use tokens::{read_token, token, token_rule};
 pub use words::Word;

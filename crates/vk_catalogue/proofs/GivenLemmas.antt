@@ -1,14 +1,14 @@
 -- What a port has at its given version, by the calls that were made.
-use Rattle.std.proofs.Common.{◌≡◌, ℕ, Bool, true, false, List, refl, ap, subst, ◌∙◌}
-use Rattle.std.specs.Prelude.{Option, Some, None, option_map, Result, Ok, Err, IfOk}
-use Rattle.vk_spec.specs.Calls.{Answer, is_failed}
+use Rattle.std.proofs.Common.{◌≡◌, ℕ, List, refl, ap, subst, ◌∙◌}
+use Rattle.std.specs.Prelude.{Option, Some, None, option_map, Ok, Err, IfOk}
+use Rattle.vk_spec.specs.Calls.{Answer}
 use Rattle.vk_spec.specs.Versions.{Version, Ask}
 use Rattle.vk_spec.specs.Manifests.{Manifest}
-use Rattle.vk_spec.specs.Pages.{Wrong, Given, Row, Page}
-use Rattle.vk_catalogue.specs.Catalogues.{CatalogueState, Asks, SaysGiven, SaysVersion, SaysManifest, given_ask, row_in, version_in, manifest_in}
+use Rattle.vk_spec.specs.Pages.{Wrong, Given, Row, Page, given_ask, row_in}
+use Rattle.vk_spec.specs.Catalogues.{CatalogueState, Asks, SaysGiven, SaysVersion, SaysManifest}
 use Rattle.vk_expr.specs.Trees.{Tree}
-use Rattle.vk_catalogue.specs.GivenManifests.{Found, found, no_version, bad, found_in, found_for, found_by, SaysAt, SaysAtGiven}
-use Rattle.vk_catalogue.proofs.AskLemmas.{asks_then, asks_so, asks_later}
+use Rattle.vk_catalogue.specs.GivenManifests.{Found, found, no_version, bad, found_in, found_by, SaysAt, SaysAtGiven}
+use Rattle.vk_spec.proofs.AskLemmas.{asks_then, asks_so, asks_later}
 
 -- there is a manifest, or something is wrong with it
 pub manifest_there : {port : List ℕ} (ask : Ask) {m : Manifest Tree} {a b : CatalogueState Tree} → Asks port (SaysManifest ask) (Ok (Ok m)) a b → Asks port (SaysAt ask) (Ok (found m)) a b

@@ -1,4 +1,3 @@
-pub mod AskLemmas
 pub mod ShelfLemmas
 pub mod GivenLemmas
 pub mod SoundLemmas

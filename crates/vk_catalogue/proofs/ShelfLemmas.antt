@@ -1,18 +1,20 @@
 -- The pages of a shelf: what is found on it, and that a page that is put is found.
-use Rattle.std.proofs.Common.{◌≡◌, ℕ, Bool, true, false, cond, List, [], ◌∷◌, ◌++◌, map, refl, ap, sym, subst, ◌∙◌}
-use Rattle.std.specs.Prelude.{Option, Some, None, option_map, Result, Err, bytes_eq}
-use Rattle.std.specs.List.{Contains, find}
+use Rattle.std.proofs.Common.{◌≡◌, ℕ, Bool, true, false, cond, List, [], ◌∷◌, ◌++◌, map, refl, ap, sym, ◌∙◌}
+use Rattle.std.specs.Prelude.{Option, Some, None, option_map, bytes_eq}
+use Rattle.std.specs.List.{find}
 use Rattle.std.specs.Map.{lookup}
 use Rattle.std.proofs.lemmas.List.{map-append}
-use Rattle.vk_spec.specs.Versions.{Ask}
+use Rattle.std.proofs.lemmas.Map.Made.{lookup-map_values}
+use Rattle.vk_spec.specs.Versions.{Ask, ask_of, same_ask}
+use Rattle.vk_spec.specs.Pages.{row_in}
 use Rattle.vk_spec.specs.Pages as plain
-use Rattle.vk_catalogue.specs.Catalogues.{IsPage, ArePages, ask_of, same_ask, row_in}
+use Rattle.vk_spec.specs.Catalogues.{IsPage, ArePages}
 use Rattle.vk_spec.proofs.ListLemmas.{contains_nothing}
 use Rattle.vk_expr.specs.Trees.{Tree}
 use Rattle.vk_catalogue.specs.declared.shelves.Held.{Held}
 use Rattle.vk_catalogue.specs.declared.pages.PageRow.{PageRow}
 use Rattle.vk_catalogue.specs.PageViews.{held_view, row_view}
-use Rattle.vk_catalogue.specs.Shelves.{Shelved, no_page, page_or_none, page_among, held_for, pages_of, page_on, IsPageFor}
+use Rattle.vk_catalogue.specs.Shelves.{Shelved, no_page, page_or_none, page_among, held_for, pages_of, page_on}
 
 -- a page without a registry is one
 pub no_page_is : IsPage no_page
@@ -25,13 +27,8 @@ cond_map : {X Y : Type 0} (f : X → Y) (b : Bool) (x : X) (o : Option X) → co
 cond_map f true x o = refl
 cond_map f false x o = refl
 
--- what is looked up among views is the view of what is looked up
-lookup_view : (test : List ℕ → Bool) (held : Shelved Held) → lookup test (pages_of held) ≡ option_map held_view (lookup test held)
-lookup_view test [] = refl
-lookup_view test (e ∷ es) = ap (cond (test e.0) (Some (held_view e.1))) (lookup_view test es) ∙ cond_map held_view (test e.0) e.1 (lookup test es)
-
 pub page_held : (held : Shelved Held) (port : List ℕ) → page_on held port ≡ page_or_none (option_map held_view (held_for held port))
-page_held held port = ap page_or_none (lookup_view (bytes_eq port) held)
+page_held held port = ap page_or_none (lookup-map_values held_view (bytes_eq port) held)
 
 -- a row that is found among views is the view of the row that is found
 pub row_view_found : (rows : List PageRow) (ask : Ask) → row_in (map row_view rows) ask ≡ option_map row_view (find (λ r. same_ask (ask_of r.version) ask) rows)
@@ -65,7 +62,7 @@ pages_of_more held port h = map-append (λ e. (e.0, held_view e.1)) held ((port,
 
 -- a port that has no page yet is looked up in vain
 pub nothing_held : (held : Shelved Held) (port : List ℕ) → lookup (bytes_eq port) (pages_of held) ≡ None → held_for held port ≡ None
-nothing_held held port none = by (held_for held port) (sym (lookup_view (bytes_eq port) held) ∙ none)
+nothing_held held port none = by (held_for held port) (sym (lookup-map_values held_view (bytes_eq port) held) ∙ none)
   where
     by : (o : Option Held) → option_map held_view o ≡ None → o ≡ None
     by None e = refl
@@ -73,7 +70,7 @@ nothing_held held port none = by (held_for held port) (sym (lookup_view (bytes_e
 
 -- a port of which nothing is held has no page yet, and one of which something is held has one
 pub lacks_page : (held : Shelved Held) (port : List ℕ) → held_for held port ≡ None → lookup (bytes_eq port) (pages_of held) ≡ None
-lacks_page held port none = lookup_view (bytes_eq port) held ∙ ap (option_map held_view) none
+lacks_page held port none = lookup-map_values held_view (bytes_eq port) held ∙ ap (option_map held_view) none
 
 pub has_page : (held : Shelved Held) (port : List ℕ) (h : Held) → held_for held port ≡ Some h → lookup (bytes_eq port) (pages_of held) ≡ None → ⊥
 has_page held port h some none = let clash : Some h ≡ None = sym some ∙ nothing_held held port none in (cc)

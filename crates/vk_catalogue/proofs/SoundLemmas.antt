@@ -1,67 +1,22 @@
 -- The tests of a page tell what every page keeps.
-use Rattle.std.proofs.Common.{◌≡◌, ℕ, Bool, true, false, not, ◌&&◌, ◌||◌, eqb, bytes_eq, List, [], ◌∷◌, ◌++◌, map, inl, inr, refl, ap, sym, subst, ◌∙◌, arith}
+use Rattle.std.proofs.Common.{◌≡◌, Bool, true, false, not, ◌&&◌, ◌||◌, List, [], ◌∷◌, ◌++◌, map, inl, inr, refl, ap, sym, subst, ◌∙◌}
 use Rattle.std.specs.Prelude.{◌↔◌, IsTrue, Result, Ok, Err, IfErr, if◌then◌else◌}
 use Rattle.std.specs.List.{Contains, list_any, list_all}
-use Rattle.std.proofs.lemmas.Bool.Decides.{nat_tests}
 use Rattle.std.proofs.lemmas.List.{append_assoc, append-nil}
-use Rattle.std.proofs.lemmas.List.Elements.{Contains-append_left, Contains-append_right, Contains-append_cases}
-use Rattle.std.proofs.lemmas.Slice.Eq.{bytes_eq-Decides}
+use Rattle.std.proofs.lemmas.List.Elements.{Contains-append_right}
+use Rattle.vk_spec.proofs.ListLemmas.{any_by, contains_nothing, contains_first, contains_later, contains_cases, no_repeats_push}
 use Rattle.vk_spec.specs.Lists.{NoRepeats}
-use Rattle.vk_spec.specs.Versions.{Ask}
-use Rattle.vk_spec.specs.Pages.{Wrong, no_registry, no_baseline, bad_file, disagrees, Row, Page}
-use Rattle.vk_catalogue.specs.Catalogues.{IsPage, CanBeOfRow, ask_of, same_ask}
-use Rattle.vk_spec.proofs.ListLemmas.{contains_nothing, contains_first, contains_later, contains_cases, no_repeats_push}
+use Rattle.vk_spec.specs.Versions.{Ask, ask_of, same_ask}
+use Rattle.vk_spec.specs.Pages.{Wrong, no_registry, no_baseline, bad_file, disagrees, Row}
+use Rattle.vk_spec.specs.Catalogues.{IsPage, CanBeOfRow}
+use Rattle.vk_spec.proofs.VersionLemmas.{is_new, is_found}
 use Rattle.vk_expr.specs.Trees.{Tree}
 use Rattle.vk_catalogue.specs.declared.pages.PageRow.{PageRow}
 use Rattle.vk_catalogue.specs.declared.pages.Page as rust
 use Rattle.vk_version.specs.declared.asks.Ask as rust_ask
 use Rattle.vk_version.specs.AskViews.{ask_view}
 use Rattle.vk_catalogue.specs.PageViews.{row_view, page_view}
-use Rattle.vk_catalogue.specs.SoundPages.{distinct_after, asks_in, FitsGiven, can_be_of_row, is_manifest_right, is_row_right}
-
--- ---- asks
-
-by_tests : (a b : Ask) (text port : Bool) → bytes_eq a.text b.text ≡ text → eqb a.port b.port ≡ port → (text && port) ≡ true → a ≡ b
-by_tests a b true true text port e =
-    let one = (bytes_eq-Decides a.text b.text).0 text in
-    let other : a.port ≡ b.port = grind (arith, nat_tests) in
-    λ i. record { text = one i; port = other i }
-by_tests a b true false text port e = (cc)
-by_tests a b false port text is e = (cc)
-
-asks_equal : (a b : Ask) → same_ask a b ≡ true → a ≡ b
-asks_equal a b e = by_tests a b (bytes_eq a.text b.text) (eqb a.port b.port) refl refl e
-
-ask_itself : (a : Ask) → same_ask a a ≡ true
-ask_itself a =
-    let text = (bytes_eq-Decides a.text a.text).1 refl in
-    let port : eqb a.port a.port ≡ true = grind (arith, nat_tests) in
-    rw (text, port) refl
-
-or_true : (b : Bool) → (b || true) ≡ true
-or_true true = refl
-or_true false = refl
-
--- an ask that is there is found
-is_there : (asks : List Ask) (ask : Ask) → Contains asks ask → list_any (same_ask ask) asks ≡ true
-is_there [] ask h = absurd (contains_nothing ask h)
-is_there (one ∷ asks) ask h =
-    elim (contains_cases one ask asks h) [
-      | inl same ↦ rw (same, ask_itself ask) refl
-      | inr later ↦ rw (is_there asks ask later) (or_true (same_ask ask one))
-    ]
-
-is_new : (asks : List Ask) (ask : Ask) → list_any (same_ask ask) asks ≡ false → Contains asks ask → ⊥
-is_new asks ask none h = let clash : true ≡ false = sym (is_there asks ask h) ∙ none in (cc)
-
--- one that is found is there
-is_found : (asks : List Ask) (ask : Ask) → list_any (same_ask ask) asks ≡ true → Contains asks ask
-is_found [] ask e = (cc)
-is_found (one ∷ asks) ask e = by (same_ask ask one) refl e (is_found asks ask)
-  where
-    by : (b : Bool) → same_ask ask one ≡ b → (b || list_any (same_ask ask) asks) ≡ true → (list_any (same_ask ask) asks ≡ true → Contains asks ask) → Contains (one ∷ asks) ask
-    by true same h f = subst (λ a. Contains (one ∷ asks) a) (sym (asks_equal ask one same)) (contains_first one asks)
-    by false same h f = contains_later one ask asks (f h)
+use Rattle.vk_catalogue.specs.SoundPages.{distinct_after, asks_in, FitsGiven, is_manifest_right, is_row_right}
 
 -- ---- no ask stands twice
 
@@ -160,10 +115,6 @@ sound_by p distinct given rows d g r = (
       let three = r ∙ right_are_rows p.rows page.row_wrongs in
       rw (one, two, three) refl),
 )
-
-any_by : {X Y : Type 0} (f : X → Y) (p : Y → Bool) (xs : List X) → list_any p (map f xs) ≡ list_any (λ x. p (f x)) xs
-any_by f p [] = refl
-any_by f p (x ∷ xs) = ap (λ b. p (f x) || b) (any_by f p xs)
 
 -- an ask that is noted is new where none before is the same
 pub told_new : (keys : List rust_ask.Ask) (ask : rust_ask.Ask) (a : Ask) (new : Bool) → ask_view ask ≡ a → new ≡ not (list_any (λ key. same_ask (ask_view ask) (ask_view key)) keys) → new ≡ not (list_any (same_ask a) (map ask_view keys))

@@ -3,8 +3,7 @@ use Rattle.std.specs.Prelude.{◌≡◌, Option, Some, None, Result, Ok, Err}
 use Rattle.vk_spec.specs.Calls.{Answer}
 use Rattle.vk_spec.specs.Versions.{Ask}
 use Rattle.vk_spec.specs.Manifests.{Manifest}
-use Rattle.vk_spec.specs.Pages.{Wrong, Given, Page}
-use Rattle.vk_catalogue.specs.Catalogues.{given_ask, manifest_in}
+use Rattle.vk_spec.specs.Pages.{Wrong, Given, Page, given_ask, manifest_in}
 use Rattle.vk_expr.specs.Trees.{Tree}
 use Rattle.vk_version.specs.AskViews.{ask_view}
 use Rattle.vk_model.specs.Views.{manifest_view}

@@ -1,7 +1,5 @@
-pub mod Catalogues
 pub mod Views
 pub mod PageViews
-pub mod Schedules
 pub mod Shelves
 pub mod MemCatalogues
 pub mod GivenManifests

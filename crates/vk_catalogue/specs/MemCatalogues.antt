@@ -1,13 +1,13 @@
 -- A catalogue in memory: what is known of it, and what its calls do.
-use Rattle.std.specs.Prelude.{◌≡◌, ℕ, Bool, true, List, [], Option, Some, None}
+use Rattle.std.specs.Prelude.{◌≡◌, Bool, true, [], Some, None}
 use Rattle.vk_spec.specs.Pages as plain
-use Rattle.vk_catalogue.specs.Catalogues.{Origin, CatalogueState}
+use Rattle.vk_spec.specs.Catalogues.{Origin, CatalogueState}
 use Rattle.vk_expr.specs.Trees.{Tree}
 pub use Rattle.vk_catalogue.specs.Shelves.{IsPageFor}
 use Rattle.vk_catalogue.specs.Shelves.{Shelved, page_among, pages_of}
-use Rattle.vk_catalogue.specs.Schedules.{next_fails, is_calm, with_call, raised}
+use Rattle.vk_base.specs.Schedules.{turn_of, is_calm, is_wrong, with_call, raised}
 use Rattle.vk_catalogue.specs.declared.mem_catalogues.MemCatalogue.{MemCatalogue}
-use Rattle.vk_catalogue.specs.declared.schedules.Schedule.{Schedule}
+use Rattle.vk_base.specs.declared.schedules.Schedule.{Schedule}
 
 -- the pages that were put, by their ports, in order
 abbrev pub pages_put : MemCatalogue → Shelved (plain.Page Tree)
@@ -26,6 +26,7 @@ abbrev pub mem_state : MemCatalogue → CatalogueState Tree
 mem_state m = record {
   pages = Some (page_among (pages_put m));
   origin = no_origin;
+  calls = m.schedule.calls;
   faults = m.faults;
   sure = is_calm m.schedule;
 }
@@ -43,6 +44,6 @@ with_schedule schedule m = record m { schedule = schedule }
 
 -- which call fails, besides what every catalogue does: exactly the one whose turn it is
 pub record MemCalls (failed : Bool) (before after : MemCatalogue) : Type 0 where
-  pub turn : failed ≡ next_fails (mem_schedule before)
+  pub turn : failed ≡ is_wrong (turn_of (mem_schedule before))
   pub faults : (mem_state after).faults ≡ raised failed (mem_state before).faults
   pub schedule : mem_schedule after ≡ with_call (mem_schedule before)

@@ -1,8 +1,8 @@
 -- The pages of a catalogue in memory.
-use Rattle.std.specs.Prelude.{◌≡◌, ℕ, List, [], map, Option, Some, None, Result, Err, bytes_eq}
+use Rattle.std.specs.Prelude.{◌≡◌, ℕ, List, [], map, Option, Some, None, Err, bytes_eq}
 use Rattle.std.specs.Map.{lookup}
 use Rattle.vk_spec.specs.Pages as plain
-use Rattle.vk_catalogue.specs.Catalogues.{IsPage, ArePages}
+use Rattle.vk_spec.specs.Catalogues.{IsPage}
 use Rattle.vk_expr.specs.Trees.{Tree}
 use Rattle.vk_catalogue.specs.PageViews.{held_view}
 use Rattle.vk_catalogue.specs.declared.shelves.Held.{Held}

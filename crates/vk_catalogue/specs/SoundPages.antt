@@ -1,9 +1,9 @@
 -- Tests of what every page keeps.
-use Rattle.std.specs.Prelude.{◌≡◌, ◌++◌, Bool, true, false, List, [], ◌∷◌, map, Result, Ok, Err, IfOk, IfErr, if◌then◌else◌}
+use Rattle.std.specs.Prelude.{◌++◌, Bool, true, false, List, [], ◌∷◌, map, Result, Ok, Err, IfOk, IfErr, if◌then◌else◌}
 use Rattle.std.specs.List.{list_any}
-use Rattle.vk_spec.specs.Versions.{Ask}
+use Rattle.vk_spec.specs.Versions.{Ask, ask_of, same_ask}
 use Rattle.vk_spec.specs.Pages.{Wrong, no_registry, no_baseline, bad_file, disagrees, Row, Page}
-use Rattle.vk_catalogue.specs.Catalogues.{CanBeOfGiven, HasOwnAlone, ask_of, same_ask}
+use Rattle.vk_spec.specs.Catalogues.{CanBeOfGiven, HasOwnAlone}
 use Rattle.vk_expr.specs.Trees.{Tree}
 use Rattle.vk_catalogue.specs.declared.pages.PageRow.{PageRow}
 

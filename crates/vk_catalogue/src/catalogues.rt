@@ -1,5 +1,5 @@
 ghost use Rattle.std.specs.Prelude.{◌≡◌};
-ghost use Rattle.vk_catalogue.specs.Catalogues.{CatalogueState, Asks, OnPage, CanAskVersion, CanAskManifest, SaysGiven, SaysVersion, SaysManifest};
+ghost use Rattle.vk_spec.specs.Catalogues.{CatalogueState, Asks, OnPage, CanAskVersion, CanAskManifest, SaysGiven, SaysVersion, SaysManifest};
 ghost use Rattle.vk_version.specs.AskViews.{ask_view};
 ghost use Rattle.vk_expr.specs.Trees.{Tree};
 

@@ -1,15 +1,14 @@
 //! The manifest of a port at its given version.
-ghost use Rattle.std.specs.Prelude.{◌≡◌, IfOk};
-ghost use Rattle.vk_catalogue.specs.Catalogues.{Asks, OnPage, CanAskManifest, CanAskVersion, given_ask};
+ghost use Rattle.std.specs.Prelude.{◌≡◌};
+ghost use Rattle.vk_spec.specs.Catalogues.{Asks, OnPage, CanAskManifest, CanAskVersion};
 ghost use Rattle.vk_version.specs.AskViews.{ask_view};
-ghost use Rattle.vk_catalogue.specs.Views.{given_view};
 ghost use Rattle.vk_catalogue.specs.GivenManifests.{SaysAt, SaysAtGiven, at_answer};
 
 use crate::catalogues::Catalogue;
 use crate::stops::CatStop;
-use crate::wrongs::{Given, Wrong};
+use crate::wrongs::Wrong;
 use std::rc::Rc;
-use vk_base::{Memory, PortName};
+use vk_base::PortName;
 use vk_model::Manifest;
 use vk_version::Ask;
 
@@ -24,24 +23,8 @@ pub enum GivenManifest {
     Bad(Wrong),
 }
 
-impl Given {
-    /// What it asks for: of an overlay, its own version.
-    pub fn into_ask(self) -> Result<Ask, Memory>
-        ensures { IfOk result (λ ask. ask_view ask ≡ given_ask (given_view self)) }
-    {
-        match self {
-            Given::Overlay(version) => Ok(Ask {
-                text: version.text().clone()?,
-                port: version.port(),
-            }),
-            Given::Override(ask) => Ok(ask),
-            Given::Baseline(ask) => Ok(ask),
-        }
-    }
-}
-
 // The manifest of a version that is there.
-#[tactic(auto, using(crate::proofs::GivenLemmas::manifest_there, crate::proofs::GivenLemmas::manifest_bad, crate::proofs::AskLemmas::asks_stopped))]
+#[tactic(auto, using(crate::proofs::GivenLemmas::manifest_there, crate::proofs::GivenLemmas::manifest_bad, vk_spec::proofs::AskLemmas::asks_stopped))]
 fn listed_manifest<C: Catalogue>(
     cat: &mut C,
     port: &PortName,
@@ -57,24 +40,24 @@ fn listed_manifest<C: Catalogue>(
 }
 
 // The manifest for an ask, where there is a version for it.
-#[tactic(auto, using(crate::proofs::GivenLemmas::not_listed, crate::proofs::GivenLemmas::listed_then, crate::proofs::AskLemmas::can_ask_manifest, crate::proofs::AskLemmas::asks_stopped))]
+#[tactic(auto, using(crate::proofs::GivenLemmas::not_listed, crate::proofs::GivenLemmas::listed_then, vk_spec::proofs::AskLemmas::can_ask_manifest, vk_spec::proofs::AskLemmas::asks_stopped))]
 fn manifest_for<C: Catalogue>(
     cat: &mut C,
     port: &PortName,
-    ask: Ask,
+    ask: &Ask,
 ) -> Result<GivenManifest, CatStop>
     requires { OnPage port.now CanAskVersion (C.state cat.old) }
-    ensures { Asks port.now (SaysAt (ask_view ask)) (at_answer result) (C.state cat.old) (C.state cat.new) }
+    ensures { Asks port.now (SaysAt (ask_view ask.now)) (at_answer result) (C.state cat.old) (C.state cat.new) }
 {
-    match cat.version(port, &ask)? {
-        Some(_) => listed_manifest(cat, port, &ask),
-        None => Ok(GivenManifest::NoVersion(ask)),
+    match cat.version(port, ask)? {
+        Some(_) => listed_manifest(cat, port, ask),
+        None => Ok(GivenManifest::NoVersion(ask.clone()?)),
     }
 }
 
 /// The manifest of a port at its given version, or the first thing that is wrong with it: no given
 /// version, no version for what is given, no manifest there.
-#[tactic(auto, using(crate::proofs::GivenLemmas::given_then, crate::proofs::GivenLemmas::given_bad, crate::proofs::AskLemmas::can_ask_version, crate::proofs::AskLemmas::asks_stopped))]
+#[tactic(auto, using(crate::proofs::GivenLemmas::given_then, crate::proofs::GivenLemmas::given_bad, vk_spec::proofs::AskLemmas::can_ask_version, vk_spec::proofs::AskLemmas::asks_stopped))]
 pub fn manifest_at_given<C: Catalogue>(
     cat: &mut C,
     port: &PortName,
@@ -82,7 +65,7 @@ pub fn manifest_at_given<C: Catalogue>(
     ensures { Asks port.now SaysAtGiven (at_answer result) (C.state cat.old) (C.state cat.new) }
 {
     match cat.given(port)? {
-        Ok(given) => manifest_for(cat, port, given.into_ask()?),
+        Ok(given) => manifest_for(cat, port, given.ask()),
         Err(wrong) => Ok(GivenManifest::Bad(wrong)),
     }
 }

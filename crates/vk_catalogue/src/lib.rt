@@ -8,7 +8,6 @@ mod given_manifests;
 mod mem_catalogues;
 mod pages;
 mod rows;
-mod schedules;
 mod shelves;
 mod sound_pages;
 mod stops;

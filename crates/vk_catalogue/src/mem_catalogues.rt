@@ -1,22 +1,21 @@
 ghost use Rattle.std.specs.Prelude.{◌≡◌, ◌↔◌, ◌++◌, ◌∷◌, [], IsTrue, IfOk, OnOk, OnErr, false};
-ghost use Rattle.vk_catalogue.specs.Catalogues.{Asks, OnlyAsked, OnPage, CanAskVersion, CanAskManifest, SaysGiven, SaysVersion, SaysManifest};
+ghost use Rattle.vk_spec.specs.Catalogues.{Asks, OnlyAsked, OnPage, CanAskVersion, CanAskManifest, SaysGiven, SaysVersion, SaysManifest};
 ghost use Rattle.vk_version.specs.AskViews.{ask_view};
 ghost use Rattle.vk_catalogue.specs.Views.{cat_failed, given_answer, version_answer, manifest_answer};
 ghost use Rattle.vk_catalogue.specs.PageViews.{page_view};
-ghost use Rattle.vk_catalogue.specs.Schedules.{with_listed};
+ghost use Rattle.vk_base.specs.Schedules.{with_listed};
 ghost use Rattle.vk_catalogue.specs.Shelves.{page_on};
 ghost use Rattle.vk_catalogue.specs.MemCatalogues.{IsNewCatalogue, IsPageFor, MemCalls, mem_schedule, mem_state, pages_put, with_schedule};
 
 use crate::catalogues::Catalogue;
 use crate::pages::Page;
 use crate::rows::row_for;
-use crate::schedules::Schedule;
 use crate::shelves::Shelf;
 use crate::stops::CatStop;
 use crate::wrongs::{Given, Wrong};
 use std::alloc::Global;
 use std::rc::Rc;
-use vk_base::{Memory, PortName};
+use vk_base::{Memory, PortName, Schedule};
 use vk_model::Manifest;
 use vk_version::{Ask, Version};
 
@@ -81,7 +80,7 @@ impl MemCatalogue {
         ensures asked { OnlyAsked result (mem_state self.old) (mem_state self.new) }
         ensures pages { self.new.shelf ≡ self.old.shelf }
     {
-        if self.schedule.next_fails() {
+        if self.schedule.next_is_wrong() {
             self.faults = self.faults.saturating_add(1);
             return true;
         }

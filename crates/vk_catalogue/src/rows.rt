@@ -2,7 +2,7 @@
 ghost use Rattle.std.specs.Prelude.{◌≡◌};
 ghost use Rattle.std.specs.Option.{option_copied};
 ghost use Rattle.std.specs.List.{find};
-ghost use Rattle.vk_catalogue.specs.Catalogues.{ask_of, same_ask};
+ghost use Rattle.vk_spec.specs.Versions.{ask_of, same_ask};
 ghost use Rattle.vk_version.specs.AskViews.{ask_view};
 
 use crate::pages::PageRow;
@@ -12,7 +12,7 @@ use vk_version::{Ask, Version};
 fn is_meant(version: &Version, ask: &Ask) -> bool
     ensures { result ≡ same_ask (ask_of version.now) (ask_view ask.now) }
 {
-    *version.text() == ask.text && version.port() == ask.port
+    version.ask() == ask
 }
 
 /// The row that an ask means; `None` exactly where there is none. It looks at the rows in order.

@@ -1,7 +1,8 @@
 ghost use Rattle.std.specs.Prelude.{◌≡◌, ◌↔◌, ◌++◌, ◌∷◌, [], None, IsTrue, OnOk, OnErr, bytes_eq, option_map};
 ghost use Rattle.std.specs.Map.{lookup};
 ghost use Rattle.std.specs.Option.{option_copied};
-ghost use Rattle.vk_catalogue.specs.Catalogues.{ArePages, row_in};
+ghost use Rattle.vk_spec.specs.Pages.{row_in};
+ghost use Rattle.vk_spec.specs.Catalogues.{ArePages};
 ghost use Rattle.vk_version.specs.AskViews.{ask_view};
 ghost use Rattle.vk_catalogue.specs.PageViews.{page_view, held_view, row_view};
 ghost use Rattle.vk_catalogue.specs.Shelves.{IsPageFor, page_on, page_or_none, pages_of};
@@ -31,7 +32,7 @@ pub struct Shelf {
 
 impl Model for Shelf {
     ghost use Rattle.std.specs.Prelude.{List, ℕ};
-    ghost use Rattle.vk_catalogue.specs.Catalogues.{ArePages};
+    ghost use Rattle.vk_spec.specs.Catalogues.{ArePages};
     ghost use Rattle.vk_catalogue.specs.declared.shelves.Held.{Held};
     ghost use Rattle.vk_expr.specs.contracts.exprs.Expr as expr;
     ghost use Rattle.std.specs.Coded.{codes};

@@ -1,7 +1,8 @@
 //! Whether a page keeps what every page keeps.
 ghost use Rattle.std.specs.Prelude.{◌≡◌, ◌↔◌, ◌++◌, ◌∷◌, [], IsTrue, IfOk, IfErr, map, not, true};
 ghost use Rattle.std.specs.List.{list_any, list_all};
-ghost use Rattle.vk_catalogue.specs.Catalogues.{CanBeOfGiven, HasOwnAlone, IsPage, ask_of, same_ask};
+ghost use Rattle.vk_spec.specs.Versions.{ask_of, same_ask};
+ghost use Rattle.vk_spec.specs.Catalogues.{CanBeOfGiven, HasOwnAlone, IsPage};
 ghost use Rattle.vk_version.specs.AskViews.{ask_view};
 ghost use Rattle.vk_catalogue.specs.Views.{given_said, given_view, wrong_view};
 ghost use Rattle.vk_catalogue.specs.PageViews.{page_view, row_view};
@@ -10,29 +11,17 @@ ghost use Rattle.vk_catalogue.specs.SoundPages.{FitsGiven, asks_in, can_be_of_ro
 use crate::pages::{Page, PageRow};
 use crate::wrongs::{Field, Given, Wrong};
 use indexmap::IndexSet;
-use std::alloc::{AllocError, Global};
+use std::alloc::Global;
 use std::cmp::Ordering;
 use vk_base::Memory;
 use vk_version::{Ask, Version, order};
-
-impl PageRow {
-    /// The ask that means its version.
-    fn ask(&self) -> Result<Ask, AllocError>
-        ensures { IfOk result (λ ask. ask_view ask ≡ ask_of self.now.version) }
-    {
-        Ok(Ask {
-            text: self.version.text().clone()?,
-            port: self.version.port(),
-        })
-    }
-}
 
 // Notes the ask of a row, and tells whether it is new.
 fn note_ask(seen: &mut IndexSet<Ask>, row: &PageRow) -> Result<bool, Memory>
     ensures new { IfOk result (λ new. new ≡ not (list_any (same_ask (ask_of row.now.version)) (map ask_view seen.old.keys))) }
     ensures noted { IfOk result (λ new. new ≡ true → map ask_view seen.new.keys ≡ map ask_view seen.old.keys ++ ask_of row.now.version ∷ []) }
 {
-    let ask = row.ask()?;
+    let ask = row.version.ask().clone()?;
     let new = seen.insert(ask)?;
     Ok(new)
 }

@@ -1,5 +1,5 @@
 ghost use Rattle.std.specs.Prelude.{◌≡◌, ◌≢◌, true};
-ghost use Rattle.vk_catalogue.specs.Catalogues.{OnlyAsked};
+ghost use Rattle.vk_spec.specs.Catalogues.{OnlyAsked};
 ghost use Rattle.vk_spec.specs.Counts.{MayHaveRisen, Rose};
 ghost use Rattle.vk_catalogue.specs.Views.{cat_failed};
 
@@ -14,7 +14,7 @@ use vk_model::Manifest;
 use vk_version::{Ask, Scheme, Version, read, read_ask};
 
 // How many of these ports have a given version.
-#[tactic(auto, using(crate::proofs::AskLemmas::asked_more, crate::proofs::AskLemmas::asked_nothing))]
+#[tactic(auto, using(vk_spec::proofs::AskLemmas::asked_more, vk_spec::proofs::AskLemmas::asked_nothing))]
 fn how_many_given<C: Catalogue>(cat: &mut C, ports: &[PortName]) -> Result<usize, CatStop>
     ensures { OnlyAsked (cat_failed result) (C.state cat.old) (C.state cat.new) }
 {

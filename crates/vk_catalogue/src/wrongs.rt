@@ -1,3 +1,8 @@
+ghost use Rattle.std.specs.Prelude.{◌≡◌};
+ghost use Rattle.vk_spec.specs.Pages.{given_ask};
+ghost use Rattle.vk_version.specs.AskViews.{ask_view};
+ghost use Rattle.vk_catalogue.specs.Views.{given_view};
+
 use vk_base::{Text, TreePath};
 use vk_json::Why;
 use vk_version::{Ask, Version};
@@ -11,6 +16,19 @@ pub enum Given {
     Override(Ask),
     /// What the entry in the baseline of the port's registry asks for.
     Baseline(Ask),
+}
+
+impl Given {
+    /// What it asks for: of an overlay, its own version. Takes no memory.
+    pub fn ask(&self) -> &Ask
+        ensures { ask_view result.now ≡ given_ask (given_view self.now) }
+    {
+        match self {
+            Given::Overlay(version) => version.ask(),
+            Given::Override(ask) => ask,
+            Given::Baseline(ask) => ask,
+        }
+    }
 }
 
 /// In what a versions table and a manifest differ; the first in this order.

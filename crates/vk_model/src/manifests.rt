@@ -1,3 +1,6 @@
+ghost use Rattle.std.specs.Prelude.{◌≡◌};
+
+use std::alloc::AllocError;
 use vk_base::{FeatureName, List, PortName};
 use vk_expr::Expr;
 use vk_version::{Ask, Version};
@@ -46,6 +49,17 @@ pub struct Override {
     pub name: PortName,
     /// The version that it gets.
     pub ask: Ask,
+}
+
+impl Clone for Override {
+    ghost is_clone = { λ x y. y ≡ x };
+
+    fn clone(&self) -> Result<Override, AllocError> {
+        Ok(Override {
+            name: self.name.clone()?,
+            ask: self.ask.clone()?,
+        })
+    }
 }
 
 /// A manifest: of a port, or of the root, which may lack name and version.

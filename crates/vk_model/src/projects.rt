@@ -1,4 +1,4 @@
-use vk_base::{FeatureName, List, TreePath, TripletName};
+use vk_base::{FeatureName, List, Text, TreePath, TripletName};
 
 /// What the words say of a project.
 #[derive(Drop)]
@@ -19,6 +19,19 @@ pub struct Project {
     pub overlay_triplets: List<TreePath>,
     /// How many requirements may be made, 1 to 1,000,000.
     pub max_facts: u32,
+    /// How many bytes a port's folder, and all packages together, may have, 1 to 536,870,912.
+    pub max_bytes: u64,
+}
+
+/// Where packages are installed and kept.
+#[derive(Drop)]
+pub struct Store {
+    /// The folder that packages are installed into.
+    pub installed: TreePath,
+    /// The folder that built packages are kept in, to be used again.
+    pub cache: TreePath,
+    /// The name of the agent that builds.
+    pub agent: Text,
     /// How many bytes a port's folder, and all packages together, may have, 1 to 536,870,912.
     pub max_bytes: u64,
 }

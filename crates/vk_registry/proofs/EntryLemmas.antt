@@ -1,12 +1,11 @@
 -- A baseline's entries stand in the order of their keys, and are found by their ports.
-use Rattle.std.proofs.Common.{◌≡◌, ◌+◌, ◌<◌, ◌≤◌, ◌⊎◌, ℕ, zero, suc, Bool, true, false, not, cond, List, [], ◌∷◌, ◌++◌, length, map, filter, get_or, bytes_eq, Ordering, inl, inr, refl, ap, sym, ◌∙◌, arith}
+use Rattle.std.proofs.Common.{◌≡◌, ◌+◌, ◌<◌, ◌≤◌, ◌⊎◌, ℕ, zero, suc, Bool, true, false, not, List, [], ◌∷◌, length, map, filter, get_or, bytes_eq, Ordering, inl, inr, refl, ap, sym, ◌∙◌, arith}
 use Rattle.std.specs.Prelude.{Option, Some, None, option_map, Result, Ok, Err, codes, if◌then◌else◌}
 use Rattle.std.specs.declared.cmp.Ordering.TheVariants.{Less, Equal, Greater}
 use Rattle.std.specs.List.{Contains}
 use Rattle.std.specs.List.Sorted.{IsStrictlySortedBy, IsNonDecreasingBy, IsPartitionPoint}
 use Rattle.std.specs.Ordering.{nat_cmp, ordering_index, is_eq}
 use Rattle.std.specs.Cmp.Lexicographic.{slice_cmp}
-use Rattle.std.specs.Cmp.{IsTotalOrder}
 use Rattle.std.specs.FinMap.{slice_cmp-IsAntisymmetric, nat_cmp-IsAntisymmetric}
 use Rattle.std.proofs.lemmas.Cmp.{nat_list_cmp_total}
 use Rattle.std.proofs.lemmas.Bool.{cases_lt}
@@ -29,7 +28,7 @@ use Rattle.vk_json.specs.Readings.{members_at, object_at, member_at, pairs_of, e
 use Rattle.vk_fields.specs.Texts.{said_here}
 use Rattle.vk_fields.specs.Wording.{name_word}
 use Rattle.vk_fields.specs.Versions.{ask_under}
-use Rattle.vk_registry.specs.Baselines.{Entry, is_note, entry_at, entry_unless_note, those_there, entries_at, IsInOrder, KeysAscend, ask_for}
+use Rattle.vk_registry.specs.Baselines.{Entry, is_note, entry_at, entry_unless_note, those_there, IsInOrder, KeysAscend, ask_for}
 use Rattle.vk_registry.specs.BaselineViews.{entry_view}
 use Rattle.vk_registry.specs.declared.baselines.BaselineEntry.{BaselineEntry}
 use Rattle.vk_version.specs.AskViews.{ask_view}

@@ -1,6 +1,6 @@
 -- A folder that reads stays below the registry.
-use Rattle.std.proofs.Common.{◌≡◌, ℕ, Bool, true, false, not, ◌&&◌, eqb, refl, ap, sym, ◌∙◌, arith}
-use Rattle.std.specs.Prelude.{Result, Ok, Err, codes, if◌then◌else◌}
+use Rattle.std.proofs.Common.{◌≡◌, Bool, true, false, not, ◌&&◌, eqb, refl, arith}
+use Rattle.std.specs.Prelude.{Ok, Err, codes, if◌then◌else◌}
 use Rattle.std.proofs.lemmas.Bool.Decides.{nat_tests}
 use Rattle.serde_json.specs.Data.{Data}
 use Rattle.vk_spec.specs.Paths.{Path}
@@ -12,7 +12,7 @@ use Rattle.vk_json.specs.Places.{here}
 use Rattle.vk_json.specs.Readings.{text_at}
 use Rattle.vk_fields.specs.Texts.{said_here}
 use Rattle.vk_fields.specs.Wording.{path_word}
-use Rattle.vk_registry.specs.Fronts.{after}
+use Rattle.vk_spec.specs.Fronts.{after}
 use Rattle.vk_registry.specs.Folders.{IsBelow, unless_above, folder_of, folder_at}
 use Rattle.vk_registry.proofs.StepLemmas.{bind_ok}
 

@@ -1,4 +1,3 @@
-mod FrontLemmas
 mod OrderLemmas
 mod StepLemmas
 mod AskLemmas

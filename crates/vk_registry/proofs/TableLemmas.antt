@@ -1,7 +1,7 @@
 -- What a versions file says is a table, and its rows are found by their asks.
 use Rattle.std.proofs.Common.{◌≡◌, ◌<◌, ◌↔◌, ℕ, zero, suc, Bool, true, false, List, [], ◌∷◌, ◌++◌, length, map, get_or, is_some, refl, ap, sym, ◌∙◌, arith}
-use Rattle.std.specs.Prelude.{Option, Some, None, IfSome, Result, Ok, Err, codes, if◌then◌else◌}
-use Rattle.std.specs.List.{All, Contains, list_any, position}
+use Rattle.std.specs.Prelude.{Option, Some, None, IfSome, Ok, Err, codes, if◌then◌else◌}
+use Rattle.std.specs.List.{Contains, list_any, position}
 use Rattle.std.proofs.lemmas.List.{map-append, length-map, get_or-map}
 use Rattle.std.proofs.lemmas.List.Elements.{All-nil, All-push}
 use Rattle.std.proofs.lemmas.List.Quantifiers.{position-Some}
@@ -9,6 +9,8 @@ use Rattle.serde_json.specs.Data.{Data}
 use Rattle.vk_spec.specs.Lists.{NoRepeats}
 use Rattle.vk_spec.specs.Reading.{◌>>=◌, or_fault, read_after}
 use Rattle.vk_spec.specs.Versions as plain
+use Rattle.vk_spec.specs.Versions.{same_ask}
+use Rattle.vk_spec.proofs.VersionLemmas.{asks_equal, is_there, is_new}
 use Rattle.vk_spec.proofs.ListLemmas.{no_repeats_push, contains_first, contains_later}
 use Rattle.vk_version.specs.AskViews.{ask_view}
 use Rattle.vk_version.specs.declared.asks.Ask.{Ask}
@@ -19,11 +21,11 @@ use Rattle.vk_json.specs.Places.{here, item_step}
 use Rattle.vk_json.specs.Readings.{object_at, wanted}
 use Rattle.vk_fields.specs.Versions.{version_needed_at}
 use Rattle.vk_registry.specs.Folders.{IsBelow, folder_at}
-use Rattle.vk_registry.specs.Tables.{Row, ask_in, asks_of, row_at, same_ask, new_ask, row_from, row_item, rows_at, table_at, table_of, IsTable, IsRowAt, HasNoRow}
+use Rattle.vk_registry.specs.Tables.{Row, ask_in, asks_of, row_at, new_ask, row_from, row_item, rows_at, table_at, table_of, IsTable, IsRowAt, HasNoRow}
 use Rattle.vk_registry.specs.TableViews.{row_view}
 use Rattle.vk_registry.specs.declared.tables.Row as declared
 use Rattle.vk_registry.proofs.StepLemmas.{bind_ok, inside_ok, wanted_ok, kept_after}
-use Rattle.vk_registry.proofs.AskLemmas.{asks_equal, is_there, is_new, any_kept}
+use Rattle.vk_registry.proofs.AskLemmas.{any_kept}
 use Rattle.vk_registry.proofs.FolderLemmas.{folder_below}
 
 row_below : (d : Data) (row : Row) → row_at d ≡ Ok row → IsBelow row.path

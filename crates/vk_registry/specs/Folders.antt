@@ -10,7 +10,7 @@ use Rattle.vk_json.specs.Places.{here}
 use Rattle.vk_json.specs.Readings.{Reading, text_at}
 use Rattle.vk_fields.specs.Texts.{said_here}
 use Rattle.vk_fields.specs.Wording.{path_word}
-use Rattle.vk_registry.specs.Fronts.{after}
+use Rattle.vk_spec.specs.Fronts.{after}
 
 -- a path that isn't rooted and has no steps up, so that it stays below where it begins
 pub record IsBelow (path : Path) : Type 0 where

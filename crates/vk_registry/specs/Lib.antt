@@ -1,4 +1,3 @@
-pub mod Fronts
 pub mod Folders
 pub mod Tables
 pub mod TableViews

@@ -1,12 +1,10 @@
 -- A versions file: the versions of a port that a registry has, each with the port's folder.
-use Rattle.std.specs.Prelude.{◌≡◌, ◌==◌, ◌&&◌, [], ℕ, Bool, List, Option, Some, None, Result, Ok, Err, codes, map, slice_get, if◌then◌else◌}
+use Rattle.std.specs.Prelude.{◌≡◌, [], ℕ, List, Some, Result, Ok, Err, codes, map, slice_get, if◌then◌else◌}
 use Rattle.std.specs.List.{All, Contains, list_any}
-use Rattle.std.specs.Str.{bytes_eq}
-use Rattle.serde_json.specs.Data.{Data}
 use Rattle.vk_spec.specs.Lists.{NoRepeats}
 use Rattle.vk_spec.specs.Paths.{Path}
 use Rattle.vk_spec.specs.Reading.{◌>>=◌, or_fault, read_after}
-use Rattle.vk_spec.specs.Versions.{Version, Ask}
+use Rattle.vk_spec.specs.Versions.{Version, Ask, ask_of, same_ask}
 use Rattle.vk_json.specs.declared.faults.Why.TheVariants as why
 use Rattle.vk_json.specs.Documents.{Fault, json_of}
 use Rattle.vk_json.specs.Looks.{items_of}
@@ -20,9 +18,9 @@ pub record Row : Type 0 where
   pub version : Version
   pub path : Path
 
--- the ask that means a row: its version's text and port-version
+-- the ask that means a row: that of its version
 abbrev pub ask_in : Row → Ask
-ask_in row = record { text = row.version.text; port = row.version.port }
+ask_in row = ask_of row.version
 
 -- a row, whose version has to be there
 unfoldable pub row_at : Reading Row
@@ -31,10 +29,6 @@ row_at d = do
   version ← version_needed_at d
   path ← wanted folder_at (codes "path") d
   Ok (record { version = version; path = path })
-
--- two asks are one where text and port-version are
-abbrev pub same_ask : Ask → Ask → Bool
-same_ask a b = bytes_eq a.text b.text && (a.port == b.port)
 
 -- an ask that is none of these
 abbrev pub new_ask : List Ask → Ask → Result (Unit {0}) Fault

@@ -6,7 +6,7 @@ ghost use Rattle.vk_json.specs.DocumentView.{file_fault_of};
 ghost use Rattle.vk_fields.specs.Texts.{said_here};
 ghost use Rattle.vk_fields.specs.Wording.{path_word};
 ghost use Rattle.vk_spec.specs.Paths.{Path};
-ghost use Rattle.vk_registry.specs.Fronts.{after};
+ghost use Rattle.vk_spec.specs.Fronts.{after};
 ghost use Rattle.vk_registry.specs.Folders.{unless_above, folder_of, folder_at};
 
 use serde_json::Value;

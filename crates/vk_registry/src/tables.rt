@@ -13,7 +13,7 @@ ghost use Rattle.vk_registry.specs.TableViews.{row_view};
 use crate::folders::FolderText;
 use indexmap::IndexSet;
 use serde_json::Value;
-use std::alloc::{AllocError, Global};
+use std::alloc::Global;
 use std::marker::Model;
 use vk_base::{List, TreePath};
 use vk_fields::version_needed;
@@ -70,21 +70,12 @@ fn read_row(alloc: Global, value: &Value) -> Result<Row, FileFault>
     Ok(Row { version, path })
 }
 
-fn ask_in(row: &Row) -> Result<Ask, AllocError>
-    ensures { IfOk result (λ ask. ask_view ask ≡ ask_in (row_view row.now)) }
-{
-    Ok(Ask {
-        text: row.version.text().clone()?,
-        port: row.version.port(),
-    })
-}
-
 // That no row before has the text and the port-version of this one, which are then noted.
 fn note_ask(alloc: Global, asks: &mut IndexSet<Ask>, row: &Row) -> Result<(), FileFault>
     ensures new { Gives (λ done. tt) file_fault_of result (new_ask (map ask_view asks.old.keys) (ask_in (row_view row.now))) }
     ensures noted { OnOk result (map ask_view asks.new.keys ≡ map ask_view asks.old.keys ++ ask_in (row_view row.now) ∷ []) }
 {
-    let ask = ask_in(row)?;
+    let ask = row.version.ask().clone()?;
     let new = asks.insert(ask)?;
     if new {
         return Ok(());

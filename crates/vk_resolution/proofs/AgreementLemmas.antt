@@ -4,14 +4,14 @@ use Rattle.std.specs.Prelude.{Option, Some, None, option_map, flat_map, filter_m
 use Rattle.std.specs.List.{Contains, cons_option}
 use Rattle.std.proofs.lemmas.Slice.Eq.{bytes_eq-Decides}
 use Rattle.std.proofs.lemmas.List.Elements.{Contains-append_left, Contains-append_cases}
-use Rattle.vk_spec.specs.Versions.{Ask}
-use Rattle.vk_spec.specs.Manifests.{Manifest, Dependency}
-use Rattle.vk_spec.specs.Pages.{Wrong, Given, overlay, override, baseline, Row}
+use Rattle.vk_spec.specs.Versions.{Ask, same_ask, ask_of}
+use Rattle.vk_spec.specs.Manifests.{Manifest, Dependency, core, default}
+use Rattle.vk_spec.specs.Pages.{Wrong, Given, overlay, override, baseline, Row, row_in}
 use Rattle.vk_spec.proofs.ListLemmas.{contains_nothing, contains_first, contains_later, contains_cases, contains-flat_map, flat_map-contains}
-use Rattle.vk_resolution.specs.Keys.{Key, IsKey, core, default}
+use Rattle.vk_resolution.specs.Keys.{Key, IsKey}
 use Rattle.vk_resolution.specs.Least.{Rules, FollowsFrom, from_one, from_two, IsLeast, IsReached, HasRank, IsByRank, IsLeastInOrder}
 use Rattle.vk_resolution.specs.Settings.{Setting, Condition, Instance, Who, root, inst, Marks, marks_of, triplet_of, instance_of, is_own, is_off, applicable_of, names_of, defaults_of, first_features_of}
-use Rattle.vk_resolution.specs.Givens.{Pages, same_ask, ask_of, find_row, manifest_at, is_pinned, is_pinned_by}
+use Rattle.vk_resolution.specs.Givens.{Pages, manifest_at, is_pinned, is_pinned_by}
 use Rattle.vk_resolution.specs.Asking.{Fact, need, floor, visit, fact_key, floor_of, asked_of_other, asked_of_own, asked_by, asked_of, root_facts_of}
 use Rattle.vk_resolution.specs.Consequences.{Inputs, Step, given_step, asked_step, asked_in, asked_at, steps_from, visits_from, is_visited, is_visited_by, is_not_below, is_below, rules_of, by_one, by_minimum}
 use Rattle.vk_resolution.proofs.Members.{contains_single, contains_map}
@@ -289,9 +289,9 @@ module _ (inputs : Inputs) (pages : Pages) (facts : List Fact) (least : IsLeast 
   visited_by_same : (i : Instance) (f : List ℕ) (a : Ask) → Contains facts (need (inst i) f) → Contains facts (floor i.port a) → (given : Result Given Wrong) → (inputs.pages i.port).given ≡ given
       → is_visited_by (with_pages inputs pages) (pages i.port).rows a given ≡ is_visited_by inputs (inputs.pages i.port).rows a given
   visited_by_same i f a needed has (Ok (overlay v)) e = refl
-  visited_by_same i f a needed has (Ok (override b)) e = ap (λ k. same_ask a b && k) (same_some (find_row (inputs.pages i.port).rows a) (find_row (pages i.port).rows a) (agree.versions i.port a has))
+  visited_by_same i f a needed has (Ok (override b)) e = ap (λ k. same_ask a b && k) (same_some (row_in (inputs.pages i.port).rows a) (row_in (pages i.port).rows a) (agree.versions i.port a has))
   visited_by_same i f a needed has (Ok (baseline b)) e =
-      not_below_same inputs pages (find_row (inputs.pages i.port).rows b) (find_row (pages i.port).rows b) (find_row (inputs.pages i.port).rows a) (find_row (pages i.port).rows a)
+      not_below_same inputs pages (row_in (inputs.pages i.port).rows b) (row_in (pages i.port).rows b) (row_in (inputs.pages i.port).rows a) (row_in (pages i.port).rows a)
       (agree.versions i.port b (given_floor inputs facts least.closed i f needed (baseline b) e)) (agree.versions i.port a has)
   visited_by_same i f a needed has (Err wrong) e = refl
 

@@ -4,14 +4,15 @@ use Rattle.std.specs.Prelude.{Option, Some, None, option_map, option_and_then, o
 use Rattle.std.specs.List.{Contains, list_any, list_all}
 use Rattle.std.proofs.lemmas.Slice.Eq.{bytes_eq-Decides}
 use Rattle.std.proofs.lemmas.List.{append-nil}
-use Rattle.vk_spec.specs.Versions.{Class, dot, date, text, Version, Ask}
-use Rattle.vk_spec.specs.Pages.{Wrong, Given, overlay, override, baseline, Row}
+use Rattle.vk_spec.specs.Versions.{Class, dot, date, text, Version, Ask, same_ask, ask_of}
+use Rattle.vk_spec.specs.Pages.{Wrong, Given, overlay, override, baseline, Row, row_in, given_ask}
 use Rattle.vk_spec.proofs.ListLemmas.{contains_nothing, contains_first, contains_later, contains_cases, flat_map-contains}
+use Rattle.vk_spec.proofs.VersionLemmas.{asks_equal, ask_itself}
 use Rattle.std.specs.declared.cmp.Ordering.TheVariants.{Less}
 use Rattle.vk_resolution.specs.Keys.{IsKey, in_order, Ascends, key_cmp}
 use Rattle.vk_resolution.specs.Least.{from_one, IsClosed}
 use Rattle.vk_resolution.specs.Settings.{Condition, Instance, inst}
-use Rattle.vk_resolution.specs.Givens.{Pages, same_ask, same_class, same_version, ask_of, find_row, version_at, given_ask, is_pinned, is_pinned_by}
+use Rattle.vk_resolution.specs.Givens.{Pages, same_class, same_version, version_at, is_pinned, is_pinned_by}
 use Rattle.vk_resolution.specs.Asking.{Fact, need, floor, visit}
 use Rattle.vk_resolution.specs.Consequences.{Inputs, Step, given_step, steps_from, rules_of, is_below, by_overlay, by_override, by_baseline}
 use Rattle.vk_resolution.specs.Choices.{floor_in, floors_of, given_version_of, greatest_of, chosen_of, class_number, version_key, is_top, tops_of}
@@ -20,16 +21,16 @@ use Rattle.vk_resolution.specs.Faults.{Trouble, lacks_version, troubled, conflic
 use Rattle.vk_resolution.specs.Laws.{IsOrder, ChoiceIsLeast, ChoiceIsAboveFloors, TableHasFloors, HasConflictLine, ChoiceOrConflict}
 use Rattle.vk_resolution.proofs.Members.{true_or_false, both_true, and_true, not_true, not_false, no_is_false, true_false, any_contains, contains_any, all_contains, not_all, found_contains, nothing_found, contains-filter_map, filter_map-contains, contains_filter, filter_contains, contains_option, map_contains, contains_single}
 use Rattle.vk_resolution.proofs.Orders.{contains-in_order, in_order-contains, in_order-ascends, before_itself}
-use Rattle.vk_resolution.proofs.FactLemmas.{same_ask-is, same_ask-itself, trouble_key-IsKey, same_trouble-Decides}
+use Rattle.vk_resolution.proofs.FactLemmas.{trouble_key-IsKey, same_trouble-Decides}
 use Rattle.vk_resolution.proofs.Derivations.{line_found}
 use Rattle.vk_resolution.proofs.Soundness.{map_some}
 
 -- the version of an ask has the ask's text and port-version
 pub version_ask : (pages : Pages) (p : List ℕ) (a : Ask) (v : Version) → version_at pages p a ≡ Some v → ask_of v ≡ a
 version_ask pages p a v e =
-    let r = map_some (λ (r : Row Condition). r.version) (find_row (pages p).rows a) v e in
+    let r = map_some (λ (r : Row Condition). r.version) (row_in (pages p).rows a) v e in
     let f = found_contains (λ r. same_ask (ask_of r.version) a) (pages p).rows r.0 r.1 in
-    ap ask_of (sym r.2) ∙ same_ask-is (ask_of r.0.version) a f.1
+    ap ask_of (sym r.2) ∙ asks_equal (ask_of r.0.version) a f.1
 
 -- a floor of a port is a fact whose version the table has
 pub record IsFloorOf (inputs : Inputs) (facts : List Fact) (p : List ℕ) (v : Version) : Type 0 where
@@ -124,7 +125,7 @@ row_exists inputs p a (Err wrong) g None e other none = (cc)
 
 -- a floor of a port that has no overlay is in the table
 pub floor_in_table : (inputs : Inputs) (facts : List Fact) → first_faults_of inputs facts ≡ [] → (p : List ℕ) (a : Ask) (g : Given) → (inputs.pages p).given ≡ Ok g → ((v : Version) → g ≡ overlay v → ⊥) → Contains facts (floor p a) → (v : Version) × (version_at inputs.pages p a ≡ Some v)
-floor_in_table inputs facts none p a g found other h = row_exists inputs p a (inputs.pages p).given g (find_row (inputs.pages p).rows a) found other (λ t met. no_troubles inputs facts none (floor p a) h t met)
+floor_in_table inputs facts none p a g found other h = row_exists inputs p a (inputs.pages p).given g (row_in (inputs.pages p).rows a) found other (λ t met. no_troubles inputs facts none (floor p a) h t met)
 
 pub table_has_floors : TableHasFloors
 table_has_floors inputs facts least none i f h =
@@ -162,13 +163,13 @@ pub same_version-is : (v w : Version) → same_version v w ≡ true → v ≡ w
 same_version-is v w e =
     let parts = both_true (same_class v.class w.class) (same_ask (ask_of v) (ask_of w)) e in
     let a : v.class ≡ w.class = same_class-is v.class w.class parts.0 in
-    let b : ask_of v ≡ ask_of w = same_ask-is (ask_of v) (ask_of w) parts.1 in
+    let b : ask_of v ≡ ask_of w = asks_equal (ask_of v) (ask_of w) parts.1 in
     let c : v.text ≡ w.text = ap (λ (k : Ask). k.text) b in
     let d : v.port ≡ w.port = ap (λ (k : Ask). k.port) b in
     λ k. record { class = a k; text = c k; port = d k }
 
 pub same_version-itself : (v : Version) → same_version v v ≡ true
-same_version-itself v = and_true (same_class v.class v.class) (same_ask (ask_of v) (ask_of v)) (same_class-itself v.class) (same_ask-itself (ask_of v))
+same_version-itself v = and_true (same_class v.class v.class) (same_ask (ask_of v) (ask_of v)) (same_class-itself v.class) (ask_itself (ask_of v))
 
 class_number-is : (c d : Class) → class_number c ≡ class_number d → c ≡ d
 class_number-is dot dot e = refl

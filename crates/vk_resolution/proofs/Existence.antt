@@ -5,14 +5,14 @@ use Rattle.std.specs.List.{Contains, list_any, list_all}
 use Rattle.std.proofs.lemmas.List.{append-nil}
 use Rattle.std.proofs.lemmas.List.Elements.{Contains-append_left}
 use Rattle.vk_spec.specs.Lists.{IsWithin}
-use Rattle.vk_spec.specs.Versions.{Version, Ask}
-use Rattle.vk_spec.specs.Manifests.{Manifest, Dependency}
+use Rattle.vk_spec.specs.Versions.{Version, Ask, ask_of}
+use Rattle.vk_spec.specs.Manifests.{Manifest, Dependency, core, default}
 use Rattle.vk_spec.specs.Pages.{Wrong}
 use Rattle.vk_spec.proofs.ListLemmas.{contains_nothing, contains_first, contains_later, contains-flat_map, flat_map-contains}
-use Rattle.vk_resolution.specs.Keys.{core, default, in_order}
+use Rattle.vk_resolution.specs.Keys.{in_order}
 use Rattle.vk_resolution.specs.Least.{FollowsFrom, from_one, from_two, IsLeast, IsLeastInOrder}
 use Rattle.vk_resolution.specs.Settings.{Condition, Instance, root, inst, same_instance, marks_of, instance_of, is_off, applicable_of, names_of, defaults_of}
-use Rattle.vk_resolution.specs.Givens.{ask_of, manifest_at}
+use Rattle.vk_resolution.specs.Givens.{manifest_at}
 use Rattle.vk_resolution.specs.Asking.{Fact, need, floor, visit, fact_key, same_fact, floor_of, asked_of_own, asked_of_other, asked_by, asked_of, root_facts_of}
 use Rattle.vk_resolution.specs.Consequences.{Inputs, Step, Cause, by_root, by_two, asked_in, asked_at, steps_from, rules_of}
 use Rattle.vk_resolution.specs.Reasons.{Reason, facts_of, line_of, first_cause, citing, in_lines, cause_of, IsReasons}

@@ -1,12 +1,10 @@
 -- Facts, instances and troubles are known by their keys.
-use Rattle.std.proofs.Common.{◌≡◌, true, refl, ap, arith}
+use Rattle.std.proofs.Common.{◌≡◌, refl, ap}
 use Rattle.std.specs.Prelude.{Decides, bytes_eq}
 use Rattle.std.proofs.lemmas.Slice.Eq.{bytes_eq-Decides}
-use Rattle.vk_spec.specs.Versions.{Ask}
 use Rattle.vk_spec.specs.Pages.{Field, name, class, text, port}
 use Rattle.vk_resolution.specs.Keys.{IsKey}
 use Rattle.vk_resolution.specs.Settings.{Instance, root, inst, same_instance}
-use Rattle.vk_resolution.specs.Givens.{same_ask}
 use Rattle.vk_resolution.specs.Asking.{Fact, need, floor, visit, fact_key, same_fact}
 use Rattle.vk_resolution.specs.Planning.{instance_key, feature_key}
 use Rattle.vk_resolution.specs.Faults.{Trouble, lacks_registry, lacks_baseline, unreadable, lacks_version, differs, trouble_key, same_trouble, field_number}
@@ -68,16 +66,6 @@ same_instance-Decides i j = (
       )),
   (λ e. and_true (bytes_eq i.port j.port) (bytes_eq i.triplet j.triplet) ((bytes_eq-Decides i.port j.port).1 (ap (λ k. k.port) e)) ((bytes_eq-Decides i.triplet j.triplet).1 (ap (λ k. k.triplet) e))),
 )
-
-pub same_ask-is : (a b : Ask) → same_ask a b ≡ true → a ≡ b
-same_ask-is a b e =
-    let parts = both_true _ _ e in
-    let c : a.text ≡ b.text = (bytes_eq-Decides a.text b.text).0 parts.0 in
-    let d : a.port ≡ b.port = grind (arith, parts.1) in
-    λ k. record { text = c k; port = d k }
-
-pub same_ask-itself : (a : Ask) → same_ask a a ≡ true
-same_ask-itself a = and_true _ _ ((bytes_eq-Decides a.text a.text).1 refl) (grind arith)
 
 same_field : (f g : Field) → field_number f ≡ field_number g → f ≡ g
 same_field name name e = refl

@@ -3,13 +3,13 @@ use Rattle.std.proofs.Common.{◌≡◌, ◌≢◌, ◌≤◌, ◌<◌, ℕ, zer
 use Rattle.std.specs.Prelude.{Option, Some, None, option_map, option_and_then, option_to_list, flat_map, Result, Ok, Err, bytes_eq}
 use Rattle.std.specs.List.{Contains, list_any}
 use Rattle.std.proofs.lemmas.Slice.Eq.{bytes_eq-Decides}
-use Rattle.vk_spec.specs.Versions.{Version}
-use Rattle.vk_spec.specs.Manifests.{Manifest, Feature}
+use Rattle.vk_spec.specs.Versions.{Version, ask_of}
+use Rattle.vk_spec.specs.Manifests.{Manifest, Feature, core, default}
 use Rattle.vk_spec.specs.Pages.{Wrong}
 use Rattle.vk_spec.proofs.ListLemmas.{contains_nothing, contains_first, contains_later, contains-flat_map, flat_map-contains}
-use Rattle.vk_resolution.specs.Keys.{core, default, in_order}
+use Rattle.vk_resolution.specs.Keys.{in_order}
 use Rattle.vk_resolution.specs.Settings.{Condition, Instance, Who, root, inst, marks_of, triplet_of, feature_of}
-use Rattle.vk_resolution.specs.Givens.{ask_of, manifest_at, is_pinned}
+use Rattle.vk_resolution.specs.Givens.{manifest_at, is_pinned}
 use Rattle.vk_resolution.specs.Asking.{Fact, need, floor, visit}
 use Rattle.vk_resolution.specs.Consequences.{Inputs}
 use Rattle.vk_resolution.specs.Choices.{floors_of, chosen_of, version_key, is_top, tops_of}

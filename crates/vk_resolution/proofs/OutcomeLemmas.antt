@@ -5,13 +5,14 @@ use Rattle.std.specs.List.{Contains, list_any, find}
 use Rattle.std.specs.Option.{option_or}
 use Rattle.std.proofs.lemmas.Slice.Eq.{bytes_eq-Decides}
 use Rattle.vk_spec.specs.Lists.{IsWithin}
-use Rattle.vk_spec.specs.Versions.{Version, Ask}
-use Rattle.vk_spec.specs.Pages.{Wrong, Given, overlay, override, baseline, Row, Page}
+use Rattle.vk_spec.specs.Versions.{Version, Ask, same_ask, ask_of}
+use Rattle.vk_spec.specs.Pages.{Wrong, Given, overlay, override, baseline, Row, Page, row_in}
 use Rattle.vk_spec.proofs.ListLemmas.{contains_nothing, contains_first, contains_later, contains-flat_map}
+use Rattle.vk_spec.proofs.VersionLemmas.{asks_equal}
 use Rattle.vk_resolution.specs.Keys.{in_order}
 use Rattle.vk_resolution.specs.Least.{Rules, IsClosed, IsLeast, IsLeastInOrder}
 use Rattle.vk_resolution.specs.Settings.{Condition, Instance, root, inst, same_instance}
-use Rattle.vk_resolution.specs.Givens.{Pages, same_ask, ask_of, find_row, version_at, is_pinned}
+use Rattle.vk_resolution.specs.Givens.{Pages, version_at, is_pinned}
 use Rattle.vk_resolution.specs.Asking.{Fact, need, floor, visit, fact_key, root_facts_of, same_fact}
 use Rattle.vk_resolution.specs.Consequences.{Inputs, Step, by_root, steps_from, rules_of}
 use Rattle.vk_resolution.specs.Choices.{floor_in, floors_of, given_version_of, greatest_of, chosen_of, tops_of}
@@ -23,7 +24,7 @@ use Rattle.vk_resolution.specs.Laws.{IsOrder}
 use Rattle.vk_resolution.specs.Agreement.{with_pages, AgreesOn, reasons_in, SameOutcome, published, UnaskedChangesNothing}
 use Rattle.vk_resolution.proofs.Members.{no_is_false, contains_single, map_contains}
 use Rattle.vk_resolution.proofs.Orders.{contains-in_order}
-use Rattle.vk_resolution.proofs.FactLemmas.{fact_key-IsKey, instance_key-IsKey, same_ask-is}
+use Rattle.vk_resolution.proofs.FactLemmas.{fact_key-IsKey, instance_key-IsKey}
 use Rattle.vk_resolution.proofs.ChoiceLemmas.{given_floor}
 use Rattle.vk_resolution.proofs.PlanLemmas.{plan_stays_within}
 use Rattle.vk_resolution.proofs.AgreementLemmas.{flat_map_on, filter_map_on, agree_least, IsNeeded, visit_parts, floor_needed, same_some, given_same, pinned_same, asked_at_same, steps_same, same_least_list}
@@ -83,8 +84,8 @@ module _ (inputs : Inputs) (pages : Pages) (facts : List Fact) (least : IsLeast 
   troubles_same (need (root t) f) h = refl
   troubles_same (need (inst i) f) h = ap (given_troubles i.port) (agree.givens i f h)
   troubles_same (floor p a) h =
-      ap (floor_troubles p a (find_row (pages p).rows a)) (given_same inputs pages facts least agree p (floor_needed inputs facts least p a h))
-      ∙ floor_troubles_same p a (inputs.pages p).given (find_row (inputs.pages p).rows a) (find_row (pages p).rows a) (same_some (find_row (inputs.pages p).rows a) (find_row (pages p).rows a) (agree.versions p a h))
+      ap (floor_troubles p a (row_in (pages p).rows a)) (given_same inputs pages facts least agree p (floor_needed inputs facts least p a h))
+      ∙ floor_troubles_same p a (inputs.pages p).given (row_in (inputs.pages p).rows a) (row_in (pages p).rows a) (same_some (row_in (inputs.pages p).rows a) (row_in (pages p).rows a) (agree.versions p a h))
   troubles_same (visit i f a) h = ap (manifest_troubles i.port) (agree.manifests i f a h)
 
   told_same : (t : Trouble) → told_of (with_pages inputs pages) facts t ≡ told_of inputs facts t
@@ -235,7 +236,7 @@ pub same_outcome : SameOutcome
 same_outcome inputs order pages bytes o is agree = outcome_same inputs order pages bytes o is agree
 
 -- a row that isn't asked for is not found
-find_kept : (a : Ask) (row : Row Condition) (rows : List (Row Condition)) → same_ask (ask_of row.version) a ≡ false → find_row (rows ++ row ∷ []) a ≡ find_row rows a
+find_kept : (a : Ask) (row : Row Condition) (rows : List (Row Condition)) → same_ask (ask_of row.version) a ≡ false → row_in (rows ++ row ∷ []) a ≡ row_in rows a
 find_kept a row [] e = ap (λ b. cond b (Some row) None) e
 find_kept a row (r ∷ rows) e = ap (λ o. cond (same_ask (ask_of r.version) a) (Some r) o) (find_kept a row rows e)
 
@@ -247,10 +248,10 @@ module _ (inputs : Inputs) (p : List ℕ) (row : Row Condition) (facts : List Fa
   given_kept q true = refl
   given_kept q false = refl
 
-  row_kept : (q : List ℕ) (a : Ask) → Contains facts (floor q a) → (b : Bool) → bytes_eq q p ≡ b → find_row (cond b (record { given = (inputs.pages q).given; rows = (inputs.pages q).rows ++ row ∷ [] }) (inputs.pages q)).rows a ≡ find_row (inputs.pages q).rows a
+  row_kept : (q : List ℕ) (a : Ask) → Contains facts (floor q a) → (b : Bool) → bytes_eq q p ≡ b → row_in (cond b (record { given = (inputs.pages q).given; rows = (inputs.pages q).rows ++ row ∷ [] }) (inputs.pages q)).rows a ≡ row_in (inputs.pages q).rows a
   row_kept q a h true e = find_kept a row (inputs.pages q).rows (no_is_false (same_ask (ask_of row.version) a) (λ same. (
       let is_p : q ≡ p = (bytes_eq-Decides q p).0 e in
-      let is_a : ask_of row.version ≡ a = same_ask-is (ask_of row.version) a same in
+      let is_a : ask_of row.version ≡ a = asks_equal (ask_of row.version) a same in
       unasked (subst (λ b. Contains facts (floor p b)) (sym is_a) (subst (λ r. Contains facts (floor r a)) is_p h))
       )))
   row_kept q a h false e = refl

@@ -3,12 +3,13 @@ use Rattle.std.proofs.Common.{◌≡◌, ℕ, true, false, cond, ◌&&◌, not, 
 use Rattle.std.specs.Prelude.{Option, Some, None, option_map, flat_map, is_some, Result, Ok, bytes_eq}
 use Rattle.std.specs.List.{Contains}
 use Rattle.std.proofs.lemmas.Slice.Eq.{bytes_eq-Decides}
-use Rattle.vk_spec.specs.Versions.{Version, Ask}
-use Rattle.vk_spec.specs.Pages.{Wrong, Given, overlay, override, baseline, Row}
+use Rattle.vk_spec.specs.Versions.{Version, Ask, same_ask, ask_of}
+use Rattle.vk_spec.specs.Pages.{Wrong, Given, overlay, override, baseline, Row, row_in}
 use Rattle.vk_spec.proofs.ListLemmas.{contains_nothing, contains_first, flat_map-contains}
+use Rattle.vk_spec.proofs.VersionLemmas.{ask_itself}
 use Rattle.vk_resolution.specs.Least.{FollowsFrom, from_one, from_two, IsClosed}
 use Rattle.vk_resolution.specs.Settings.{Condition, Instance, root, inst}
-use Rattle.vk_resolution.specs.Givens.{same_ask, same_version, ask_of, find_row, version_at, is_pinned, is_pinned_by}
+use Rattle.vk_resolution.specs.Givens.{same_version, version_at, is_pinned, is_pinned_by}
 use Rattle.vk_resolution.specs.Asking.{Fact, need, floor, visit, fact_key, asked_of}
 use Rattle.vk_resolution.specs.Consequences.{Inputs, asked_step, asked_at, steps_from, is_visited, is_visited_by, is_not_below, rules_of, by_one}
 use Rattle.vk_resolution.specs.Choices.{floors_of, given_version_of, greatest_of, chosen_of}
@@ -16,7 +17,7 @@ use Rattle.vk_resolution.specs.Planning.{is_need, visit_of, planned_from, planne
 use Rattle.vk_resolution.specs.Faults.{first_faults_of}
 use Rattle.vk_resolution.specs.Laws.{IsOrder, PlanExists, PlanStaysWithin}
 use Rattle.vk_resolution.proofs.Members.{both_true, and_true, not_true, not_false, no_is_false, true_false, contains_filter, contains_single}
-use Rattle.vk_resolution.proofs.FactLemmas.{fact_key-IsKey, same_ask-itself}
+use Rattle.vk_resolution.proofs.FactLemmas.{fact_key-IsKey}
 use Rattle.vk_resolution.proofs.Rounds.{least_exists}
 use Rattle.vk_resolution.proofs.Soundness.{map_some}
 use Rattle.vk_resolution.proofs.ChoiceLemmas.{version_ask, floors_are, floor_is, free_choice, needed_given, step_in, given_floor, floor_in_table, same_version-itself}
@@ -65,15 +66,15 @@ module _ (inputs : Inputs) (order : IsOrder inputs.at_most) (facts : List Fact) 
       let same : w ≡ v = (cc) in
       record {
         has = subst (λ k. Contains facts (floor i.port (ask_of k))) same (given_floor inputs facts closed i f needed (overlay w) e);
-        visited = visited_as (Ok (overlay w)) (ask_of v) e (subst (λ k. same_ask (ask_of v) (ask_of k) ≡ true) (sym same) (same_ask-itself (ask_of v)));
+        visited = visited_as (Ok (overlay w)) (ask_of v) e (subst (λ k. same_ask (ask_of v) (ask_of k) ≡ true) (sym same) (ask_itself (ask_of v)));
       }
   choice_visited (override b) v e chosen =
       let given : version_at inputs.pages i.port b ≡ Some v = pinned_choice (Ok (override b)) v e refl chosen in
       let same : ask_of v ≡ b = version_ask inputs.pages i.port b v given in
-      let row = map_some (λ (r : Row Condition). r.version) (find_row (inputs.pages i.port).rows b) v given in
+      let row = map_some (λ (r : Row Condition). r.version) (row_in (inputs.pages i.port).rows b) v given in
       record {
         has = subst (λ k. Contains facts (floor i.port k)) (sym same) (given_floor inputs facts closed i f needed (override b) e);
-        visited = visited_as (Ok (override b)) (ask_of v) e (subst (λ k. (same_ask k b && is_some (find_row (inputs.pages i.port).rows k)) ≡ true) (sym same) (and_true (same_ask b b) (is_some (find_row (inputs.pages i.port).rows b)) (same_ask-itself b) (ap is_some row.1)));
+        visited = visited_as (Ok (override b)) (ask_of v) e (subst (λ k. (same_ask k b && is_some (row_in (inputs.pages i.port).rows k)) ≡ true) (sym same) (and_true (same_ask b b) (is_some (row_in (inputs.pages i.port).rows b)) (ask_itself b) (ap is_some row.1)));
       }
   choice_visited (baseline b) v e chosen =
       let free : is_pinned inputs.setting inputs.pages i.port ≡ false = ap (is_pinned_by inputs.setting i.port) e in
@@ -82,11 +83,11 @@ module _ (inputs : Inputs) (order : IsOrder inputs.at_most) (facts : List Fact) 
       let same : ask_of v ≡ is.ask = version_ask inputs.pages i.port is.ask v is.version in
       let given_has : Contains facts (floor i.port b) = given_floor inputs facts closed i f needed (baseline b) e in
       let given_row = floor_in_table inputs facts none i.port b (baseline b) e (λ w clash. (cc)) given_has in
-      let above : is_not_below inputs (find_row (inputs.pages i.port).rows b) (find_row (inputs.pages i.port).rows is.ask) ≡ true =
-      above_given b v (find_row (inputs.pages i.port).rows b) (find_row (inputs.pages i.port).rows is.ask) is.version (λ w h. choice.1 w (floor_is inputs facts i.port b w given_has h)) given_row in
+      let above : is_not_below inputs (row_in (inputs.pages i.port).rows b) (row_in (inputs.pages i.port).rows is.ask) ≡ true =
+      above_given b v (row_in (inputs.pages i.port).rows b) (row_in (inputs.pages i.port).rows is.ask) is.version (λ w h. choice.1 w (floor_is inputs facts i.port b w given_has h)) given_row in
       record {
         has = subst (λ k. Contains facts (floor i.port k)) (sym same) is.has;
-        visited = visited_as (Ok (baseline b)) (ask_of v) e (subst (λ k. is_not_below inputs (find_row (inputs.pages i.port).rows b) (find_row (inputs.pages i.port).rows k) ≡ true) (sym same) above);
+        visited = visited_as (Ok (baseline b)) (ask_of v) e (subst (λ k. is_not_below inputs (row_in (inputs.pages i.port).rows b) (row_in (inputs.pages i.port).rows k) ≡ true) (sym same) above);
       }
 
   pub visit_in : (v : Version) → chosen_of inputs facts i.port ≡ Some v → Contains facts (visit i f (ask_of v))

@@ -4,19 +4,19 @@ use Rattle.std.specs.Prelude.{Option, Some, None, flat_map, is_some, Result, Ok,
 use Rattle.std.specs.List.{Contains}
 use Rattle.std.proofs.lemmas.Slice.Eq.{bytes_eq-Decides}
 use Rattle.std.proofs.lemmas.List.Elements.{Contains-append_left, Contains-append_right, Contains-append_cases}
-use Rattle.vk_spec.specs.Versions.{Ask}
-use Rattle.vk_spec.specs.Manifests.{Manifest, Dependency, FeatureUse, Feature}
-use Rattle.vk_spec.specs.Pages.{Wrong, Given, overlay, override, baseline, Row}
+use Rattle.vk_spec.specs.Versions.{Ask, same_ask, ask_of}
+use Rattle.vk_spec.specs.Manifests.{Manifest, Dependency, FeatureUse, Feature, core, default}
+use Rattle.vk_spec.specs.Pages.{Wrong, Given, overlay, override, baseline, Row, row_in}
 use Rattle.vk_spec.proofs.ListLemmas.{contains_nothing, contains_first, contains_later, contains_cases, contains-flat_map, flat_map-contains}
-use Rattle.vk_resolution.specs.Keys.{core, default}
+use Rattle.vk_spec.proofs.VersionLemmas.{asks_equal, ask_itself}
 use Rattle.vk_resolution.specs.Least.{FollowsFrom, from_one, from_two}
 use Rattle.vk_resolution.specs.Settings.{Setting, Condition, Marks, Instance, Who, root, inst, marks_of, triplet_of, same_instance, instance_of, is_root, is_own, feature_of, dependencies_in, dependencies_of, applicable_of, names_of, defaults_of, is_off}
-use Rattle.vk_resolution.specs.Givens.{same_ask, same_version, ask_of, find_row, manifest_at, is_pinned}
+use Rattle.vk_resolution.specs.Givens.{same_version, manifest_at, is_pinned}
 use Rattle.vk_resolution.specs.Asking.{Fact, need, floor, visit, floor_of, asked_of_other, asked_of_own, asked_by, asked_of}
 use Rattle.vk_resolution.specs.Consequences.{Inputs, Step, given_step, asked_step, asked_in, steps_from, is_not_below, is_below, is_visited, is_visited_by, rules_of, by_overlay, by_override, by_baseline, by_one, by_minimum}
 use Rattle.vk_resolution.specs.Sentences.{IsTrueFor, Depends, by_core, by_feature, IsOnItself, is_instance, is_the_root, IsOnAnother, Asks, a_core, a_default, a_feature, a_minimum, own_feature, own_minimum, a_default_feature, MayVisit, of_overlay, of_override, of_baseline, IsKept, Requires, given_floor, a_visit, asked_by_visit, asked_by_root, AskedMeans, RulesMean}
 use Rattle.vk_resolution.proofs.Members.{true_or_false, both_true, and_true, not_true, not_false, no_is_false, true_false, any_contains, contains_any, contains_filter, filter_contains, contains_map, map_contains, contains_single}
-use Rattle.vk_resolution.proofs.FactLemmas.{same_instance-Decides, same_ask-is, same_ask-itself}
+use Rattle.vk_resolution.proofs.FactLemmas.{same_instance-Decides}
 use Rattle.vk_resolution.proofs.Derivations.{visits_are}
 use Rattle.vk_resolution.proofs.ChoiceLemmas.{given_fact, same_version-is, same_version-itself}
 
@@ -283,20 +283,20 @@ some_is None e = (cc)
 some_is (Some x) e = (x, refl)
 
 may_visit : (inputs : Inputs) (p : List ℕ) (a : Ask) (given : Result Given Wrong) → (inputs.pages p).given ≡ given → is_visited_by inputs (inputs.pages p).rows a given ≡ true → MayVisit inputs p a
-may_visit inputs p a (Ok (overlay v)) e h = of_overlay v e (same_ask-is a (ask_of v) h)
+may_visit inputs p a (Ok (overlay v)) e h = of_overlay v e (asks_equal a (ask_of v) h)
 may_visit inputs p a (Ok (override b)) e h =
-    let parts = both_true (same_ask a b) (is_some (find_row (inputs.pages p).rows a)) h in
-    let same : a ≡ b = same_ask-is a b parts.0 in
-    let r = some_is (find_row (inputs.pages p).rows a) parts.1 in
+    let parts = both_true (same_ask a b) (is_some (row_in (inputs.pages p).rows a)) h in
+    let same : a ≡ b = asks_equal a b parts.0 in
+    let r = some_is (row_in (inputs.pages p).rows a) parts.1 in
     of_override r.0 (e ∙ ap (λ k. Ok (override k)) (sym same)) r.1
-may_visit inputs p a (Ok (baseline b)) e h = let r = not_below_is inputs (find_row (inputs.pages p).rows b) (find_row (inputs.pages p).rows a) h in of_baseline b r.0 r.1 e r.2 r.3 r.4
+may_visit inputs p a (Ok (baseline b)) e h = let r = not_below_is inputs (row_in (inputs.pages p).rows b) (row_in (inputs.pages p).rows a) h in of_baseline b r.0 r.1 e r.2 r.3 r.4
 may_visit inputs p a (Err wrong) e h = (cc)
 
 visits_may : (inputs : Inputs) (p : List ℕ) (a : Ask) → MayVisit inputs p a → is_visited inputs p a ≡ true
-visits_may inputs p a (of_overlay v e same) = ap (is_visited_by inputs (inputs.pages p).rows a) e ∙ subst (λ k. same_ask a k ≡ true) same (same_ask-itself a)
-visits_may inputs p a (of_override r e found) = ap (is_visited_by inputs (inputs.pages p).rows a) e ∙ and_true (same_ask a a) (is_some (find_row (inputs.pages p).rows a)) (same_ask-itself a) (ap is_some found)
+visits_may inputs p a (of_overlay v e same) = ap (is_visited_by inputs (inputs.pages p).rows a) e ∙ subst (λ k. same_ask a k ≡ true) same (ask_itself a)
+visits_may inputs p a (of_override r e found) = ap (is_visited_by inputs (inputs.pages p).rows a) e ∙ and_true (same_ask a a) (is_some (row_in (inputs.pages p).rows a)) (ask_itself a) (ap is_some found)
 visits_may inputs p a (of_baseline b g r e given found same) =
-    ap (is_visited_by inputs (inputs.pages p).rows a) e ∙ ap (λ o. is_not_below inputs o (find_row (inputs.pages p).rows a)) given ∙ ap (is_not_below inputs (Some g)) found ∙ is_not_below_is inputs g r same
+    ap (is_visited_by inputs (inputs.pages p).rows a) e ∙ ap (λ o. is_not_below inputs o (row_in (inputs.pages p).rows a)) given ∙ ap (is_not_below inputs (Some g)) found ∙ is_not_below_is inputs g r same
 
 module _ (inputs : Inputs) (facts : List Fact) where
   given_requires : (i : Instance) (f : List ℕ) → Contains facts (need (inst i) f) → (given : Result Given Wrong) → (inputs.pages i.port).given ≡ given → (step : Step) → Contains (given_step (need (inst i) f) i.port given) step → Requires inputs facts step.fact

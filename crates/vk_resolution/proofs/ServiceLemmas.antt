@@ -4,14 +4,13 @@ use Rattle.std.specs.Prelude.{Option, Some, None, option_map, flat_map, Result, 
 use Rattle.std.specs.List.{Contains}
 use Rattle.std.proofs.lemmas.List.Elements.{Contains-append_left, Contains-append_right}
 use Rattle.vk_spec.specs.Lists.{IsWithin}
-use Rattle.vk_spec.specs.Versions.{Version, Ask}
-use Rattle.vk_spec.specs.Manifests.{Manifest, Dependency}
-use Rattle.vk_spec.specs.Pages.{Wrong, Given, overlay, override, baseline, Row}
+use Rattle.vk_spec.specs.Versions.{Version, Ask, ask_of}
+use Rattle.vk_spec.specs.Manifests.{Manifest, Dependency, core, default}
+use Rattle.vk_spec.specs.Pages.{Wrong, Given, overlay, override, baseline, Row, row_in}
 use Rattle.vk_spec.proofs.ListLemmas.{contains_nothing, contains_first, contains_later, flat_map-contains}
-use Rattle.vk_resolution.specs.Keys.{core, default}
 use Rattle.vk_resolution.specs.Least.{from_one, IsLeast}
 use Rattle.vk_resolution.specs.Settings.{Condition, Instance, Who, root, inst, marks_of, triplet_of, instance_of, is_own, is_off, applicable_of, names_of, defaults_of}
-use Rattle.vk_resolution.specs.Givens.{ask_of, find_row, version_at, manifest_at, is_pinned, is_pinned_by}
+use Rattle.vk_resolution.specs.Givens.{version_at, manifest_at, is_pinned, is_pinned_by}
 use Rattle.vk_resolution.specs.Asking.{Fact, need, floor, visit, floor_of, asked_of_other, asked_of_own, asked_by, asked_of}
 use Rattle.vk_resolution.specs.Consequences.{Inputs, Step, asked_step, asked_in, asked_at, steps_from, rules_of, by_minimum}
 use Rattle.vk_resolution.specs.Choices.{floors_of, given_version_of, greatest_of, chosen_of}
@@ -154,7 +153,7 @@ module _ (inputs : Inputs) (order : IsOrder inputs.at_most) (rows : OverlaysHave
       let is = floors_are inputs facts i.port c choice.0 in
       subst (λ k. version_at inputs.pages i.port k ≡ Some c) (sym (version_ask inputs.pages i.port is.ask c is.version)) is.version
 
-  manifest_there : (i : Instance) (f : List ℕ) (c : Version) → Contains facts (visit i f (ask_of c)) → (row : Option (Row Condition)) → find_row (inputs.pages i.port).rows (ask_of c) ≡ row → option_map (λ r. r.version) row ≡ Some c
+  manifest_there : (i : Instance) (f : List ℕ) (c : Version) → Contains facts (visit i f (ask_of c)) → (row : Option (Row Condition)) → row_in (inputs.pages i.port).rows (ask_of c) ≡ row → option_map (λ r. r.version) row ≡ Some c
       → (m : Manifest Condition) × (manifest_at inputs.pages i.port (ask_of c) ≡ Some (Ok m))
   manifest_there i f c visited None e is = (cc)
   manifest_there i f c visited (Some row) e is = readable row.manifest (ap (option_map (λ (r : Row Condition). r.manifest)) e)
@@ -169,7 +168,7 @@ module _ (inputs : Inputs) (order : IsOrder inputs.at_most) (rows : OverlaysHave
       let g = needed_given inputs facts first i f needed in
       let c = has_choice i f needed g.0 g.1 in
       let visited : Contains planned (visit i f (ask_of c.0)) = (plan_stays_within inputs order facts planned least first is_planned).visits i f c.0 h c.1 in
-      let m = manifest_there i f c.0 (within (visit i f (ask_of c.0)) visited) (find_row (inputs.pages i.port).rows (ask_of c.0)) refl (chosen_row i f needed g.0 c.0 g.1 c.1) in
+      let m = manifest_there i f c.0 (within (visit i f (ask_of c.0)) visited) (row_in (inputs.pages i.port).rows (ask_of c.0)) refl (chosen_row i f needed g.0 c.0 g.1 c.1) in
       record { choice = c.0; chosen = c.1; manifest = m.0; has_manifest = m.1; serves = serves (inst i) f m.0 h (asks_at i f c.0 m.0 visited m.1) }
 
 pub plan_serves : PlanServes

@@ -2,8 +2,8 @@
 use Rattle.std.proofs.Common.{◌≡◌, Bool, true, ◌||◌, not, List, inl, inr, refl, sym, subst}
 use Rattle.std.specs.Prelude.{flat_map}
 use Rattle.std.specs.List.{Contains, list_all, list_any}
+use Rattle.vk_spec.specs.Manifests.{core}
 use Rattle.vk_spec.proofs.ListLemmas.{contains-flat_map}
-use Rattle.vk_resolution.specs.Keys.{core}
 use Rattle.vk_resolution.specs.Settings.{inst, same_instance}
 use Rattle.vk_resolution.specs.Asking.{Fact, need, floor, visit, fact_key, same_fact}
 use Rattle.vk_resolution.specs.Consequences.{rules_of}

@@ -5,12 +5,12 @@ use Rattle.std.proofs.lemmas.List.Elements.{Contains-append_right}
 use Rattle.std.specs.Cmp.{both_ways}
 use Rattle.std.specs.List.{Contains, list_any, list_all}
 use Rattle.vk_spec.specs.Lists.{NoRepeats, IsWithin}
+use Rattle.vk_spec.specs.Versions.{ask_of}
 use Rattle.vk_spec.proofs.ListLemmas.{contains_nothing, contains_first, contains_later, contains_cases, contains-flat_map, flat_map-contains}
 use Rattle.vk_spec.proofs.FileLemmas.{path_total, path_same}
 use Rattle.vk_resolution.specs.Keys.{Key, IsKey, in_order}
 use Rattle.vk_resolution.specs.Settings.{Instance, same_instance}
 use Rattle.vk_resolution.specs.Asking.{Fact, floor, fact_key}
-use Rattle.vk_resolution.specs.Givens.{ask_of}
 use Rattle.vk_resolution.specs.Consequences.{Inputs, rules_of}
 use Rattle.vk_resolution.specs.Choices.{chosen_of}
 use Rattle.vk_resolution.specs.Reasons.{Reason, facts_of, cause_of, line_of, IsReasons}

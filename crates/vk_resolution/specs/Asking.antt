@@ -1,8 +1,8 @@
 -- Facts, and what one manifest asks for.
 use Rattle.std.specs.Prelude.{ℕ, Bool, List, [], ◌∷◌, ◌++◌, map, flat_map, Option, Some, None, if◌then◌else◌}
 use Rattle.vk_spec.specs.Versions.{Ask}
-use Rattle.vk_spec.specs.Manifests.{Manifest, Dependency}
-use Rattle.vk_resolution.specs.Keys.{Key, core, default, same_key}
+use Rattle.vk_spec.specs.Manifests.{Manifest, Dependency, core, default}
+use Rattle.vk_resolution.specs.Keys.{Key, same_key}
 use Rattle.vk_resolution.specs.Settings.{Setting, Condition, Marks, Instance, Who, root, inst, marks_of, triplet_of, instance_of, is_own, is_off, applicable_of, names_of, defaults_of, first_features_of}
 
 -- what a plan may require: a feature of the root or of an instance, at least a version of a port, or that the manifest of a version is looked at for a feature

@@ -1,12 +1,12 @@
 -- The definitions computed: rounds that end in the least list, and from it the outcome.
 use Rattle.std.specs.Prelude.{ℕ, zero, suc, Bool, true, false, not, ◌&&◌, List, [], ◌∷◌, ◌++◌, map, filter, flat_map, filter_map, Option, Some, None, option_map, option_and_then, if◌then◌else◌}
 use Rattle.std.specs.List.{list_any, list_all}
+use Rattle.vk_spec.specs.Versions.{ask_of}
 use Rattle.vk_resolution.specs.Keys.{Key, same_key, in_order}
 use Rattle.vk_resolution.specs.Least.{Rules}
 use Rattle.vk_spec.specs.Manifests.{Dependency}
 use Rattle.vk_resolution.specs.Settings.{Condition, Setting, Instance, root, same_instance, root_rules_of, applicable_of, instance_of, is_own}
 use Rattle.vk_resolution.specs.Asking.{Fact, floor, fact_key}
-use Rattle.vk_resolution.specs.Givens.{ask_of}
 use Rattle.vk_resolution.specs.Consequences.{Inputs, rules_of}
 use Rattle.vk_resolution.specs.Choices.{chosen_of}
 use Rattle.vk_resolution.specs.Reasons.{Reason, cause_of, line_of}

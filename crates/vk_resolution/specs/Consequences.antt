@@ -1,12 +1,12 @@
 -- One step: what follows from one fact or from two, each with its cause.
 use Rattle.std.specs.Prelude.{ℕ, Bool, false, not, ◌&&◌, List, [], ◌∷◌, map, flat_map, Option, Some, None, is_some, Result, Ok, Err, bytes_eq, if◌then◌else◌}
 use Rattle.std.specs.List.{Contains}
-use Rattle.vk_spec.specs.Versions.{Version, Ask}
+use Rattle.vk_spec.specs.Versions.{Version, Ask, same_ask, ask_of}
 use Rattle.vk_spec.specs.Manifests.{Manifest}
-use Rattle.vk_spec.specs.Pages.{Wrong, Given, overlay, override, baseline, Row}
+use Rattle.vk_spec.specs.Pages.{Wrong, Given, overlay, override, baseline, Row, row_in}
 use Rattle.vk_resolution.specs.Least.{Rules}
 use Rattle.vk_resolution.specs.Settings.{Setting, Condition, Instance, root, inst}
-use Rattle.vk_resolution.specs.Givens.{Pages, same_ask, same_version, ask_of, find_row, manifest_at, is_pinned}
+use Rattle.vk_resolution.specs.Givens.{Pages, same_version, manifest_at, is_pinned}
 use Rattle.vk_resolution.specs.Asking.{Fact, need, floor, visit, asked_of, root_facts_of}
 
 -- what a plan is made from: the setting, the pages, and the order on versions (whether one is at most the other)
@@ -73,8 +73,8 @@ is_not_below inputs (Some given) (Some row) = not (is_below inputs row.version g
 -- whether the version of a floor is looked at: of an overlay its own alone, of an override its own if the table has it, else each that isn't below the given one
 abbrev pub is_visited_by : Inputs → List (Row Condition) → Ask → Result Given Wrong → Bool
 is_visited_by inputs rows a (Ok (overlay v)) = same_ask a (ask_of v)
-is_visited_by inputs rows a (Ok (override b)) = same_ask a b && is_some (find_row rows a)
-is_visited_by inputs rows a (Ok (baseline b)) = is_not_below inputs (find_row rows b) (find_row rows a)
+is_visited_by inputs rows a (Ok (override b)) = same_ask a b && is_some (row_in rows a)
+is_visited_by inputs rows a (Ok (baseline b)) = is_not_below inputs (row_in rows b) (row_in rows a)
 is_visited_by inputs rows a (Err wrong) = false
 
 -- whether the version of a floor of a port is looked at

@@ -1,11 +1,10 @@
 -- What the fault lines of the phases mean.
 use Rattle.std.specs.Prelude.{◌≡◌, ◌≢◌, ◌≤◌, ℕ, true, false, List, Option, Some, None, Ok}
 use Rattle.std.specs.List.{Contains}
-use Rattle.vk_spec.specs.Versions.{Version}
-use Rattle.vk_spec.specs.Manifests.{Manifest, Feature}
-use Rattle.vk_resolution.specs.Keys.{core, default}
+use Rattle.vk_spec.specs.Versions.{Version, ask_of}
+use Rattle.vk_spec.specs.Manifests.{Manifest, Feature, core, default}
 use Rattle.vk_resolution.specs.Settings.{Condition, Instance, Who, root, inst, marks_of, triplet_of, feature_of}
-use Rattle.vk_resolution.specs.Givens.{ask_of, manifest_at}
+use Rattle.vk_resolution.specs.Givens.{manifest_at}
 use Rattle.vk_resolution.specs.Asking.{Fact, need, floor}
 use Rattle.vk_resolution.specs.Consequences.{Inputs}
 use Rattle.vk_resolution.specs.Choices.{floors_of, chosen_of, is_top, IsInConflict}

@@ -2,12 +2,12 @@
 use Rattle.std.specs.Prelude.{ℕ, Bool, List, [], ◌∷◌, map, flat_map, Option, Some, None, option_map, option_and_then, option_to_list, Result, Ok, Err, bytes_eq, if◌then◌else◌}
 use Rattle.std.specs.List.{list_any}
 use Rattle.vk_spec.specs.Paths.{Path}
-use Rattle.vk_spec.specs.Versions.{Version, Ask}
-use Rattle.vk_spec.specs.Manifests.{Manifest, Feature}
-use Rattle.vk_spec.specs.Pages.{Field, name, class, text, port, Wrong, no_registry, no_baseline, bad_file, disagrees, Given, overlay, override, baseline, Row}
-use Rattle.vk_resolution.specs.Keys.{Key, core, default, same_key, in_order}
+use Rattle.vk_spec.specs.Versions.{Version, Ask, ask_of}
+use Rattle.vk_spec.specs.Manifests.{Manifest, Feature, core, default}
+use Rattle.vk_spec.specs.Pages.{Field, name, class, text, port, Wrong, no_registry, no_baseline, bad_file, disagrees, Given, overlay, override, baseline, Row, row_in}
+use Rattle.vk_resolution.specs.Keys.{Key, same_key, in_order}
 use Rattle.vk_resolution.specs.Settings.{Setting, Condition, Marks, Instance, Who, root, inst, marks_of, triplet_of, feature_of}
-use Rattle.vk_resolution.specs.Givens.{ask_of, find_row, manifest_at, is_pinned}
+use Rattle.vk_resolution.specs.Givens.{manifest_at, is_pinned}
 use Rattle.vk_resolution.specs.Asking.{Fact, need, floor, visit}
 use Rattle.vk_resolution.specs.Consequences.{Inputs}
 use Rattle.vk_resolution.specs.Choices.{floors_of, chosen_of, tops_of}
@@ -78,7 +78,7 @@ floor_troubles p a None (Err wrong) = []
 abbrev pub troubles_of : Inputs → Fact → List Trouble
 troubles_of inputs (need (root triplet) f) = []
 troubles_of inputs (need (inst i) f) = given_troubles i.port (inputs.pages i.port).given
-troubles_of inputs (floor p a) = floor_troubles p a (find_row (inputs.pages p).rows a) (inputs.pages p).given
+troubles_of inputs (floor p a) = floor_troubles p a (row_in (inputs.pages p).rows a) (inputs.pages p).given
 troubles_of inputs (visit i f a) = manifest_troubles i.port (manifest_at inputs.pages i.port a)
 
 -- a trouble is told once, with the first line that meets it

@@ -1,20 +1,17 @@
 -- What the pages say of a port: its given version, its rows, its manifests, and whether it is pinned.
-use Rattle.std.specs.Prelude.{◌≡◌, ℕ, Bool, true, false, ◌&&◌, ◌||◌, ◌==◌, List, [], ◌∷◌, Option, option_map, Result, Ok, Err, bytes_eq, codes, length, drop, ◌-◌}
-use Rattle.std.specs.List.{list_any, find, Contains}
+use Rattle.std.specs.Prelude.{◌≡◌, ℕ, Bool, true, false, ◌&&◌, ◌||◌, List, [], ◌∷◌, Option, Result, Ok, Err, bytes_eq, codes, length, drop, ◌-◌}
+use Rattle.std.specs.List.{list_any, Contains}
 use Rattle.vk_spec.specs.Paths.{Path}
-use Rattle.vk_spec.specs.Versions.{Class, dot, date, text, Version, Ask}
+use Rattle.vk_spec.specs.Versions.{Class, dot, date, text, Version, Ask, ask_of, same_ask}
 use Rattle.vk_spec.specs.Manifests.{Manifest}
-use Rattle.vk_spec.specs.Pages.{Wrong, no_registry, no_baseline, bad_file, disagrees, Given, overlay, override, baseline, Row, Page}
+use Rattle.vk_spec.specs.Pages.{Wrong, no_registry, no_baseline, bad_file, disagrees, Given, overlay, override, baseline, Row, row_in, version_in, manifest_in}
+use Rattle.vk_spec.specs.Catalogues as the
 use Rattle.vk_resolution.specs.Keys.{same_key}
 use Rattle.vk_resolution.specs.Settings.{Condition, Setting}
 
 -- the page of each port
 abbrev pub Pages : Type 0
-Pages = List ℕ → Page Condition
-
--- asks are the same where text and port-version are
-abbrev pub same_ask : Ask → Ask → Bool
-same_ask a b = bytes_eq a.text b.text && (a.port == b.port)
+Pages = the.Pages Condition
 
 -- whether two classes are one
 abbrev pub same_class : Class → Class → Bool
@@ -28,35 +25,21 @@ same_class text dot = false
 same_class text date = false
 same_class text text = true
 
--- the ask that means a version
-abbrev pub ask_of : Version → Ask
-ask_of v = record { text = v.text; port = v.port }
-
 -- versions are the same where class, text and port-version are
 abbrev pub same_version : Version → Version → Bool
 same_version v w = same_class v.class w.class && same_ask (ask_of v) (ask_of w)
 
--- the row that an ask means: the one with its text and port-version
-abbrev pub find_row : List (Row Condition) → Ask → Option (Row Condition)
-find_row rows a = find (λ r. same_ask (ask_of r.version) a) rows
-
 -- the row of a port for an ask
 abbrev pub row_at : Pages → List ℕ → Ask → Option (Row Condition)
-row_at pages p a = find_row (pages p).rows a
+row_at pages p a = row_in (pages p).rows a
 
 -- the version that a port has for an ask, if any
 abbrev pub version_at : Pages → List ℕ → Ask → Option Version
-version_at pages p a = option_map (λ r. r.version) (row_at pages p a)
+version_at pages p a = version_in (pages p) a
 
 -- the manifest there, or what is wrong with it, if there is a row
 abbrev pub manifest_at : Pages → List ℕ → Ask → Option (Result (Manifest Condition) Wrong)
-manifest_at pages p a = option_map (λ r. r.manifest) (row_at pages p a)
-
--- what a given version asks for
-abbrev pub given_ask : Given → Ask
-given_ask (overlay v) = ask_of v
-given_ask (override a) = a
-given_ask (baseline a) = a
+manifest_at pages p a = manifest_in (pages p) a
 
 -- the root has an override for the port
 abbrev pub has_override : Setting → List ℕ → Bool

@@ -1,18 +1,10 @@
 -- Texts and keys: when two are the same, and which comes first.
-use Rattle.std.specs.Prelude.{◌≡◌, ◌↔◌, Bool, ℕ, List, [], ◌∷◌, bytes_eq, codes}
+use Rattle.std.specs.Prelude.{◌≡◌, ◌↔◌, Bool, ℕ, List, [], ◌∷◌, bytes_eq}
 use Rattle.std.specs.declared.cmp.Ordering.{Ordering}
 use Rattle.std.specs.declared.cmp.Ordering.TheVariants.{Less, Equal, Greater}
 use Rattle.std.specs.List.{Contains}
 use Rattle.std.specs.Cmp.Lexicographic.{pointwise}
 use Rattle.vk_spec.specs.Paths.{path_cmp}
-
--- the feature that every port has
-abbrev pub core : List ℕ
-core = codes "core"
-
--- and the one that asks for its default features
-abbrev pub default : List ℕ
-default = codes "default"
 
 -- what a thing is known and ordered by: parts, each a text or one number
 abbrev pub Key : Type 0

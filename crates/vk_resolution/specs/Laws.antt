@@ -2,11 +2,11 @@
 use Rattle.std.specs.Prelude.{◌≡◌, ◌≢◌, ◌<◌, ◌≤◌, ℕ, Bool, true, false, List, [], length, Some, Ok}
 use Rattle.std.specs.List.{Contains}
 use Rattle.vk_spec.specs.Lists.{IsWithin}
-use Rattle.vk_spec.specs.Versions.{Version, Ask}
-use Rattle.vk_spec.specs.Pages.{Given}
+use Rattle.vk_spec.specs.Versions.{Version, Ask, ask_of}
+use Rattle.vk_spec.specs.Pages.{Given, given_ask}
 use Rattle.vk_resolution.specs.Least.{IsClosed, IsLeast}
 use Rattle.vk_resolution.specs.Settings.{Instance, inst}
-use Rattle.vk_resolution.specs.Givens.{ask_of, version_at, given_ask, is_pinned}
+use Rattle.vk_resolution.specs.Givens.{version_at, is_pinned}
 use Rattle.vk_resolution.specs.Asking.{Fact, need, floor, visit}
 use Rattle.vk_resolution.specs.Consequences.{Inputs, rules_of}
 use Rattle.vk_resolution.specs.Choices.{floors_of, chosen_of, is_top, IsInConflict}

@@ -2,9 +2,8 @@
 use Rattle.std.specs.Prelude.{ℕ, Bool, true, false, List, [], ◌∷◌, Some, None, Ok, Err, codes, not, ◌&&◌}
 use Rattle.vk_spec.specs.Paths.{Path}
 use Rattle.vk_spec.specs.Versions.{Version, date, text}
-use Rattle.vk_spec.specs.Manifests.{Manifest, Dependency, Feature, Override}
+use Rattle.vk_spec.specs.Manifests.{Manifest, Dependency, Feature, Override, core}
 use Rattle.vk_spec.specs.Pages.{name as field_name, text as field_text, Wrong, no_registry, no_baseline, bad_file, disagrees, overlay, override, Row, Page}
-use Rattle.vk_resolution.specs.Keys.{core}
 use Rattle.vk_resolution.specs.Settings.{Condition, root, inst}
 use Rattle.vk_resolution.specs.Asking.{need, floor, visit}
 use Rattle.vk_resolution.specs.Consequences.{Inputs, by_root, by_baseline, by_minimum, by_one, by_two}

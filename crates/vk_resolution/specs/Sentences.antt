@@ -1,13 +1,12 @@
 -- The rules once more, a sentence each: what a manifest asks, what may be visited, what follows from a list.
 use Rattle.std.specs.Prelude.{◌≡◌, ◌≢◌, ℕ, true, false, List, Some, Ok}
 use Rattle.std.specs.List.{Contains}
-use Rattle.vk_spec.specs.Versions.{Ask}
-use Rattle.vk_spec.specs.Manifests.{Manifest, Dependency, FeatureUse, Feature}
-use Rattle.vk_spec.specs.Pages.{Given, overlay, override, baseline, Row}
-use Rattle.vk_resolution.specs.Keys.{core, default}
+use Rattle.vk_spec.specs.Versions.{Ask, ask_of}
+use Rattle.vk_spec.specs.Manifests.{Manifest, Dependency, FeatureUse, Feature, core, default}
+use Rattle.vk_spec.specs.Pages.{Given, overlay, override, baseline, Row, given_ask}
 use Rattle.vk_resolution.specs.Least.{FollowsFrom}
 use Rattle.vk_resolution.specs.Settings.{Setting, Condition, Instance, Who, root, inst, marks_of, triplet_of, instance_of, feature_of}
-use Rattle.vk_resolution.specs.Givens.{ask_of, row_at, manifest_at, given_ask, is_pinned}
+use Rattle.vk_resolution.specs.Givens.{row_at, manifest_at, is_pinned}
 use Rattle.vk_resolution.specs.Asking.{Fact, need, floor, visit, asked_of}
 use Rattle.vk_resolution.specs.Consequences.{Inputs, rules_of}
 

@@ -1,13 +1,12 @@
 -- What a plan owes its manifests, in a manifest's own words.
 use Rattle.std.specs.Prelude.{◌≡◌, ℕ, true, false, List, [], Option, Some, None, Ok}
 use Rattle.std.specs.List.{Contains}
-use Rattle.vk_spec.specs.Versions.{Version, Ask}
-use Rattle.vk_spec.specs.Manifests.{Manifest, Dependency}
+use Rattle.vk_spec.specs.Versions.{Version, Ask, ask_of}
+use Rattle.vk_spec.specs.Manifests.{Manifest, Dependency, core, default}
 use Rattle.vk_spec.specs.Pages.{overlay}
-use Rattle.vk_resolution.specs.Keys.{core, default}
 use Rattle.vk_resolution.specs.Least.{IsLeast}
 use Rattle.vk_resolution.specs.Settings.{Condition, Instance, Who, root, inst, marks_of, triplet_of, instance_of, is_own, is_off, applicable_of, names_of, defaults_of}
-use Rattle.vk_resolution.specs.Givens.{Pages, ask_of, version_at, manifest_at, is_pinned}
+use Rattle.vk_resolution.specs.Givens.{Pages, version_at, manifest_at, is_pinned}
 use Rattle.vk_resolution.specs.Asking.{Fact, need}
 use Rattle.vk_resolution.specs.Consequences.{Inputs, rules_of}
 use Rattle.vk_resolution.specs.Choices.{chosen_of}

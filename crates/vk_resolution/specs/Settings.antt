@@ -1,8 +1,7 @@
 -- The setting of a plan: the root manifest, the two triplets, what the root is asked for, and what is off.
 use Rattle.std.specs.Prelude.{◌≡◌, ℕ, Bool, true, false, ◌&&◌, List, [], ◌∷◌, ◌++◌, map, filter, flat_map, Option, Some, None, bytes_eq, if◌then◌else◌}
 use Rattle.std.specs.List.{Contains, list_any, find}
-use Rattle.vk_spec.specs.Manifests.{Manifest, Dependency, FeatureUse, Feature}
-use Rattle.vk_resolution.specs.Keys.{core, default}
+use Rattle.vk_spec.specs.Manifests.{Manifest, Dependency, FeatureUse, Feature, core, default}
 use Rattle.vk_resolution.specs.Least.{Rules, IsReached}
 
 -- the marks that hold for an instance

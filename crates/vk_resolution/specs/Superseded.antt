@@ -1,7 +1,7 @@
 -- Superseded versions count, and don't stay: what the two worked projects show.
 use Rattle.std.specs.Prelude.{◌≡◌, List, Some}
 use Rattle.std.specs.List.{Contains}
-use Rattle.vk_resolution.specs.Keys.{core}
+use Rattle.vk_spec.specs.Manifests.{core}
 use Rattle.vk_resolution.specs.Least.{IsLeastInOrder}
 use Rattle.vk_resolution.specs.Settings.{inst}
 use Rattle.vk_resolution.specs.Asking.{Fact, need, floor, visit, fact_key}

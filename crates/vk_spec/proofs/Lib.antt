@@ -7,3 +7,6 @@ pub mod RoomLemmas
 pub mod StateLemmas
 pub mod SinkLemmas
 pub mod ReadingLemmas
+pub mod VersionLemmas
+pub mod AskLemmas
+pub mod FrontLemmas

@@ -3,7 +3,7 @@ use Rattle.std.proofs.Common.{◌≡◌, ◌+◌, ◌<◌, ◌≤◌, ℕ, List,
 use Rattle.std.specs.Prelude.{Option, Some, None, Result, Ok, Err}
 use Rattle.std.proofs.lemmas.List.{append-nil, drop_more, get_or-map, length-map, map-append}
 use Rattle.std.proofs.Math.ListN.{drop_of_length-le}
-use Rattle.vk_spec.specs.Reading.{◌>>=◌, read_each, read_after, Fails}
+use Rattle.vk_spec.specs.Reading.{◌>>=◌, read_each, read_after, Gives, Fails}
 
 -- what was read before, and what is still read
 abbrev pub with_front : {A F : Type 0} → List A → Result (List A) F → Result (List A) F
@@ -120,3 +120,14 @@ module _ {V X R A F : Type 0} (view : V → X) (out : R → A) (f : List A → �
       let past_all : length (map view vs) ≤ i = rw (length-map vs view) past in
       let one : read_after f (map out front) i (drop i (map view vs)) ≡ Ok (map out front) = rw (drop_of_length-le (map view vs) past_all) refl in
       sym so_far ∙ one
+
+-- ---- one reading, and then the next
+
+-- what failed fails on
+pub fails_on : {A B F : Type 0} (told : Option F) (read : Result A F) (next : A → Result B F) → Fails told read → Fails told (read >>= next)
+fails_on None read next fails = tt
+fails_on (Some fault) read next fails = ap (λ r. r >>= next) fails
+
+-- what the next step answers is what both give
+pub gives_then : {X Y Z W E F : Type 0} (view : X → Y) (fault_of : E → Option F) (next_view : Z → W) (x : X) (answer : Result Z E) (read : Result Y F) (next : Y → Result W F) → read ≡ Ok (view x) → Gives next_view fault_of answer (next (view x)) → Gives next_view fault_of answer (read >>= next)
+gives_then view fault_of next_view x answer read next is gives = rw is gives

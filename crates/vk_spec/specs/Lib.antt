@@ -5,7 +5,10 @@ pub mod Files
 pub mod States
 pub mod Calls
 pub mod Sinks
+pub mod Fronts
 pub mod Reading
 pub mod Versions
 pub mod Manifests
 pub mod Pages
+pub mod Earlies
+pub mod Catalogues

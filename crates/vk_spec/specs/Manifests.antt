@@ -1,6 +1,14 @@
 -- A manifest as plain data, over any kind of condition.
-use Rattle.std.specs.Prelude.{ℕ, Bool, List, Option}
+use Rattle.std.specs.Prelude.{ℕ, Bool, List, Option, codes}
 use Rattle.vk_spec.specs.Versions.{Version, Ask}
+
+-- the feature that every port has
+abbrev pub core : List ℕ
+core = codes "core"
+
+-- and the one that asks for its default features
+abbrev pub default : List ℕ
+default = codes "default"
 
 -- a feature that a list names, where its condition holds; `core` and `default` are names like others
 pub record FeatureUse (Condition : Type 0) : Type 0 where

@@ -1,7 +1,8 @@
 -- What is known of one port: its given version, its table, and its manifests.
-use Rattle.std.specs.Prelude.{ℕ, List, Result}
+use Rattle.std.specs.Prelude.{ℕ, List, Option, option_map, Result}
+use Rattle.std.specs.List.{find}
 use Rattle.vk_spec.specs.Paths.{Path}
-use Rattle.vk_spec.specs.Versions.{Version, Ask}
+use Rattle.vk_spec.specs.Versions.{Version, Ask, ask_of, same_ask}
 use Rattle.vk_spec.specs.Manifests.{Manifest}
 
 -- the first of these in which a table and a manifest differ
@@ -34,3 +35,21 @@ pub record Row (Condition : Type 0) : Type 0 where
 pub record Page (Condition : Type 0) : Type 0 where
   pub given : Result Given Wrong
   pub rows : List (Row Condition)
+
+-- what a given version asks for
+abbrev pub given_ask : Given → Ask
+given_ask (overlay v) = ask_of v
+given_ask (override a) = a
+given_ask (baseline a) = a
+
+-- the row that an ask means, if there is one: it has the ask's text and port-version
+abbrev pub row_in : {C : Type 0} → List (Row C) → Ask → Option (Row C)
+row_in rows a = find (λ r. same_ask (ask_of r.version) a) rows
+
+-- its version
+abbrev pub version_in : {C : Type 0} → Page C → Ask → Option Version
+version_in page a = option_map (λ r. r.version) (row_in page.rows a)
+
+-- its manifest, or what is wrong with it
+abbrev pub manifest_in : {C : Type 0} → Page C → Ask → Option (Result (Manifest C) Wrong)
+manifest_in page a = option_map (λ r. r.manifest) (row_in page.rows a)

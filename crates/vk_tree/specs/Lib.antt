@@ -1,4 +1,3 @@
 pub mod Answers
-pub mod Schedules
 pub mod MemSinks
 pub mod MemTrees

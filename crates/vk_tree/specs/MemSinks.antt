@@ -1,11 +1,11 @@
 -- A sink in memory: what is known of it, and what its calls do.
 use Rattle.std.specs.Prelude.{◌≡◌, ◌+◌, ℕ, List, [], length, min, true, Option, Some, None, if◌then◌else◌}
 use Rattle.vk_spec.specs.Sinks.{SinkState, count_taken, is_stopped}
-use Rattle.vk_tree.specs.Schedules.{turn_of, is_calm, with_call, raised}
+use Rattle.vk_base.specs.Schedules.{turn_of, is_calm, with_call, raised}
 use Rattle.vk_tree.specs.declared.mem_sinks.MemSink.{MemSink}
-use Rattle.vk_tree.specs.declared.schedules.Schedule.{Schedule}
-use Rattle.vk_tree.specs.declared.schedules.Turn.{Turn}
-use Rattle.vk_tree.specs.declared.schedules.Turn.TheVariants.{Listed, Stopped, Free}
+use Rattle.vk_base.specs.declared.schedules.Schedule.{Schedule}
+use Rattle.vk_base.specs.declared.schedules.Turn.{Turn}
+use Rattle.vk_base.specs.declared.schedules.Turn.TheVariants.{Listed, Stopped, Free}
 
 -- how many more bytes fit
 abbrev pub left_in : MemSink → ℕ

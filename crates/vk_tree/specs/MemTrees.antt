@@ -4,9 +4,9 @@ use Rattle.std.specs.FinMap as map
 use Rattle.vk_spec.specs.Paths.{Path}
 use Rattle.vk_spec.specs.Files.{Files}
 use Rattle.vk_spec.specs.States.{Told, State}
-use Rattle.vk_tree.specs.Schedules.{turn_of, is_calm, is_wrong, with_call, raised}
+use Rattle.vk_base.specs.Schedules.{turn_of, is_calm, is_wrong, with_call, raised}
 use Rattle.vk_tree.specs.declared.mem_trees.MemTree.{MemTree}
-use Rattle.vk_tree.specs.declared.schedules.Schedule.{Schedule}
+use Rattle.vk_base.specs.declared.schedules.Schedule.{Schedule}
 
 -- the bytes at each path
 abbrev pub mem_files : MemTree → Files

@@ -7,7 +7,6 @@ mod buffers;
 mod disks;
 mod mem_sinks;
 mod mem_trees;
-mod schedules;
 mod sending;
 mod sinks;
 mod trees;

@@ -2,14 +2,13 @@ ghost use Rattle.std.specs.Prelude.{◌≡◌, ◌∷◌, IfOk, OnOk, OnErr, Som
 ghost use Rattle.std.specs.Result.{result_ok};
 ghost use Rattle.vk_spec.specs.Counts.{Counted};
 ghost use Rattle.vk_spec.specs.Sinks.{SinkState, Puts, is_stopped};
-ghost use Rattle.vk_tree.specs.Schedules.{with_listed, with_stop, raised};
+ghost use Rattle.vk_base.specs.Schedules.{with_listed, with_stop, raised};
 ghost use Rattle.vk_tree.specs.MemSinks.{IsNewSink, MemPuts, Rescheduled, sink_state, sink_schedule};
 
 use crate::buffers::Buffer;
-use crate::schedules::{Schedule, Turn};
 use crate::sinks::{Sink, SinkFailed};
 use std::alloc::Global;
-use vk_base::Memory;
+use vk_base::{Memory, Schedule, Turn};
 
 /// A sink in memory that tells what it took.
 #[derive(Drop)]

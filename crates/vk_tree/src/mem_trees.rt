@@ -3,14 +3,13 @@ ghost use Rattle.std.specs.FinMap as map;
 ghost use Rattle.vk_spec.specs.Files.{HasRoomFor};
 ghost use Rattle.vk_spec.specs.Calls.{Reads, ReadsFile, NoLonger, is_failed, noted};
 ghost use Rattle.vk_tree.specs.Answers.{read_answer};
-ghost use Rattle.vk_tree.specs.Schedules.{with_listed, with_stop};
+ghost use Rattle.vk_base.specs.Schedules.{with_listed, with_stop};
 ghost use Rattle.vk_tree.specs.MemTrees.{IsNewTree, MemCalls, mem_files, mem_log, mem_schedule, mem_state, with_file, with_schedule};
 
 use crate::disks::Disk;
-use crate::schedules::Schedule;
 use crate::trees::{ReadFault, Tree};
 use std::alloc::{AllocError, AllocFailed, Global};
-use vk_base::{List, Memory, TreePath};
+use vk_base::{List, Memory, Schedule, TreePath};
 
 /// A tree in memory that tells its files.
 #[derive(Drop)]

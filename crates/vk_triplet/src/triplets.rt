@@ -12,7 +12,7 @@ ghost use Rattle.vk_triplet.specs.TripletViews.{setting_view, triplet_view};
 
 use crate::faults::TripletFault;
 use crate::lines::{Command, said_by};
-use std::alloc::{AllocFailed, Global};
+use std::alloc::{AllocError, AllocFailed, Global};
 use std::str;
 use vk_base::{List, Text, TripletName};
 
@@ -34,6 +34,18 @@ pub struct Triplet {
     pub bytes: List<u8>,
     /// The settings in the file's order. Of a variable that is set twice the last one counts.
     pub vars: List<Setting1>,
+}
+
+impl Clone for Triplet {
+    ghost is_clone = { λ t u. u ≡ t };
+
+    fn clone(&self) -> Result<Triplet, AllocError> {
+        Ok(Triplet {
+            name: self.name.clone()?,
+            bytes: self.bytes.clone()?,
+            vars: self.vars.clone()?,
+        })
+    }
 }
 
 /// A line without the carriage return at its end, if it has one.

@@ -9,10 +9,10 @@ use Rattle.vk_version.specs.declared.versions.Version.TheInside.{Inside}
 
 -- the version that is kept
 abbrev pub version_view : Inside → plain.Version
-version_view v = record { class = class_view v.class; text = v.text; port = v.port }
+version_view v = record { class = class_view v.class; text = v.ask.text; port = v.ask.port }
 
 -- some scheme reads the text, and the parts are those of the text
 pub record IsParsed (v : Inside) : Type 0 where
   pub version : IsVersion (version_view v)
-  pub numbers : v.numbers ≡ numbers_by (class_view v.class) v.text
-  pub pre : pre_text v.pre ≡ pre_by (class_view v.class) v.text
+  pub numbers : v.numbers ≡ numbers_by (class_view v.class) v.ask.text
+  pub pre : pre_text v.pre ≡ pre_by (class_view v.class) v.ask.text

@@ -10,17 +10,28 @@ ghost use Rattle.vk_version.specs.Views.{version_fault_of};
 use crate::faults::VersionFault;
 use crate::numbers::{is_number, number};
 use crate::plains::is_plain;
-use std::alloc::Global;
+use std::alloc::{AllocError, Global};
 use vk_base::Text;
 
 /// What a minimum, a baseline entry or an override asks for: a version's text without a scheme, and
 /// a port-version. A port's versions table says which version it means.
-#[derive(Clone, PartialEq, Eq, PartialOrd, Ord, Hash, Drop)]
+#[derive(PartialEq, Eq, PartialOrd, Ord, Hash, Drop)]
 pub struct Ask {
     /// The version's text.
     pub text: Text,
     /// The port-version.
     pub port: u32,
+}
+
+impl Clone for Ask {
+    ghost is_clone = { λ x y. y ≡ x };
+
+    fn clone(&self) -> Result<Ask, AllocError> {
+        Ok(Ask {
+            text: self.text.clone()?,
+            port: self.port,
+        })
+    }
 }
 
 /// Reads what stands before a hash.

@@ -3,13 +3,16 @@ ghost use Rattle.std.specs.declared.cmp.Ordering.TheVariants.{Less, Equal, Great
 ghost use Rattle.semver.specs.Parse.{memory_error};
 ghost use Rattle.vk_spec.specs.Reading.{Gives};
 ghost use Rattle.vk_version.specs.declared.faults.VersionFault.TheVariants.{Shape, Memory};
+ghost use Rattle.vk_spec.specs.Versions.{ask_of};
 ghost use Rattle.vk_version.specs.Schemes as the;
 ghost use Rattle.vk_version.specs.Texts.{is_dotted};
 ghost use Rattle.vk_version.specs.Readings.{IsVersion, reads_version, relaxed_fault, date_fault};
 ghost use Rattle.vk_version.specs.Steps.{IsDate, parts_in};
 ghost use Rattle.vk_version.specs.Orders.{Below, Unrelated, order_of, rank_cmp, tie_cmp};
+ghost use Rattle.vk_version.specs.AskViews.{ask_view};
 ghost use Rattle.vk_version.specs.Views.{class_view, scheme_view, version_fault_of};
 
+use crate::asks::Ask;
 use crate::days::{day_numbers, is_day};
 use crate::faults::VersionFault;
 use crate::numbers::{are_numbers, core, cut, is_dotted, push_later, push_numbers};
@@ -26,8 +29,8 @@ use vk_base::{List, Text};
 #[derive(Drop)]
 pub struct Version {
     class: Class,
-    text: Text,
-    port: u32,
+    /// The text that was read, and the port-version.
+    ask: Ask,
     /// Of a date: its year, its month, its day, and then the other numbers.
     numbers: List<u64>,
     pre: Prerelease,
@@ -58,14 +61,21 @@ impl Version {
         ensures text { result.now ≡ self.now.text }
         ensures version { IsVersion self.now }
     {
-        &self.text
+        &self.ask.text
     }
 
     /// The port-version.
     pub fn port(&self) -> u32
         ensures { result ≡ self.now.port }
     {
-        self.port
+        self.ask.port
+    }
+
+    /// The ask that means it: its text and its port-version. Takes no memory.
+    pub fn ask(&self) -> &Ask
+        ensures { ask_view result.now ≡ ask_of self.now }
+    {
+        &self.ask
     }
 }
 
@@ -75,8 +85,7 @@ impl Clone for Version {
     fn clone(&self) -> Result<Version, AllocError> {
         Ok(Version {
             class: self.class,
-            text: self.text.clone()?,
-            port: self.port,
+            ask: self.ask.clone()?,
             numbers: self.numbers.clone()?,
             pre: self.pre.clone()?,
         })
@@ -94,8 +103,8 @@ fn rank(a: &Version, b: &Version) -> Ordering
 fn tie(a: &Version, b: &Version) -> Option<Ordering>
     ensures { result ≡ tie_cmp a.now b.now }
 {
-    if a.class == Class::Date || a.text == b.text {
-        Some(a.port.cmp(&b.port))
+    if a.class == Class::Date || a.ask.text == b.ask.text {
+        Some(a.ask.port.cmp(&b.ask.port))
     } else {
         None
     }
@@ -152,8 +161,10 @@ fn read_relaxed(alloc: Global, text: &str, port: u32) -> Result<Version, Version
     push_numbers(&mut numbers, bytes)?;
     Ok(Version {
         class: Class::Dot,
-        text: Text::from_str(alloc, text)?,
-        port,
+        ask: Ask {
+            text: Text::from_str(alloc, text)?,
+            port,
+        },
         numbers,
         pre: Prerelease::empty(),
     })
@@ -187,8 +198,10 @@ fn read_semver(alloc: Global, text: &str, port: u32) -> Result<Version, VersionF
     } = parsed;
     Ok(Version {
         class: Class::Dot,
-        text: Text::from_str(alloc, text)?,
-        port,
+        ask: Ask {
+            text: Text::from_str(alloc, text)?,
+            port,
+        },
         numbers: List::from_slice(alloc, &[major, minor, patch])?,
         pre,
     })
@@ -219,8 +232,10 @@ fn read_date(alloc: Global, text: &str, port: u32) -> Result<Version, VersionFau
     push_later(&mut numbers, later)?;
     Ok(Version {
         class: Class::Date,
-        text: Text::from_str(alloc, text)?,
-        port,
+        ask: Ask {
+            text: Text::from_str(alloc, text)?,
+            port,
+        },
         numbers,
         pre: Prerelease::empty(),
     })
@@ -235,8 +250,10 @@ fn read_string(alloc: Global, text: &str, port: u32) -> Result<Version, VersionF
     }
     Ok(Version {
         class: Class::Text,
-        text: Text::from_str(alloc, text)?,
-        port,
+        ask: Ask {
+            text: Text::from_str(alloc, text)?,
+            port,
+        },
         numbers: List::new(alloc),
         pre: Prerelease::empty(),
     })

@@ -1,4 +1,4 @@
-use Rattle.vk_app.proofs.FrontLemmas.{strip_is}
+use Rattle.vk_spec.proofs.FrontLemmas.{strip_is}
 use Rattle.vk_app.proofs.fronts.after.Goals as goal
 
 pub returns : goal.returns

@@ -1,5 +1,5 @@
 use Rattle.std.proofs.Common.{false}
-use Rattle.vk_catalogue.specs.Catalogues.{OnlyAsked}
+use Rattle.vk_spec.specs.Catalogues.{OnlyAsked}
 use Rattle.vk_catalogue.proofs.tests.how_many_given.Given as goal
 
 abbrev pub invariant-loop-port : goal.invariant-loop-port

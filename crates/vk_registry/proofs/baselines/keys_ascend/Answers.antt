@@ -1,5 +1,3 @@
-use Rattle.std.specs.Prelude.{option_map, IfSome}
-use Rattle.vk_json.specs.Looks.{names_of}
 use Rattle.vk_registry.proofs.OrderLemmas.{names_ascend}
 use Rattle.vk_registry.proofs.baselines.keys_ascend.Goals as goal
 

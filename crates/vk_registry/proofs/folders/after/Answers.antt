@@ -1,4 +1,4 @@
-use Rattle.vk_registry.proofs.FrontLemmas.{strip_is}
+use Rattle.vk_spec.proofs.FrontLemmas.{strip_is}
 use Rattle.vk_registry.proofs.folders.after.Goals as goal
 
 pub returns : goal.returns

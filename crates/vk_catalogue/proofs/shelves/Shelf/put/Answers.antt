@@ -1,9 +1,8 @@
-use Rattle.std.proofs.Common.{◌≡◌, ◌∙◌, sym, ap, ◌++◌, ◌∷◌, []}
+use Rattle.std.proofs.Common.{◌∙◌, ap}
 use Rattle.std.specs.Prelude.{bytes_eq}
 use Rattle.indexmap.proofs.CallerLemmas.{insert_entry-new}
-use Rattle.vk_catalogue.specs.Catalogues.{ArePages}
 use Rattle.vk_catalogue.specs.PageViews.{page_view}
-use Rattle.vk_catalogue.specs.Shelves.{page_on, page_among, pages_of}
+use Rattle.vk_catalogue.specs.Shelves.{pages_of}
 use Rattle.vk_catalogue.proofs.ShelfLemmas.{nothing_held, pages_of_more, more_are_pages}
 use Rattle.vk_catalogue.proofs.shelves.Shelf.put.Goals as goal
 

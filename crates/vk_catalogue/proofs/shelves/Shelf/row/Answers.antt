@@ -1,5 +1,5 @@
 use Rattle.std.proofs.Common.{◌∙◌, sym, ap}
-use Rattle.vk_catalogue.specs.Catalogues.{row_in}
+use Rattle.vk_spec.specs.Pages.{row_in}
 use Rattle.vk_version.specs.AskViews.{ask_view}
 use Rattle.vk_catalogue.proofs.ShelfLemmas.{row_view_found}
 use Rattle.vk_catalogue.proofs.shelves.Shelf.row.Goals as goal

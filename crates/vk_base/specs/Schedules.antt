@@ -2,9 +2,9 @@
 use Rattle.std.specs.Prelude.{◌==◌, ◌&&◌, ◌-◌, ◌^◌, ℕ, Bool, true, false, List, length, if◌then◌else◌, nat_le, nat_lt}
 use Rattle.std.specs.List.{list_any}
 use Rattle.vk_spec.specs.Counts.{counted_up}
-use Rattle.vk_tree.specs.declared.schedules.Schedule.{Schedule}
-use Rattle.vk_tree.specs.declared.schedules.Turn.{Turn}
-use Rattle.vk_tree.specs.declared.schedules.Turn.TheVariants.{Listed, Stopped, Free}
+use Rattle.vk_base.specs.declared.schedules.Schedule.{Schedule}
+use Rattle.vk_base.specs.declared.schedules.Turn.{Turn}
+use Rattle.vk_base.specs.declared.schedules.Turn.TheVariants.{Listed, Stopped, Free}
 
 -- the last number of all, which stops nothing
 abbrev pub no_stop : ℕ

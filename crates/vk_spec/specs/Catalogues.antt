@@ -1,47 +1,19 @@
 -- What is known of a catalogue of ports, what its calls answer, and what a caller that only asks leaves.
-use Rattle.std.specs.Prelude.{◌≡◌, ◌==◌, ◌&&◌, ℕ, Bool, true, false, List, [], ◌∷◌, map, Option, Some, None, option_map, IfSome, IsSome, Result, Ok, Err, IfOk, IfErr, IsOk, bytes_eq}
-use Rattle.std.specs.List.{Contains, find}
+use Rattle.std.specs.Prelude.{◌≡◌, ◌≤◌, ℕ, Bool, true, false, List, [], ◌∷◌, map, Option, Some, IfSome, IsSome, Result, IfOk, IfErr, IsOk}
+use Rattle.std.specs.List.{Contains}
 use Rattle.vk_spec.specs.Counts.{Counted}
 use Rattle.vk_spec.specs.Lists.{NoRepeats}
 use Rattle.vk_spec.specs.Paths.{Path}
 use Rattle.vk_spec.specs.Files.{Files}
 use Rattle.vk_spec.specs.Calls.{Answer, is_failed}
-use Rattle.vk_spec.specs.Versions.{Version, Ask}
+use Rattle.vk_spec.specs.Versions.{Version, Ask, ask_of}
 use Rattle.vk_spec.specs.Manifests.{Manifest}
 use Rattle.vk_spec.specs.Pages as the
-use Rattle.vk_spec.specs.Pages.{Wrong, no_registry, no_baseline, bad_file, disagrees, Given, overlay, override, baseline, Row, Page}
+use Rattle.vk_spec.specs.Pages.{Wrong, no_registry, no_baseline, bad_file, disagrees, Given, overlay, override, baseline, Row, Page, version_in, manifest_in}
 
 -- the page of each port
 abbrev pub Pages : Type 0 → Type 0
 Pages Condition = List ℕ → Page Condition
-
--- the ask that means a version
-abbrev pub ask_of : Version → Ask
-ask_of v = record { text = v.text; port = v.port }
-
--- asks are one where text and port-version are
-abbrev pub same_ask : Ask → Ask → Bool
-same_ask a b = bytes_eq a.text b.text && (a.port == b.port)
-
--- what a given version asks for
-abbrev pub given_ask : Given → Ask
-given_ask (overlay v) = ask_of v
-given_ask (override a) = a
-given_ask (baseline a) = a
-
--- ---- what a page says of an ask
-
--- the row with the ask's text and port-version, if there is one
-abbrev pub row_in : {C : Type 0} → List (Row C) → Ask → Option (Row C)
-row_in rows a = find (λ r. same_ask (ask_of r.version) a) rows
-
--- its version
-abbrev pub version_in : {C : Type 0} → Page C → Ask → Option Version
-version_in page a = option_map (λ r. r.version) (row_in page.rows a)
-
--- its manifest, or what is wrong with it
-abbrev pub manifest_in : {C : Type 0} → Page C → Ask → Option (Result (Manifest C) Wrong)
-manifest_in page a = option_map (λ r. r.manifest) (row_in page.rows a)
 
 -- ---- what every page keeps
 
@@ -98,6 +70,8 @@ pub record CatalogueState (C : Type 0) : Type 0 where
   -- the page of each port, where it tells them
   pub pages : Option (Pages C)
   pub origin : Origin
+  -- how many calls were made, of it or of what it stands on
+  pub calls : ℕ
   -- how many calls failed
   pub faults : ℕ
   -- no call is to fail
@@ -111,6 +85,7 @@ OnPage port P s = IfSome s.pages (λ pages. P (pages port))
 pub record OnlyAsked {C : Type 0} (failed : Bool) (before after : CatalogueState C) : Type 0 where
   pub pages : after.pages ≡ before.pages
   pub origin : after.origin ≡ before.origin
+  pub calls : before.calls ≤ after.calls
   pub faults : Counted failed before.faults after.faults
   pub sure : after.sure ≡ before.sure
   pub safe : before.sure ≡ true → failed ≡ false

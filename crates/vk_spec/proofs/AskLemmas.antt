@@ -1,24 +1,25 @@
 -- Nothing was asked; one after the other; and what was answered, brought back to the start.
-use Rattle.std.proofs.Common.{◌≡◌, subst, ℕ, List, true, false, ap, refl, sym, ◌∙◌, arith}
-use Rattle.std.specs.Prelude.{Bool, Option, Some, None, IfSome, Result, Ok, Err, IfOk}
+use Rattle.std.proofs.Common.{◌≡◌, subst, ℕ, List, true, false, refl, sym, ◌∙◌, arith}
+use Rattle.std.specs.Prelude.{Bool, Option, Some, None, IfSome, Ok, Err, IfOk}
 use Rattle.vk_spec.specs.Counts.{MayHaveRisen, Rose}
 use Rattle.vk_spec.specs.Calls.{Answer, Fault, stops, is_failed}
 use Rattle.vk_spec.specs.Versions.{Version, Ask}
 use Rattle.vk_spec.specs.Pages.{Page, Given}
-use Rattle.vk_catalogue.specs.Catalogues.{Pages, ArePages, CatalogueState, OnPage, OnlyAsked, Asks, SaysGiven, SaysVersion, CanAskVersion, CanAskManifest}
+use Rattle.vk_spec.specs.Catalogues.{Pages, ArePages, CatalogueState, OnPage, OnlyAsked, Asks, SaysGiven, SaysVersion, CanAskVersion, CanAskManifest}
 use Rattle.vk_spec.proofs.CountLemmas.{counted_then, counted_risen, counted_rose}
 
 -- ---- only asked
 
 -- nothing was done
 pub asked_nothing : {C : Type 0} (s : CatalogueState C) → OnlyAsked false s s
-asked_nothing s = record { pages = refl; origin = refl; faults = refl; sure = refl; safe = λ _. refl }
+asked_nothing s = record { pages = refl; origin = refl; calls = omega arith; faults = refl; sure = refl; safe = λ _. refl }
 
 -- one after the other
 pub asked_then : {C : Type 0} {failed : Bool} {a b c : CatalogueState C} → OnlyAsked false a b → OnlyAsked failed b c → OnlyAsked failed a c
 asked_then one two = record {
   pages = two.pages ∙ one.pages;
   origin = two.origin ∙ one.origin;
+  calls = omega (arith, one.calls, two.calls);
   faults = counted_then _ _ _ _ one.faults two.faults;
   sure = two.sure ∙ one.sure;
   safe = λ s. two.safe (one.sure ∙ s);

@@ -1,8 +1,8 @@
 ghost use Rattle.std.specs.Prelude.{◌≡◌, ◌≤◌, true, false, OnOk, OnErr};
-ghost use Rattle.vk_tree.specs.Schedules.{turn_of, is_calm, is_wrong, with_call, with_listed, with_stop};
+ghost use Rattle.vk_base.specs.Schedules.{turn_of, is_calm, is_wrong, with_call, with_listed, with_stop};
 
+use crate::lists::List;
 use std::alloc::{AllocError, Global};
-use vk_base::List;
 
 /// How the next call of a fake goes.
 #[derive(Clone, Copy, Debug, PartialEq, Eq)]

@@ -3,7 +3,7 @@ use Rattle.std.proofs.Common.{Bor, ◌≡◌, ◌≢◌, ℕ, Bool, true, false,
 use Rattle.std.specs.Prelude.{Option, Some, None, MatchOption, option_map}
 use Rattle.std.specs.Str.Pattern.{FindsTextPrefix, StripsPrefix}
 use Rattle.std.proofs.lemmas.Bool.Decides.{nat_tests}
-use Rattle.vk_registry.specs.Fronts.{after}
+use Rattle.vk_spec.specs.Fronts.{after}
 
 pub after_front : (front rest : List ℕ) → after front (front ++ rest) ≡ Some rest
 after_front [] rest = refl
