@@ -4,6 +4,10 @@
 #![tactic(auto)]
 
 mod answered;
+mod answering;
 mod homes;
+mod libraries;
+mod listed;
 mod manifests;
+mod row_manifests;
 mod settling;
