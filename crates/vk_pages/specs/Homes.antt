@@ -57,12 +57,13 @@ overlay_for overlays port files = find (has_port port files) overlays
 unfoldable pub overlay_home : Path → Manifest Tree → Result Home Wrong
 overlay_home folder m = version_in (manifest_path folder) m >>= λ v. Ok (in_overlay folder v m)
 
--- the port in its folder of an overlay, whose manifest has to have its name
-unfoldable pub folder_home : List ℕ → Path → Files → Result Home Wrong
-folder_home port folder files = do
-  m ← manifest_file (manifest_path folder) files
-  same ← named (manifest_path folder) port m
-  overlay_home folder m
+-- the same of a manifest that has to have the port's name
+unfoldable pub named_home : List ℕ → Path → Manifest Tree → Result Home Wrong
+named_home port folder m = named (manifest_path folder) port m >>= λ same. overlay_home folder m
+
+-- the port in its folder of an overlay
+abbrev pub folder_home : List ℕ → Path → Files → Result Home Wrong
+folder_home port folder files = manifest_file (manifest_path folder) files >>= named_home port folder
 
 abbrev pub home_in : Overlay → List ℕ → Files → Result Home Wrong
 home_in (is_port folder m) port files = overlay_home folder m

@@ -5,4 +5,4 @@ pub mod Homes
 pub mod BaselineNotes
 pub mod Pages
 pub mod HomeViews
-
+pub mod NoteViews
