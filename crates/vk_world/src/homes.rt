@@ -18,7 +18,7 @@ use std::alloc::Global;
 use vk_base::PortName;
 use vk_catalogue::{CatStop, Wrong};
 use vk_files::FileCache;
-use vk_pages::{Baselines, Home, Layout, home};
+use vk_pages::{Baselines, Home, Layout, home_of};
 use vk_tree::Tree;
 
 /// Where the versions of ports are, or what is wrong, by port; and the baselines that were read.
@@ -40,7 +40,7 @@ fn find_home<T: Tree>(
 ) -> Result<Result<Home, Wrong>, CatStop>
     ensures { Learns result (Means found_home (home_of (layout_view layout.now) port.now)) (AreBaselines (layout_view layout.now) (notes_of baselines.old)) (AreBaselines (layout_view layout.now) (notes_of baselines.new)) (held files.old (T.state tree.old)) (held files.new (T.state tree.new)) }
 {
-    settle(home(alloc, layout, files, baselines, tree, port))
+    settle(home_of(alloc, layout, files, baselines, tree, port))
 }
 
 impl Homes {

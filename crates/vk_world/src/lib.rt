@@ -11,3 +11,6 @@ mod listed;
 mod manifests;
 mod row_manifests;
 mod settling;
+mod worlds;
+
+pub use worlds::World;
