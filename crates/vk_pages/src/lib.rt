@@ -9,10 +9,11 @@ mod contents;
 mod homes;
 mod overlays;
 mod paths;
+mod registries;
 mod served;
 
 pub use agreement::agree;
 pub use baselines::Baselines;
 pub use contents::{NamedBaseline, PortManifest, PortTable, content, wrong_of};
-pub use homes::{Home, Layout};
+pub use homes::{Home, Layout, home_of};
 pub use paths::{baseline_path, from_folder, manifest_path, row_folder, table_path};
