@@ -211,3 +211,17 @@ one_registry config port place other (by_pattern p one) (by_pattern q two) = sam
 one_registry config port place other (by_pattern p one) (by_default nobody default) = absurd (nobody p one.pattern one.has)
 one_registry config port place other (by_default nobody default) (by_pattern q two) = absurd (nobody q two.pattern two.has)
 one_registry config port place other (by_default nobody default) (by_default again also) = refl
+
+is_served : (config : Config) (port : List ℕ) (answer : Option ℕ) (place : ℕ) → IfSome answer (IsServedAt config port) → answer ≡ Some place → IsServedAt config port place
+is_served config port answer place at is = rw is at at
+
+-- a port that comes from a place is served by what the search finds
+is_found : (config : Config) (port : List ℕ) (answer : Option ℕ) (place : ℕ) → IfSome answer (IsServedAt config port) → (answer ≡ None → IsUnserved config port) → IsServedAt config port place → answer ≡ Some place
+is_found config port None place at none here = absurd (not_both config port place here (none refl))
+is_found config port (Some found) place at none here = ap Some (one_registry config port found place at here)
+
+pub served_exactly : (config : Config) (port : List ℕ) (place : ℕ) → place_of config port ≡ Some place ↔ IsServedAt config port place
+served_exactly config port place = (
+  is_served config port (place_of config port) place (served config port),
+  is_found config port (place_of config port) place (served config port) (unserved config port).0,
+)

@@ -1,5 +1,5 @@
 //! Which registry a port comes from.
-ghost use Rattle.std.specs.Prelude.{◌≡◌, ◌↔◌, List, ℕ, None, map, option_map, IfSome};
+ghost use Rattle.std.specs.Prelude.{◌≡◌, ◌↔◌, List, ℕ, None, Some, map, option_map, IfSome};
 ghost use Rattle.vk_config.specs.Configs as plain;
 ghost use Rattle.vk_config.specs.Serving.{serves_ports, IsServedAt, IsUnserved};
 ghost use Rattle.vk_config.specs.Closeness.{closeness, closer, closest, closer_place, closest_place, default_place, place_of};
@@ -122,13 +122,17 @@ fn place_of(config: &Config, port: &PortName) -> Option<usize>
 /// registries the later one; what no pattern takes goes to the default registry. `None` exactly where
 /// neither serves the port. The answer may be a registry that the program can't read. Takes no memory.
 pub fn registry_of(config: &Config, port: &PortName) -> Option<usize>
+    ensures place { result ≡ place_of (config_view config.now) port.now }
     ensures found { IfSome result (IsServedAt (config_view config.now) port.now) }
     ensures none { (result ≡ None) ↔ IsUnserved (config_view config.now) port.now }
 {
     place_of(config, port)
 }
 
-/// A port comes from at most one registry.
+/// The place that the search finds is the one that a port comes from. A port comes from at most one
+/// registry.
 pub fn serving_rule()
+    ensures place { (config : plain.Config) (port : List ℕ) (place : ℕ) → (place_of config port ≡ Some place) ↔ IsServedAt config port place }
+    ensures none { (config : plain.Config) (port : List ℕ) → (place_of config port ≡ None) ↔ IsUnserved config port }
     ensures one { (config : plain.Config) (port : List ℕ) (place other : ℕ) → IsServedAt config port place → IsServedAt config port other → place ≡ other }
 {}

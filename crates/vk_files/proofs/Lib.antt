@@ -1,5 +1,8 @@
 pub mod NoteLemmas
+pub mod NotedLemmas
 pub mod OnceLemmas
 pub mod CacheLemmas
 pub mod ReadLemmas
 pub mod NotingLemmas
+pub mod ReadMore
+pub mod FirstLemmas

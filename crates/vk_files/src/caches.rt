@@ -1,4 +1,4 @@
-ghost use Rattle.std.specs.Prelude.{◌≡◌, ◌<◌, ◌++◌, ◌∷◌, [], ℕ, List, Option, None, IsSome, OnOk, IfOk, option_map};
+ghost use Rattle.std.specs.Prelude.{◌≡◌, ◌<◌, ◌++◌, ◌∷◌, [], ℕ, List, Option, None, IsSome, OnOk, IfOk, length, option_map};
 ghost use Rattle.std.specs.Option.{option_copied};
 ghost use Rattle.indexmap.specs.IndexMap.{spare};
 ghost use Rattle.vk_spec.specs.Lists.{NoRepeats};
@@ -56,6 +56,13 @@ impl FileCache {
         ensures { NoRepeats (paths_of (kept_of self.now)) }
     {
         let _ = self.found.len();
+    }
+
+    /// How many paths were looked at.
+    pub fn len(&self) -> usize
+        ensures { result ≡ length (kept_of self.now) }
+    {
+        self.found.len()
     }
 
     // Keeps what stands at a path, for which there is room.

@@ -9,7 +9,7 @@ use vk_base::{Text, TreePath};
 use vk_json::Why;
 
 /// A file that isn't as it has to be.
-#[derive(Drop)]
+#[derive(Clone, Drop)]
 pub struct BadFile {
     /// The file.
     pub path: TreePath,

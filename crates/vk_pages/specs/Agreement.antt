@@ -1,5 +1,5 @@
 -- Whether a manifest says what is said of it.
-use Rattle.std.specs.Prelude.{◌==◌, ℕ, Bool, true, false, List, [], Option, Some, None, Result, Ok, Err, codes, decimal, bytes_eq, if◌then◌else◌}
+use Rattle.std.specs.Prelude.{ℕ, List, [], Option, Some, None, Result, Ok, Err, codes, decimal, bytes_eq, if◌then◌else◌}
 use Rattle.vk_spec.specs.Paths.{Path}
 use Rattle.vk_spec.specs.Reading.{◌>>=◌}
 use Rattle.vk_spec.specs.Versions.{Class, dot, date, text, Version}
@@ -15,7 +15,7 @@ class_word dot = codes "dot"
 class_word date = codes "date"
 class_word text = codes "text"
 
--- a name that may be missing, as it is printed
+-- a name that may be missing, as it is printed; every port's is there
 abbrev pub name_text : Option (List ℕ) → List ℕ
 name_text None = []
 name_text (Some name) = name
@@ -25,15 +25,19 @@ abbrev pub same_in : Path → Field → List ℕ → List ℕ → Result (Unit {
 same_in path field said found = if bytes_eq said found then Ok tt else Err (disagrees path field said found)
 
 -- the manifest is the port's
-unfoldable pub named : Path → List ℕ → Manifest Tree → Result (Manifest Tree) Wrong
-named path port m = same_in path the.name port (name_text m.name) >>= λ same. Ok m
+abbrev pub named : Path → List ℕ → Manifest Tree → Result (Unit {0}) Wrong
+named path port m = same_in path the.name port (name_text m.name)
 
--- the manifest is the port's at the version: the first of name, class, text and port-version that differs is told
-unfoldable pub agreeing : Path → List ℕ → Version → Manifest Tree → Result (Manifest Tree) Wrong
-agreeing path port v m = do
-  same_name ← same_in path the.name port (name_text m.name)
-  w ← version_in path m
-  same_class ← same_in path the.class (class_word v.class) (class_word w.class)
-  same_text ← same_in path the.text v.text w.text
-  same_port ← same_in path the.port (decimal v.port) (decimal w.port)
-  Ok m
+-- the first of class, text and port-version that differs is told
+unfoldable pub same_version : Path → Version → Version → Result (Unit {0}) Wrong
+same_version path said found = do
+  one_class ← same_in path the.class (class_word said.class) (class_word found.class)
+  one_text ← same_in path the.text said.text found.text
+  same_in path the.port (decimal said.port) (decimal found.port)
+
+-- the manifest is the port's, and then it is at the version
+unfoldable pub agreeing : Path → List ℕ → Version → Manifest Tree → Result (Unit {0}) Wrong
+agreeing path port version m = do
+  same_name ← named path port m
+  found ← version_in path m
+  same_version path version found

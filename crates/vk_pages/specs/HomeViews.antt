@@ -9,6 +9,7 @@ use Rattle.vk_pages.specs.Homes as plain
 use Rattle.vk_pages.specs.declared.homes.Home.{Home}
 use Rattle.vk_pages.specs.declared.homes.Home.TheVariants as home
 use Rattle.vk_pages.specs.declared.homes.Layout.{Layout}
+use Rattle.vk_pages.specs.declared.served.Served.{Served}
 
 abbrev pub home_view : Home → plain.Home
 home_view (home.Overlay folder version manifest) = plain.in_overlay folder version (manifest_view manifest.value)
@@ -16,3 +17,6 @@ home_view (home.Registry given folder table) = plain.in_registry (given_view giv
 
 abbrev pub layout_view : Layout → Start
 layout_view l = record { folder = l.folder; config = config_view l.config; overlays = map overlay_view l.overlays; overrides = map override_view l.overrides }
+
+abbrev pub served_view : Served → plain.Served
+served_view s = record { folder = s.folder; baseline = s.baseline.now }

@@ -11,19 +11,21 @@ use Rattle.vk_base.specs.Paths.{joined}
 use Rattle.vk_expr.specs.Trees.{Tree}
 use Rattle.vk_config.specs.Configs.{Source, filesystem, git, builtin, artifact, Config}
 use Rattle.vk_config.specs.Closeness.{place_of}
-use Rattle.vk_registry.specs.Baselines.{ask_for, baseline_by}
+use Rattle.vk_registry.specs.Baselines.{Entry, ask_for, baseline_by}
 use Rattle.vk_registry.specs.Tables.{Row, table_of}
-use Rattle.vk_files.specs.Readings.{Standing, missing, too_long, readable, standing_at, file_at}
+use Rattle.vk_files.specs.Readings.{Bad, Standing, missing, too_long, readable, standing_at, file_at}
 use Rattle.vk_opening.specs.Projects.{manifest_path}
 use Rattle.vk_opening.specs.Starts.{Overlay, is_port, has_ports, Start}
 use Rattle.vk_pages.specs.RegistryFiles.{baseline_path, table_path}
-use Rattle.vk_pages.specs.Wrongs.{or_wrong, manifest_file, version_in}
+use Rattle.vk_pages.specs.Wrongs.{or_wrong, file_or_wrong, manifest_file, version_in}
 use Rattle.vk_pages.specs.Agreement.{named}
 
 -- an overlay has the port, in this folder, at its one version; or a registry does: what is given, the registry's folder, and its table
 pub data Home : Type 0 where
   in_overlay : Path → Version → Manifest Tree → Home
   in_registry : Given → Path → List Row → Home
+
+-- ---- overlays
 
 -- a file stands there, whatever is in it
 abbrev pub is_there : Standing → Bool
@@ -47,20 +49,27 @@ abbrev pub has_port : List ℕ → Files → Overlay → Bool
 has_port port files (is_port folder m) = is_named port m.name
 has_port port files (has_ports folder) = stands (manifest_path (port_folder folder port)) files
 
+-- the first overlay that has the port, if one does
+abbrev pub overlay_for : List Overlay → List ℕ → Files → Option Overlay
+overlay_for overlays port files = find (has_port port files) overlays
+
 -- the overlay's port, with the version of its manifest
 unfoldable pub overlay_home : Path → Manifest Tree → Result Home Wrong
 overlay_home folder m = version_in (manifest_path folder) m >>= λ v. Ok (in_overlay folder v m)
 
--- the port in its folder of an overlay, whose manifest has to have its name
-unfoldable pub folder_home : List ℕ → Path → Files → Result Home Wrong
-folder_home port folder files = do
-  m ← manifest_file (manifest_path folder) files
-  m ← named (manifest_path folder) port m
-  overlay_home folder m
+-- the same of a manifest that has to have the port's name
+unfoldable pub named_home : List ℕ → Path → Manifest Tree → Result Home Wrong
+named_home port folder m = named (manifest_path folder) port m >>= λ same. overlay_home folder m
 
-abbrev pub home_in : List ℕ → Files → Overlay → Result Home Wrong
-home_in port files (is_port folder m) = overlay_home folder m
-home_in port files (has_ports folder) = folder_home port (port_folder folder port) files
+-- the port in its folder of an overlay
+abbrev pub folder_home : List ℕ → Path → Files → Result Home Wrong
+folder_home port folder files = manifest_file (manifest_path folder) files >>= named_home port folder
+
+abbrev pub home_in : Overlay → List ℕ → Files → Result Home Wrong
+home_in (is_port folder m) port files = overlay_home folder m
+home_in (has_ports folder) port files = folder_home port (port_folder folder port) files
+
+-- ---- registries
 
 -- a registry in a folder, and the name of the baseline that counts
 pub record Served : Type 0 where
@@ -83,6 +92,10 @@ abbrev pub source_in : Config → Option ℕ → Option Source
 source_in config None = None
 source_in config (Some place) = source_at config place
 
+-- the registry at a place
+abbrev pub served_at : Start → ℕ → Result Served Wrong
+served_at start place = served_by start.folder (source_at start.config place)
+
 -- the registry that serves the port
 abbrev pub served_for : Start → List ℕ → Result Served Wrong
 served_for start port = served_by start.folder (source_in start.config (place_of start.config port))
@@ -91,12 +104,17 @@ served_for start port = served_by start.folder (source_in start.config (place_of
 abbrev pub override_for : List Override → List ℕ → Option Ask
 override_for overrides port = option_map (λ o. o.ask) (find (λ o. bytes_eq o.name port) overrides)
 
+-- the registry's baseline
+abbrev pub baseline_file : Served → Files → Result (List Entry) Bad
+baseline_file served files = file_at (baseline_by served.baseline) (baseline_path served.folder) files
+
+-- what a baseline has for a port
+abbrev pub baseline_given : List ℕ → Result (List Entry) Bad → Result Given Wrong
+baseline_given port read = or_wrong read >>= λ entries. or_fault no_baseline (option_map baseline (ask_for port entries))
+
 -- what the registry's baseline has for the port
-unfoldable pub baseline_for : Served → List ℕ → Files → Result Given Wrong
-baseline_for served port files = do
-  entries ← or_wrong (file_at (baseline_by served.baseline) (baseline_path served.folder) files)
-  ask ← or_fault no_baseline (ask_for port entries)
-  Ok (baseline ask)
+abbrev pub baseline_for : Served → List ℕ → Files → Result Given Wrong
+baseline_for served port files = baseline_given port (baseline_file served files)
 
 -- an override counts before the baseline, which isn't looked at then
 abbrev pub given_by : Option Ask → Served → List ℕ → Files → Result Given Wrong
@@ -105,20 +123,25 @@ given_by None served port files = baseline_for served port files
 
 -- the port's table in a registry
 abbrev pub table_in : Served → List ℕ → Files → Result (List Row) Wrong
-table_in served port files = or_wrong (file_at table_of (table_path port served.folder) files)
+table_in served port files = file_or_wrong table_of (table_path port served.folder) files
 
-unfoldable pub registry_home : Start → List ℕ → Files → Result Home Wrong
-registry_home start port files = do
-  served ← served_for start port
-  given ← given_by (override_for start.overrides port) served port files
+-- what is given in a registry, and then the table
+unfoldable pub served_home : Option Ask → Served → List ℕ → Files → Result Home Wrong
+served_home set served port files = do
+  given ← given_by set served port files
   rows ← table_in served port files
   Ok (in_registry given served.folder rows)
 
+unfoldable pub registry_home : Start → List ℕ → Files → Result Home Wrong
+registry_home start port files = served_for start port >>= λ served. served_home (override_for start.overrides port) served port files
+
+-- ---- both
+
 -- the home in the first overlay that has the port, if one does
 abbrev pub home_by : Option Overlay → Start → List ℕ → Files → Result Home Wrong
-home_by (Some overlay) start port files = home_in port files overlay
+home_by (Some overlay) start port files = home_in overlay port files
 home_by None start port files = registry_home start port files
 
 -- where the port's versions are, or the first thing that is wrong
 abbrev pub home_of : Start → List ℕ → Files → Result Home Wrong
-home_of start port files = home_by (find (has_port port files) start.overlays) start port files
+home_of start port files = home_by (overlay_for start.overlays port files) start port files

@@ -1,11 +1,9 @@
 -- The page of a port, by the files of a project.
-use Rattle.std.specs.Prelude.{ℕ, List, [], ◌∷◌, map, Option, Some, None, option_map, Result, Ok, Err, if◌then◌else◌}
+use Rattle.std.specs.Prelude.{ℕ, List, [], ◌∷◌, map, Result, Ok, Err}
 use Rattle.vk_spec.specs.Paths.{Path}
 use Rattle.vk_spec.specs.Files.{Files}
 use Rattle.vk_spec.specs.Reading.{◌>>=◌}
-use Rattle.vk_spec.specs.Versions.{Version, Ask}
 use Rattle.vk_spec.specs.Manifests.{Manifest}
-
 use Rattle.vk_spec.specs.Pages as plain
 use Rattle.vk_base.specs.Paths.{joined}
 use Rattle.vk_expr.specs.Trees.{Tree}
@@ -24,7 +22,8 @@ row_folder registry row = joined registry row.path
 unfoldable pub row_manifest : List ℕ → Path → Row → Files → Result (Manifest Tree) plain.Wrong
 row_manifest port registry row files = do
   m ← manifest_file (manifest_path (row_folder registry row)) files
-  agreeing (manifest_path (row_folder registry row)) port row.version m
+  same ← agreeing (manifest_path (row_folder registry row)) port row.version m
+  Ok m
 
 abbrev pub page_row : List ℕ → Path → Files → Row → plain.Row Tree
 page_row port registry files row = record { version = row.version; manifest = row_manifest port registry row files }

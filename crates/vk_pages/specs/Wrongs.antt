@@ -2,7 +2,7 @@
 use Rattle.std.specs.Prelude.{false, ℕ, List, [], Result, Ok, Err}
 use Rattle.vk_spec.specs.Paths.{Path}
 use Rattle.vk_spec.specs.Files.{Files}
-use Rattle.vk_spec.specs.Reading.{◌>>=◌, or_fault}
+use Rattle.vk_spec.specs.Reading.{or_fault}
 use Rattle.vk_spec.specs.Versions.{Version}
 use Rattle.vk_spec.specs.Manifests.{Manifest}
 use Rattle.vk_spec.specs.Pages.{Wrong, bad_file}
@@ -21,12 +21,16 @@ abbrev pub or_wrong : {A : Type 0} → Result A Bad → Result A Wrong
 or_wrong (Ok x) = Ok x
 or_wrong (Err bad) = Err (wrong_of bad)
 
+-- what the file at a path means, or what is wrong with it
+abbrev pub file_or_wrong : {A : Type 0} → (List ℕ → Result A Fault) → Path → Files → Result A Wrong
+file_or_wrong reading path files = or_wrong (file_at reading path files)
+
 -- a port's manifest, by its bytes
 abbrev pub port_manifest : List ℕ → Result (Manifest Tree) Fault
 port_manifest bytes = manifest_of bytes false
 
 abbrev pub manifest_file : Path → Files → Result (Manifest Tree) Wrong
-manifest_file path files = or_wrong (file_at port_manifest path files)
+manifest_file path files = file_or_wrong port_manifest path files
 
 -- the version of a port's manifest; every port's has one
 abbrev pub version_in : Path → Manifest Tree → Result Version Wrong

@@ -1,10 +1,25 @@
+//! What is known of a project's ports, and where the versions of one are.
+ghost use Rattle.vk_catalogue.specs.Views.{wrong_view};
+ghost use Rattle.vk_files.specs.Views.{held};
+ghost use Rattle.vk_files.specs.Readings.{ReadsNoting};
+ghost use Rattle.vk_pages.specs.Homes.{home_of};
+ghost use Rattle.vk_pages.specs.BaselineNotes.{AreBaselines};
+ghost use Rattle.vk_pages.specs.HomeViews.{home_view, layout_view};
+ghost use Rattle.vk_pages.specs.NoteViews.{notes_of};
+
+use crate::baselines::Baselines;
+use crate::overlays::{home_in, overlay_for};
+use crate::registries::registry_home;
+use std::alloc::Global;
 use std::rc::Rc;
-use vk_base::{List, TreePath};
-use vk_catalogue::Given;
+use vk_base::{List, PortName, TreePath};
+use vk_catalogue::{Given, Wrong};
 use vk_config::Config;
+use vk_files::{FileCache, Stop};
 use vk_model::{Manifest, Override};
 use vk_opening::Overlay;
 use vk_registry::Table;
+use vk_tree::Tree;
 use vk_version::Version;
 
 /// What is known of a project before any port is looked at: a start without the files that were
@@ -42,4 +57,23 @@ pub enum Home {
         /// Its versions.
         table: Table,
     },
+}
+
+/// Where the versions of a port are: in the first overlay that has it, or else in the registry that
+/// serves it, where an override counts before the baseline. `Refused` has the first thing that is
+/// wrong. A file that was read before isn't read again.
+pub fn home_of<T: Tree>(
+    alloc: Global,
+    layout: &Layout,
+    files: &mut FileCache,
+    baselines: &mut Baselines,
+    tree: &mut T,
+    port: &PortName,
+) -> Result<Home, Stop<Wrong>>
+    ensures { ReadsNoting wrong_view home_view result (home_of (layout_view layout.now) port.now) (AreBaselines (layout_view layout.now) (notes_of baselines.old)) (AreBaselines (layout_view layout.now) (notes_of baselines.new)) (held files.old (T.state tree.old)) (held files.new (T.state tree.new)) }
+{
+    match overlay_for(alloc, layout.overlays.as_slice(), files, tree, port)? {
+        Some(overlay) => home_in(alloc, files, tree, overlay, port),
+        None => registry_home(alloc, layout, files, baselines, tree, port),
+    }
 }

@@ -1,6 +1,19 @@
-//! What the files of a project say of a port.
+//! What the files of a project say of a port: where its versions are, what is given for it, and the
+//! manifest of each version. It promises upwards that an answer is what the port's page says, and
+//! that a baseline is read once.
 #![tactic(auto)]
 
+mod agreement;
+mod baselines;
+mod contents;
 mod homes;
+mod overlays;
+mod paths;
+mod registries;
+mod served;
 
-pub use homes::{Home, Layout};
+pub use agreement::agree;
+pub use baselines::Baselines;
+pub use contents::{NamedBaseline, PortManifest, PortTable, content, wrong_of};
+pub use homes::{Home, Layout, home_of};
+pub use paths::{baseline_path, from_folder, manifest_path, row_folder, table_path};

@@ -1,0 +1,8 @@
+use Rattle.vk_files.proofs.ReadMore.{reads_wanting}
+use Rattle.vk_pages.proofs.overlays.holds_port.Goals as goal
+
+pub returns-in_err-folder : goal.returns-in_err-folder
+returns-in_err-folder g c = reads_wanting c.from_residual.ensures.1
+
+pub returns-in_err-path : goal.returns-in_err-path
+returns-in_err-path g c = reads_wanting c.from_residual-in_err-path.ensures.1

@@ -1,0 +1,8 @@
+use Rattle.vk_files.specs.Views.{held}
+use Rattle.vk_files.proofs.FirstLemmas.{NoneYet}
+use Rattle.vk_opening.specs.Views.{overlay_view}
+use Rattle.vk_pages.specs.Homes.{has_port}
+use Rattle.vk_pages.proofs.overlays.overlay_for.Given as goal
+
+abbrev pub invariant-loop-overlay : goal.invariant-loop-overlay
+invariant-loop-overlay g l = NoneYet overlay_view (has_port l.port) l.overlay-index l.overlays (held l.initial.files (g.T.Tree.state l.initial.tree)) (held l.files (g.T.Tree.state l.tree))

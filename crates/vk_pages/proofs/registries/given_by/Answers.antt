@@ -1,0 +1,13 @@
+use Rattle.std.specs.Prelude.{Ok}
+use Rattle.vk_catalogue.specs.Views.{wrong_view, given_view}
+use Rattle.vk_files.proofs.NotingLemmas.{noting_pure}
+use Rattle.vk_spec.specs.Pages.{override}
+use Rattle.vk_version.specs.AskViews.{ask_view}
+use Rattle.vk_pages.specs.BaselineNotes.{AreBaselines}
+use Rattle.vk_pages.specs.NoteViews.{notes_of}
+use Rattle.vk_pages.proofs.registries.given_by.Goals as goal
+
+pub returns-in-Some : goal.returns-in-Some
+returns-in-Some g c = λ start is.
+    let known = AreBaselines start (notes_of c.args.baselines.now) in
+    rw c.in-Some.is (noting_pure wrong_view given_view c.override_given.result (λ f. Ok (override (ask_view c.in-Some.ask.now))) known known _ c.override_given.ensures.calm (λ f old right. (right, c.override_given.ensures.told)))

@@ -1,0 +1,30 @@
+use Rattle.std.proofs.Common.{refl}
+use Rattle.std.specs.Prelude.{Ok, Err}
+use Rattle.std.proofs.lemmas.Result.{err_from_is_err_and}
+use Rattle.vk_catalogue.specs.Views.{wrong_view}
+use Rattle.vk_files.specs.StopViews.{refusal_in}
+use Rattle.vk_files.proofs.NotingLemmas.{noting_pure, noting_then}
+use Rattle.vk_files.proofs.ReadLemmas.{fails_on}
+use Rattle.vk_pages.specs.BaselineNotes.{AreBaselines}
+use Rattle.vk_pages.specs.Homes.{override_for, served_for, served_home, registry_home}
+use Rattle.vk_pages.specs.HomeViews.{home_view, layout_view, served_view}
+use Rattle.vk_pages.specs.NoteViews.{notes_of}
+use Rattle.vk_pages.proofs.registries.registry_home.Goals as goal
+
+pub returns-in_err-served : goal.returns-in_err-served
+unfolding registry_home
+returns-in_err-served g c =
+    let l = layout_view c.args.layout.now in
+    let known = AreBaselines l (notes_of c.args.baselines.now) in
+    let p = err_from_is_err_and c.from_residual.result c.from_residual.ensures.1 in
+    rw (p.1, p.2) (noting_pure wrong_view home_view (Err c.in_err-served.field-0.0) (registry_home l c.args.port.now) known known _ c.in_err-served.ensures.calm
+        (λ f old right. (right, fails_on (refusal_in wrong_view c.in_err-served.field-0.0) _ (λ served. served_home (override_for l.overrides c.args.port.now) served c.args.port.now f) c.in_err-served.ensures.told)))
+
+pub returns : goal.returns
+unfolding registry_home
+returns g c =
+    let l = layout_view c.args.layout.now in
+    let known = AreBaselines l (notes_of c.args.baselines.now) in
+    noting_then (λ served f. served_home (override_for l.overrides c.args.port.now) served c.args.port.now f)
+    (noting_pure wrong_view served_view (Ok c.in_ok-served.served) (λ f. served_for l c.args.port.now) known known _ refl (λ f old right. (right, c.in_ok-served.ensures.told)))
+    (rw (c.override_for-set.ensures, c.as_slice.ensures) at c.served_home.ensures l c.in_ok-served.ensures.place)

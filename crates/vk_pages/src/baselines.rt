@@ -1,0 +1,165 @@
+//! The baselines that were read, so that each file is read and parsed once.
+ghost use Rattle.std.specs.Prelude.{◌≡◌, ◌<◌, ◌++◌, ◌∷◌, [], List, Result, Ok, None, IsSome, OnOk, false, option_map};
+ghost use Rattle.std.specs.Option.{option_copied};
+ghost use Rattle.indexmap.specs.IndexMap.{spare};
+ghost use Rattle.vk_spec.specs.Reading.{Gives, Fails};
+ghost use Rattle.vk_registry.specs.Baselines.{Entry};
+ghost use Rattle.vk_catalogue.specs.Views.{wrong_view, given_view};
+ghost use Rattle.vk_files.specs.Views.{held};
+ghost use Rattle.vk_files.specs.StopViews.{refusal_in, is_tree_failed, has_tree_failed};
+ghost use Rattle.vk_files.specs.Readings.{Bad, bad_view, ReadsAs, ReadsNoting};
+ghost use Rattle.vk_opening.specs.Starts as plain;
+ghost use Rattle.vk_pages.specs.Homes.{served_at, baseline_file, baseline_given, baseline_for};
+ghost use Rattle.vk_pages.specs.BaselineNotes.{AreBaselines, note_at, nothing_said};
+ghost use Rattle.vk_pages.specs.HomeViews.{served_view};
+ghost use Rattle.vk_pages.specs.NoteViews.{read_view, notes_of};
+
+use crate::contents::{NamedBaseline, wrong_of};
+use crate::paths::baseline_path;
+use crate::served::Served;
+use indexmap::IndexMap;
+use std::alloc::Global;
+use vk_base::PortName;
+use vk_catalogue::{Given, Wrong};
+use vk_files::{BadFile, FileCache, Stop, read_file};
+use vk_registry::{Baseline, baseline_of};
+use vk_tree::Tree;
+
+/// The baselines that were read, a bad one too, by the places of their registries in the
+/// configuration.
+#[derive(Drop)]
+pub struct Baselines {
+    read: IndexMap<usize, Result<Baseline, BadFile>>,
+}
+
+// A stop, which at a bad file is none.
+fn or_bad(stop: Stop<BadFile>) -> Result<Result<Baseline, BadFile>, Stop<Wrong>>
+    ensures told { (meaning : Result (List Entry) Bad) → Fails (refusal_in bad_view stop) meaning → Gives read_view (refusal_in wrong_view) result (Ok meaning) }
+    ensures failed { has_tree_failed result ≡ is_tree_failed stop }
+{
+    match stop {
+        Stop::Refused(bad) => Ok(Err(bad)),
+        Stop::TreeFailed => Err(Stop::TreeFailed),
+        Stop::Memory => Err(Stop::Memory),
+    }
+}
+
+// The baseline of a registry, or its bad file.
+fn read_baseline<T: Tree>(
+    alloc: Global,
+    files: &mut FileCache,
+    tree: &mut T,
+    served: &Served,
+) -> Result<Result<Baseline, BadFile>, Stop<Wrong>>
+    ensures { ReadsAs wrong_view read_view result (λ f. Ok (baseline_file (served_view served.now) f)) (held files.old (T.state tree.old)) (held files.new (T.state tree.new)) }
+{
+    let path = baseline_path(alloc, &served.folder)?;
+    let reader = NamedBaseline {
+        name: served.baseline,
+    };
+    match read_file(alloc, files, tree, &path, &reader) {
+        Ok(baseline) => Ok(Ok(baseline)),
+        Err(stop) => or_bad(stop),
+    }
+}
+
+// What a baseline has for a port.
+fn given_by_baseline(baseline: &Baseline, port: &PortName) -> Result<Given, Stop<Wrong>>
+    ensures told { Gives given_view (refusal_in wrong_view) result (baseline_given port.now (Ok baseline.now)) }
+    ensures calm { has_tree_failed result ≡ false }
+{
+    match baseline_of(baseline, port) {
+        Some(ask) => Ok(Given::Baseline(ask.clone()?)),
+        None => Err(Stop::Refused(Wrong::NoBaseline)),
+    }
+}
+
+// What a baseline that was read has for a port, or what is wrong with its file.
+fn given_in(read: &Result<Baseline, BadFile>, port: &PortName) -> Result<Given, Stop<Wrong>>
+    ensures told { Gives given_view (refusal_in wrong_view) result (baseline_given port.now (read_view read.now)) }
+    ensures calm { has_tree_failed result ≡ false }
+{
+    match read {
+        Ok(baseline) => given_by_baseline(baseline, port),
+        Err(bad) => Err(Stop::Refused(wrong_of(bad.clone()?))),
+    }
+}
+
+impl Baselines {
+    /// None was read yet. Takes no memory.
+    pub fn new(alloc: Global) -> Baselines
+        ensures { notes_of result ≡ [] }
+    {
+        Baselines {
+            read: IndexMap::new(alloc),
+        }
+    }
+
+    // Keeps what was read of a registry of which nothing is kept, and for which there is room.
+    fn keep(&mut self, place: usize, read: Result<Baseline, BadFile>)
+        requires room { 0 < spare self.old.read }
+        requires new { note_at place (notes_of self.old) ≡ None }
+        ensures { notes_of self.new ≡ notes_of self.old ++ (place, read_view read) ∷ [] }
+    {
+        let _ = self.read.insert(place, read);
+    }
+
+    // Reads the baseline of a registry that wasn't looked at yet. The room for it is taken first, so
+    // that nothing that was read is forgotten.
+    fn note<T: Tree>(
+        &mut self,
+        alloc: Global,
+        files: &mut FileCache,
+        tree: &mut T,
+        served: &Served,
+    ) -> Result<(), Stop<Wrong>>
+        requires { note_at served.now.place (notes_of self.old) ≡ None }
+        ensures noted { (start : plain.Start) → served_at start served.now.place ≡ Ok (served_view served.now) → ReadsNoting wrong_view (λ done. tt) result nothing_said (AreBaselines start (notes_of self.old)) (AreBaselines start (notes_of self.new)) (held files.old (T.state tree.old)) (held files.new (T.state tree.new)) }
+        ensures there { OnOk result (IsSome (note_at served.now.place (notes_of self.new))) }
+    {
+        self.read.reserve(1)?;
+        let read = read_baseline(alloc, files, tree, served)?;
+        self.keep(served.place, read);
+        Ok(())
+    }
+
+    // Reads the baseline of a registry, unless it was read before.
+    fn look<T: Tree>(
+        &mut self,
+        alloc: Global,
+        files: &mut FileCache,
+        tree: &mut T,
+        served: &Served,
+    ) -> Result<(), Stop<Wrong>>
+        ensures noted { (start : plain.Start) → served_at start served.now.place ≡ Ok (served_view served.now) → ReadsNoting wrong_view (λ done. tt) result nothing_said (AreBaselines start (notes_of self.old)) (AreBaselines start (notes_of self.new)) (held files.old (T.state tree.old)) (held files.new (T.state tree.new)) }
+        ensures there { OnOk result (IsSome (note_at served.now.place (notes_of self.new))) }
+    {
+        if self.read.contains_key(&served.place) {
+            return Ok(());
+        }
+        self.note(alloc, files, tree, served)
+    }
+
+    // What was read of a registry; `None` exactly where it wasn't looked at.
+    fn get(&self, place: usize) -> Option<&Result<Baseline, BadFile>>
+        ensures { option_map read_view (option_copied result) ≡ note_at place (notes_of self.now) }
+    {
+        self.read.get(&place)
+    }
+
+    /// What a registry's baseline has for a port. `Refused` says that it has nothing, or what is
+    /// wrong with its file.
+    pub fn given<T: Tree>(
+        &mut self,
+        alloc: Global,
+        files: &mut FileCache,
+        tree: &mut T,
+        served: &Served,
+        port: &PortName,
+    ) -> Result<Given, Stop<Wrong>>
+        ensures { (start : plain.Start) → served_at start served.now.place ≡ Ok (served_view served.now) → ReadsNoting wrong_view given_view result (baseline_for (served_view served.now) port.now) (AreBaselines start (notes_of self.old)) (AreBaselines start (notes_of self.new)) (held files.old (T.state tree.old)) (held files.new (T.state tree.new)) }
+    {
+        self.look(alloc, files, tree, served)?;
+        given_in(self.get(served.place).unwrap(), port)
+    }
+}

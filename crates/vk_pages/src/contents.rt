@@ -1,0 +1,142 @@
+//! What files of ports and registries mean, or what is wrong with them.
+ghost use Rattle.std.specs.Prelude.{◌≡◌, Ok, List, option_map};
+ghost use Rattle.vk_spec.specs.Manifests as plain;
+ghost use Rattle.vk_expr.specs.Trees as trees;
+ghost use Rattle.vk_model.specs.Views.{manifest_view};
+ghost use Rattle.vk_registry.specs.Baselines as plain_baseline;
+ghost use Rattle.vk_registry.specs.Baselines.{baseline_by};
+ghost use Rattle.vk_registry.specs.Tables as plain_table;
+ghost use Rattle.vk_registry.specs.Tables.{table_of};
+ghost use Rattle.vk_catalogue.specs.Views.{wrong_view};
+ghost use Rattle.vk_files.specs.Views.{held};
+ghost use Rattle.vk_files.specs.StopViews.{refusal_in, is_tree_failed};
+ghost use Rattle.vk_files.specs.Readings.{ReadsAs, bad_view};
+ghost use Rattle.vk_pages.specs.Wrongs.{wrong_of, file_or_wrong, port_manifest};
+ghost use Rattle.vk_files.specs.StandingViews.{standing_view};
+ghost use Rattle.vk_pages.specs.Homes.{is_there, stands};
+
+use std::alloc::Global;
+use vk_base::{Text, TreePath};
+use vk_catalogue::Wrong;
+use vk_files::{BadFile, FileCache, FileReader, Standing, Stop, file_standing, read_file};
+use vk_json::FileFault;
+use vk_manifest::read_manifest;
+use vk_model::Manifest;
+use vk_registry::{Baseline, Table, read_baseline, read_table};
+use vk_tree::Tree;
+
+/// Reads a port's manifest, which needs a name and a version.
+#[derive(Drop)]
+pub struct PortManifest;
+
+impl FileReader for PortManifest {
+    type Out = Manifest;
+
+    ghost Plain = { plain.Manifest trees.Tree };
+
+    ghost plain = { manifest_view };
+
+    ghost reads = { λ r. port_manifest };
+
+    fn read(&self, alloc: Global, bytes: &[u8]) -> Result<Manifest, FileFault> {
+        read_manifest(alloc, bytes, false)
+    }
+}
+
+/// Reads the baseline of this name in a baseline file.
+#[derive(Drop)]
+pub struct NamedBaseline<'a> {
+    /// The name of the baseline that counts.
+    pub name: &'a Text,
+}
+
+impl<'a> FileReader for NamedBaseline<'a> {
+    type Out = Baseline;
+
+    ghost Plain = { List plain_baseline.Entry };
+
+    ghost plain = { λ b. b };
+
+    ghost reads = { λ r. baseline_by r.name.now };
+
+    fn read(&self, alloc: Global, bytes: &[u8]) -> Result<Baseline, FileFault> {
+        read_baseline(alloc, bytes, self.name.as_str())
+    }
+}
+
+/// Reads a port's versions file.
+#[derive(Drop)]
+pub struct PortTable;
+
+impl FileReader for PortTable {
+    type Out = Table;
+
+    ghost Plain = { List plain_table.Row };
+
+    ghost plain = { λ t. t };
+
+    ghost reads = { λ r. table_of };
+
+    fn read(&self, alloc: Global, bytes: &[u8]) -> Result<Table, FileFault> {
+        read_table(alloc, bytes)
+    }
+}
+
+/// A file that isn't as it has to be, as what is wrong with a port.
+pub fn wrong_of(bad: BadFile) -> Wrong
+    ensures { wrong_view result ≡ wrong_of (bad_view bad) }
+{
+    let BadFile { path, place, why } = bad;
+    Wrong::BadFile { path, place, why }
+}
+
+// A stop at such a file, as a stop at what is wrong.
+fn at_wrong(stop: Stop<BadFile>) -> Stop<Wrong>
+    ensures told { refusal_in wrong_view result ≡ option_map wrong_of (refusal_in bad_view stop) }
+    ensures failed { is_tree_failed result ≡ is_tree_failed stop }
+{
+    match stop {
+        Stop::Refused(bad) => Stop::Refused(wrong_of(bad)),
+        Stop::TreeFailed => Stop::TreeFailed,
+        Stop::Memory => Stop::Memory,
+    }
+}
+
+/// What the file at a path means to a reader. `Refused` has what is wrong with the file.
+pub fn content<T: Tree, R: FileReader>(
+    alloc: Global,
+    files: &mut FileCache,
+    tree: &mut T,
+    path: &TreePath,
+    reader: &R,
+) -> Result<R::Out, Stop<Wrong>>
+    ensures { ReadsAs wrong_view R.plain result (file_or_wrong (R.reads reader.now) path.now) (held files.old (T.state tree.old)) (held files.new (T.state tree.new)) }
+{
+    match read_file(alloc, files, tree, path, reader) {
+        Ok(out) => Ok(out),
+        Err(stop) => Err(at_wrong(stop)),
+    }
+}
+
+fn is_there(standing: Standing) -> bool
+    ensures { result ≡ is_there (standing_view standing) }
+{
+    match standing {
+        Standing::Missing => false,
+        Standing::TooLong | Standing::Readable => true,
+    }
+}
+
+/// Whether a file stands at a path, whatever is in it. It refuses nothing.
+pub fn stands<T: Tree>(
+    files: &mut FileCache,
+    tree: &mut T,
+    path: &TreePath,
+) -> Result<bool, Stop<Wrong>>
+    ensures { ReadsAs wrong_view (λ b. b) result (λ f. Ok (stands path.now f)) (held files.old (T.state tree.old)) (held files.new (T.state tree.new)) }
+{
+    match file_standing(files, tree, path) {
+        Ok(standing) => Ok(is_there(standing)),
+        Err(stop) => Err(at_wrong(stop)),
+    }
+}

@@ -1,0 +1,164 @@
+//! The overlays of a project, and a port in one.
+ghost use Rattle.std.specs.Prelude.{◌≡◌, Ok, false, map, option_map};
+ghost use Rattle.vk_spec.specs.Reading.{Gives};
+ghost use Rattle.vk_model.specs.Views.{manifest_view};
+ghost use Rattle.vk_catalogue.specs.Views.{wrong_view};
+ghost use Rattle.vk_files.specs.Views.{held};
+ghost use Rattle.vk_files.specs.StopViews.{refusal_in, has_tree_failed};
+ghost use Rattle.vk_files.specs.Readings.{ReadsAs};
+ghost use Rattle.vk_opening.specs.Projects.{manifest_path};
+ghost use Rattle.vk_opening.specs.Views.{overlay_view};
+ghost use Rattle.vk_pages.specs.Homes.{is_named, stands, port_folder, has_port, overlay_for, overlay_home, named_home, folder_home, home_in};
+ghost use Rattle.vk_pages.specs.HomeViews.{home_view};
+
+use crate::agreement::{named, version_in};
+use crate::contents::{PortManifest, content, stands};
+use crate::homes::Home;
+use crate::paths::{manifest_path, port_folder};
+use std::alloc::Global;
+use std::rc::Rc;
+use vk_base::{PortName, TreePath};
+use vk_catalogue::Wrong;
+use vk_files::{FileCache, Stop};
+use vk_model::Manifest;
+use vk_opening::Overlay;
+use vk_tree::Tree;
+
+fn is_named(manifest: &Manifest, port: &PortName) -> bool
+    ensures { result ≡ is_named port.now (manifest_view manifest.now).name }
+{
+    match &manifest.name {
+        Some(name) => port.as_str() == name.as_str(),
+        None => false,
+    }
+}
+
+// Whether a folder of ports has this one.
+fn holds_port<T: Tree>(
+    alloc: Global,
+    files: &mut FileCache,
+    tree: &mut T,
+    folder: &TreePath,
+    port: &PortName,
+) -> Result<bool, Stop<Wrong>>
+    ensures { ReadsAs wrong_view (λ b. b) result (λ f. Ok (stands (manifest_path (port_folder folder.now port.now)) f)) (held files.old (T.state tree.old)) (held files.new (T.state tree.new)) }
+{
+    let folder = port_folder(alloc, folder, port)?;
+    let path = manifest_path(alloc, &folder)?;
+    stands(files, tree, &path)
+}
+
+fn has_port<T: Tree>(
+    alloc: Global,
+    files: &mut FileCache,
+    tree: &mut T,
+    overlay: &Overlay,
+    port: &PortName,
+) -> Result<bool, Stop<Wrong>>
+    ensures { ReadsAs wrong_view (λ b. b) result (λ f. Ok (has_port port.now f (overlay_view overlay.now))) (held files.old (T.state tree.old)) (held files.new (T.state tree.new)) }
+{
+    match overlay {
+        Overlay::Port(_, manifest) => Ok(is_named(manifest, port)),
+        Overlay::Ports(folder) => holds_port(alloc, files, tree, folder, port),
+    }
+}
+
+/// The first overlay that has a port; `None` exactly where none has it. It refuses nothing.
+pub fn overlay_for<'a, T: Tree>(
+    alloc: Global,
+    overlays: &'a [Overlay],
+    files: &mut FileCache,
+    tree: &mut T,
+    port: &PortName,
+) -> Result<Option<&'a Overlay>, Stop<Wrong>>
+    ensures { ReadsAs wrong_view (option_map (λ o. overlay_view o.now)) result (λ f. Ok (overlay_for (map overlay_view overlays.now) port.now f)) (held files.old (T.state tree.old)) (held files.new (T.state tree.new)) }
+{
+    for overlay in overlays {
+        if has_port(alloc, files, tree, overlay, port)? {
+            return Ok(Some(overlay));
+        }
+    }
+    Ok(None)
+}
+
+// The port that a folder is, with the version of its manifest.
+#[tactic(auto, unfolding(crate::specs::Homes::overlay_home))]
+fn overlay_home(
+    alloc: Global,
+    folder: TreePath,
+    manifest: Rc<Manifest>,
+) -> Result<Home, Stop<Wrong>>
+    ensures told { Gives home_view (refusal_in wrong_view) result (overlay_home folder (manifest_view manifest.value)) }
+    ensures calm { has_tree_failed result ≡ false }
+{
+    let path = manifest_path(alloc, &folder)?;
+    let version = version_in(alloc, &path, &manifest)?.clone()?;
+    Ok(Home::Overlay {
+        folder,
+        version,
+        manifest,
+    })
+}
+
+// The same of a folder and a manifest that are lent.
+fn port_home(
+    alloc: Global,
+    folder: &TreePath,
+    manifest: &Rc<Manifest>,
+) -> Result<Home, Stop<Wrong>>
+    ensures told { Gives home_view (refusal_in wrong_view) result (overlay_home folder.now (manifest_view manifest.now.value)) }
+    ensures calm { has_tree_failed result ≡ false }
+{
+    overlay_home(alloc, folder.clone()?, manifest.clone()?)
+}
+
+// The same of a manifest that has to have the port's name.
+#[tactic(auto, unfolding(crate::specs::Homes::named_home))]
+fn named_home(
+    alloc: Global,
+    path: &TreePath,
+    folder: TreePath,
+    manifest: Manifest,
+    port: &PortName,
+) -> Result<Home, Stop<Wrong>>
+    requires { path.now ≡ manifest_path folder }
+    ensures told { Gives home_view (refusal_in wrong_view) result (named_home port.now folder (manifest_view manifest)) }
+    ensures calm { has_tree_failed result ≡ false }
+{
+    named(alloc, path, port, &manifest)?;
+    overlay_home(alloc, folder, Rc::new(alloc, manifest)?)
+}
+
+// A port in its folder of an overlay.
+fn folder_home<T: Tree>(
+    alloc: Global,
+    files: &mut FileCache,
+    tree: &mut T,
+    folder: TreePath,
+    port: &PortName,
+) -> Result<Home, Stop<Wrong>>
+    ensures { ReadsAs wrong_view home_view result (folder_home port.now folder) (held files.old (T.state tree.old)) (held files.new (T.state tree.new)) }
+{
+    let path = manifest_path(alloc, &folder)?;
+    let manifest = content(alloc, files, tree, &path, &PortManifest)?;
+    named_home(alloc, &path, folder, manifest, port)
+}
+
+/// The home of a port that an overlay has. `Refused` has what is wrong with its manifest.
+pub fn home_in<T: Tree>(
+    alloc: Global,
+    files: &mut FileCache,
+    tree: &mut T,
+    overlay: &Overlay,
+    port: &PortName,
+) -> Result<Home, Stop<Wrong>>
+    ensures { ReadsAs wrong_view home_view result (home_in (overlay_view overlay.now) port.now) (held files.old (T.state tree.old)) (held files.new (T.state tree.new)) }
+{
+    match overlay {
+        Overlay::Port(folder, manifest) => port_home(alloc, folder, manifest),
+        Overlay::Ports(folder) => {
+            let folder = port_folder(alloc, folder, port)?;
+            folder_home(alloc, files, tree, folder, port)
+        }
+    }
+}

@@ -1,0 +1,97 @@
+//! Where the files of registries and ports stand.
+ghost use Rattle.std.specs.Prelude.{◌≡◌, ◌++◌, ◌∷◌, [], IfOk, None, true, take, codes};
+ghost use Rattle.vk_base.specs.Names.{name_fault, port_rule};
+ghost use Rattle.vk_base.specs.Paths.{is_part, joined};
+ghost use Rattle.vk_opening.specs.Projects.{manifest_path};
+ghost use Rattle.vk_registry.specs.TableViews.{row_view};
+ghost use Rattle.vk_pages.specs.RegistryFiles.{baseline_path, table_path};
+ghost use Rattle.vk_pages.specs.Homes.{port_folder};
+ghost use Rattle.vk_pages.specs.Pages.{row_folder};
+
+use std::alloc::Global;
+use vk_base::{Memory, PortName, Text, TreePath};
+use vk_registry::Row;
+
+/// A path that is taken from a folder. A path with more steps up than 32 bits count is told as want
+/// of memory.
+pub fn from_folder(alloc: Global, folder: &TreePath, path: &TreePath) -> Result<TreePath, Memory>
+    ensures { IfOk result (λ p. p ≡ joined folder.now path.now) }
+{
+    match folder.steps_up().checked_add(path.steps_up()) {
+        Some(_) => folder.join(alloc, path),
+        None => Err(Memory),
+    }
+}
+
+/// The manifest in a folder.
+pub fn manifest_path(alloc: Global, folder: &TreePath) -> Result<TreePath, Memory>
+    ensures { IfOk result (λ p. p ≡ manifest_path folder.now) }
+{
+    folder.child(alloc, "vcpkg.json")
+}
+
+/// The folder of a port in a folder of ports.
+pub fn port_folder(alloc: Global, folder: &TreePath, port: &PortName) -> Result<TreePath, Memory>
+    ensures { IfOk result (λ p. p ≡ port_folder folder.now port.now) }
+{
+    folder.child(alloc, port.as_str())
+}
+
+/// The folder of a row of a registry's table.
+pub fn row_folder(alloc: Global, registry: &TreePath, row: &Row) -> Result<TreePath, Memory>
+    ensures { IfOk result (λ p. p ≡ row_folder registry.now (row_view row.now)) }
+{
+    from_folder(alloc, registry, &row.path)
+}
+
+fn versions_path(alloc: Global, registry: &TreePath) -> Result<TreePath, Memory>
+    ensures { IfOk result (λ p. p ≡ registry.now ++ codes "versions" ∷ []) }
+{
+    registry.child(alloc, "versions")
+}
+
+/// The baseline file of a registry.
+pub fn baseline_path(alloc: Global, registry: &TreePath) -> Result<TreePath, Memory>
+    ensures { IfOk result (λ p. p ≡ baseline_path registry.now) }
+{
+    versions_path(alloc, registry)?.child(alloc, "baseline.json")
+}
+
+// The folder of a port's versions file, named for its first byte.
+fn letter_name(alloc: Global, port: &PortName) -> Result<Text, Memory>
+    ensures name { IfOk result (λ t. t ≡ take 1 port.now ++ codes "-") }
+    ensures part { IfOk result (λ t. is_part t ≡ true) }
+{
+    let mut name = Text::new(alloc);
+    name.push_str(first_letter(port))?;
+    name.push_str("-")?;
+    Ok(name)
+}
+
+fn first_letter(port: &PortName) -> &str
+    ensures letter { result.now ≡ take 1 port.now }
+    ensures name { name_fault port_rule port.now ≡ None }
+{
+    let (first, _) = port.as_str().split_at(1);
+    first
+}
+
+// The name of a port's versions file.
+fn table_name(alloc: Global, port: &PortName) -> Result<Text, Memory>
+    ensures name { IfOk result (λ t. t ≡ port.now ++ codes ".json") }
+    ensures part { IfOk result (λ t. is_part t ≡ true) }
+{
+    let mut name = Text::from_str(alloc, port.as_str())?;
+    name.push_str(".json")?;
+    Ok(name)
+}
+
+/// The versions file of a port in a registry.
+pub fn table_path(alloc: Global, registry: &TreePath, port: &PortName) -> Result<TreePath, Memory>
+    ensures { IfOk result (λ p. p ≡ table_path port.now registry.now) }
+{
+    let letter = letter_name(alloc, port)?;
+    let name = table_name(alloc, port)?;
+    let folder = versions_path(alloc, registry)?.child(alloc, letter.as_str())?;
+    folder.child(alloc, name.as_str())
+}

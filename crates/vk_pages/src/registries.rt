@@ -1,0 +1,117 @@
+//! A port in the registry that serves it.
+ghost use Rattle.std.specs.Prelude.{◌≡◌, Ok, false, map, option_map};
+ghost use Rattle.vk_spec.specs.Reading.{Gives};
+ghost use Rattle.vk_spec.specs.Pages.{override};
+ghost use Rattle.vk_version.specs.AskViews.{ask_view};
+ghost use Rattle.vk_model.specs.Views.{override_view};
+ghost use Rattle.vk_catalogue.specs.Views.{wrong_view, given_view};
+ghost use Rattle.vk_files.specs.Views.{held};
+ghost use Rattle.vk_files.specs.StopViews.{refusal_in, has_tree_failed};
+ghost use Rattle.vk_files.specs.Readings.{ReadsAs, ReadsNoting};
+ghost use Rattle.vk_opening.specs.Starts as plain;
+ghost use Rattle.vk_pages.specs.Homes.{served_at, override_for, given_by, table_in, served_home, registry_home};
+ghost use Rattle.vk_pages.specs.BaselineNotes.{AreBaselines};
+ghost use Rattle.vk_pages.specs.HomeViews.{home_view, layout_view, served_view};
+ghost use Rattle.vk_pages.specs.NoteViews.{notes_of};
+
+use crate::baselines::Baselines;
+use crate::contents::{PortTable, content};
+use crate::homes::{Home, Layout};
+use crate::paths::table_path;
+use crate::served::{Served, served_for};
+use std::alloc::Global;
+use vk_base::PortName;
+use vk_catalogue::{Given, Wrong};
+use vk_files::{FileCache, Stop};
+use vk_model::Override;
+use vk_registry::Table;
+use vk_tree::Tree;
+use vk_version::Ask;
+
+// What the root manifest sets for a port.
+fn override_for<'a>(overrides: &'a [Override], port: &PortName) -> Option<&'a Ask>
+    ensures { option_map (λ a. ask_view a.now) result ≡ override_for (map override_view overrides.now) port.now }
+{
+    for one in overrides {
+        if one.name.as_str() == port.as_str() {
+            return Some(&one.ask);
+        }
+    }
+    None
+}
+
+fn override_given(ask: &Ask) -> Result<Given, Stop<Wrong>>
+    ensures told { Gives given_view (refusal_in wrong_view) result (Ok (override (ask_view ask.now))) }
+    ensures calm { has_tree_failed result ≡ false }
+{
+    Ok(Given::Override(ask.clone()?))
+}
+
+// What is given for a port: what is set for it, or what the registry's baseline has.
+fn given_by<T: Tree>(
+    alloc: Global,
+    set: Option<&Ask>,
+    served: &Served,
+    files: &mut FileCache,
+    baselines: &mut Baselines,
+    tree: &mut T,
+    port: &PortName,
+) -> Result<Given, Stop<Wrong>>
+    ensures { (start : plain.Start) → served_at start served.now.place ≡ Ok (served_view served.now) → ReadsNoting wrong_view given_view result (given_by (option_map (λ a. ask_view a.now) set.entry) (served_view served.now) port.now) (AreBaselines start (notes_of baselines.old)) (AreBaselines start (notes_of baselines.new)) (held files.old (T.state tree.old)) (held files.new (T.state tree.new)) }
+{
+    match set {
+        Some(ask) => override_given(ask),
+        None => baselines.given(alloc, files, tree, served, port),
+    }
+}
+
+fn table_in<T: Tree>(
+    alloc: Global,
+    served: &Served,
+    files: &mut FileCache,
+    tree: &mut T,
+    port: &PortName,
+) -> Result<Table, Stop<Wrong>>
+    ensures { ReadsAs wrong_view (λ t. t) result (table_in (served_view served.now) port.now) (held files.old (T.state tree.old)) (held files.new (T.state tree.new)) }
+{
+    let path = table_path(alloc, &served.folder, port)?;
+    content(alloc, files, tree, &path, &PortTable)
+}
+
+// A port in a registry, for which something may be set.
+fn served_home<T: Tree>(
+    alloc: Global,
+    set: Option<&Ask>,
+    served: Served,
+    files: &mut FileCache,
+    baselines: &mut Baselines,
+    tree: &mut T,
+    port: &PortName,
+) -> Result<Home, Stop<Wrong>>
+    ensures { (start : plain.Start) → served_at start served.entry.place ≡ Ok (served_view served.entry) → ReadsNoting wrong_view home_view result (served_home (option_map (λ a. ask_view a.now) set.entry) (served_view served.entry) port.now) (AreBaselines start (notes_of baselines.old)) (AreBaselines start (notes_of baselines.new)) (held files.old (T.state tree.old)) (held files.new (T.state tree.new)) }
+{
+    let given = given_by(alloc, set, &served, files, baselines, tree, port)?;
+    let table = table_in(alloc, &served, files, tree, port)?;
+    Ok(Home::Registry {
+        given,
+        folder: served.folder,
+        table,
+    })
+}
+
+/// The home of a port in the registry that serves it. `Refused` says that none does, that its
+/// baseline has nothing for the port, or which of the two files is wrong.
+pub fn registry_home<T: Tree>(
+    alloc: Global,
+    layout: &Layout,
+    files: &mut FileCache,
+    baselines: &mut Baselines,
+    tree: &mut T,
+    port: &PortName,
+) -> Result<Home, Stop<Wrong>>
+    ensures { ReadsNoting wrong_view home_view result (registry_home (layout_view layout.now) port.now) (AreBaselines (layout_view layout.now) (notes_of baselines.old)) (AreBaselines (layout_view layout.now) (notes_of baselines.new)) (held files.old (T.state tree.old)) (held files.new (T.state tree.new)) }
+{
+    let served = served_for(alloc, layout, port)?;
+    let set = override_for(layout.overrides.as_slice(), port);
+    served_home(alloc, set, served, files, baselines, tree, port)
+}

@@ -1,0 +1,80 @@
+//! The registry that serves a port.
+ghost use Rattle.std.specs.Prelude.{◌≡◌, Ok, Some, IfOk, false, option_map};
+ghost use Rattle.vk_spec.specs.Reading.{Gives};
+ghost use Rattle.vk_config.specs.Views.{config_view, source_view};
+ghost use Rattle.vk_catalogue.specs.Views.{wrong_view};
+ghost use Rattle.vk_files.specs.StopViews.{refusal_in, has_tree_failed};
+ghost use Rattle.vk_pages.specs.Homes.{source_at, served_by, served_at, served_for};
+ghost use Rattle.vk_pages.specs.HomeViews.{layout_view, served_view};
+
+use crate::homes::Layout;
+use crate::paths::from_folder;
+use std::alloc::Global;
+use vk_base::{PortName, Text, TreePath};
+use vk_catalogue::Wrong;
+use vk_config::{Config, Source, registry_of};
+use vk_files::Stop;
+
+/// A registry in a folder.
+#[derive(Drop)]
+pub struct Served<'a> {
+    /// Its place in the configuration.
+    pub place: usize,
+    /// The folder.
+    pub folder: TreePath,
+    /// The name of the baseline that counts.
+    pub baseline: &'a Text,
+}
+
+// The source at a place: their number is the default registry's.
+fn source_at(config: &Config, place: usize) -> Option<&Source>
+    ensures { option_map (λ s. source_view s.now) result ≡ source_at (config_view config.now) place }
+{
+    if place == config.registries.len() {
+        return config.default.as_ref();
+    }
+    match config.registries.get(place) {
+        Some(registry) => Some(&registry.source),
+        None => None,
+    }
+}
+
+// Where a registry is, by its source.
+fn served_by<'a>(
+    alloc: Global,
+    project: &TreePath,
+    place: usize,
+    source: &'a Source,
+) -> Result<Served<'a>, Stop<Wrong>>
+    ensures told { Gives served_view (refusal_in wrong_view) result (served_by project.now (Some (source_view source.now))) }
+    ensures place { IfOk result (λ s. s.place ≡ place) }
+    ensures calm { has_tree_failed result ≡ false }
+{
+    match source {
+        Source::Filesystem { path, baseline } => Ok(Served {
+            place,
+            folder: from_folder(alloc, project, path)?,
+            baseline,
+        }),
+        Source::Git | Source::Builtin | Source::Artifact => Err(Stop::Refused(Wrong::NoRegistry)),
+    }
+}
+
+/// The registry that serves a port. `Refused` says that none does.
+pub fn served_for<'a>(
+    alloc: Global,
+    layout: &'a Layout,
+    port: &PortName,
+) -> Result<Served<'a>, Stop<Wrong>>
+    ensures told { Gives served_view (refusal_in wrong_view) result (served_for (layout_view layout.now) port.now) }
+    ensures place { IfOk result (λ s. served_at (layout_view layout.now) s.place ≡ Ok (served_view s)) }
+    ensures calm { has_tree_failed result ≡ false }
+{
+    let Some(place) = registry_of(&layout.config, port) else {
+        return Err(Stop::Refused(Wrong::NoRegistry));
+    };
+    let Some(source) = source_at(&layout.config, place) else {
+        return Err(Stop::Refused(Wrong::NoRegistry));
+    };
+    served_by(alloc, &layout.folder, place, source)
+}

@@ -1,0 +1,85 @@
+-- Learning from files: one after the other, and what follows from what reading gives.
+use Rattle.std.proofs.Common.{◌≡◌, Bool, true, false, refl, ap, sym, subst, ◌∙◌}
+use Rattle.std.specs.Prelude.{Option, Some, None, IfSome, Result, Ok, Err, IfOk}
+use Rattle.vk_spec.specs.Files.{Files}
+use Rattle.vk_spec.specs.Reading.{◌>>=◌, Gives, Fails}
+use Rattle.vk_spec.specs.States.{Told}
+use Rattle.vk_spec.proofs.StateLemmas.{told_before}
+use Rattle.vk_catalogue.specs.Views.{or_wrong, wrong_view, cat_failed}
+use Rattle.vk_catalogue.specs.declared.wrongs.Wrong.{Wrong}
+use Rattle.vk_catalogue.specs.declared.stops.CatStop.{CatStop}
+use Rattle.vk_catalogue.specs.declared.stops.CatStop.TheVariants as cat
+use Rattle.vk_spec.specs.Pages as plain
+use Rattle.vk_files.specs.Kept.{paths_of, IsOf, Held, ReadOnce}
+use Rattle.vk_files.specs.StopViews.{refusal_in, has_tree_failed}
+use Rattle.vk_files.specs.Readings.{ReadsAs, ReadsNoting}
+use Rattle.vk_files.specs.declared.stops.Stop.{Stop}
+use Rattle.vk_files.specs.declared.stops.Stop.TheVariants as stop
+use Rattle.vk_files.proofs.OnceLemmas.{nothing_read, once_then}
+use Rattle.vk_files.proofs.ReadLemmas.{still_right}
+use Rattle.vk_files.proofs.ReadMore.{each_told, two_told}
+use Rattle.vk_world.specs.Learning.{Learns, SaysNothing, Means, settled}
+
+-- the last step of reading, which needs no file
+pub reads_last : {X Y Z F P : Type 0} {refusal : F → P} {view : X → Y} {x : X} {meaning : Files → Result Y P} {a b : Held} (next_view : Z → Y) (z : Z) → next_view z ≡ view x → ReadsAs refusal view (Ok x) meaning a b → ReadsAs refusal next_view (Ok z) meaning a b
+reads_last {meaning = meaning} {a = a} next_view z same one = record {
+  once = one.once;
+  content = two_told a.tree.told one.content one.content (λ t is _ old. is old ∙ ap Ok (sym same));
+}
+
+-- what reading gives is what is answered, also where it is refused
+settled_means : {X Y : Type 0} (view : X → Y) (answer : Result X (Stop Wrong)) (read : Result Y plain.Wrong) → Gives view (refusal_in wrong_view) answer read → IfOk (settled answer) (λ x. or_wrong view x ≡ read)
+settled_means view (Ok x) read gives = sym gives
+settled_means view (Err (stop.Refused wrong)) read gives = sym gives
+settled_means view (Err stop.TreeFailed) read gives = tt
+settled_means view (Err stop.Memory) read gives = tt
+
+settled_fails : {X F : Type 0} (answer : Result X (Stop F)) → cat_failed (settled answer) ≡ has_tree_failed answer
+settled_fails (Ok x) = refl
+settled_fails (Err (stop.Refused refusal)) = refl
+settled_fails (Err stop.TreeFailed) = refl
+settled_fails (Err stop.Memory) = refl
+
+pub learns_settled : {X Y : Type 0} {view : X → Y} {answer : Result X (Stop Wrong)} {meaning : Files → Result Y plain.Wrong} {Before After : Files → Type 0} {a b : Held} (result : Result (Result X Wrong) CatStop) → result ≡ settled answer
+    → ReadsNoting wrong_view view answer meaning Before After a b → Learns result (Means (or_wrong view) meaning) Before After a b
+learns_settled {view = view} {answer = answer} {meaning = meaning} {a = a} result is one = rw is (record {
+  once = rw (settled_fails answer) one.once;
+  content = two_told a.tree.told one.content one.content (λ t gives _ old before. let both = gives old before in (both.0, settled_means view answer (meaning t.files) both.1));
+})
+
+-- what needs no file
+pub learns_pure : {X : Type 0} (answer : Result X CatStop) (Says : Files → X → Type 0) (Before After : Files → Type 0) (h : Held) → cat_failed answer ≡ false
+    → ((f : Files) → Before f → After f × IfOk answer (Says f)) → Learns answer Says Before After h h
+learns_pure answer Says Before After h calm holds = record { once = rw calm (nothing_read h); content = each_told h.tree.told (λ t old. holds t.files) }
+
+-- want of memory
+pub learns_memory : {X : Type 0} (Says : Files → X → Type 0) (Known : Files → Type 0) (h : Held) → Learns (Err cat.Memory) Says Known Known h h
+learns_memory Says Known h = learns_pure (Err cat.Memory) Says Known Known h refl (λ f known. (known, tt))
+
+-- the same said in other words, where as much was known before
+pub learns_so : {X Z : Type 0} {answer : Result X CatStop} {Says : Files → X → Type 0} {Before After : Files → Type 0} {a b : Held} (other : Result Z CatStop) (OtherSays : Files → Z → Type 0) (OtherBefore OtherAfter : Files → Type 0)
+    → cat_failed other ≡ cat_failed answer → ((f : Files) → OtherBefore f → Before f) → ((f : Files) → OtherBefore f → After f → IfOk answer (Says f) → OtherAfter f × IfOk other (OtherSays f))
+    → Learns answer Says Before After a b → Learns other OtherSays OtherBefore OtherAfter a b
+learns_so {a = a} other OtherSays OtherBefore OtherAfter failed earlier later one = record {
+  once = rw failed one.once;
+  content = two_told a.tree.told one.content one.content (λ t holds _ old before. let both = holds old (earlier t.files before) in later t.files before both.0 both.1);
+}
+
+-- one after the other
+pub learns_then : {X Z : Type 0} {x : X} {answer : Result Z CatStop} {Says : Files → X → Type 0} {NextSays : Files → Z → Type 0} {Before Between After : Files → Type 0} {a b c : Held}
+    → Learns (Ok x) Says Before Between a b → Learns answer NextSays (λ f. Between f × Says f x) After b c → Learns answer NextSays Before After a c
+learns_then {x = x} {answer = answer} {Says = Says} {NextSays = NextSays} {Before = Before} {Between = Between} {After = After} {a = a} {b = b} first then = record {
+  once = once_then first.once then.once;
+  content = three a.tree.told (still_right first.once) first.content
+      (told_before (λ f. IsOf f b.kept → Between f × Says f x → After f × IfOk answer (NextSays f)) (record { asked = paths_of first.once.more; looks = first.once.looks }) then.content);
+}
+  where
+    three : (told : Option Told) → IfSome told (λ t. IsOf t.files a.kept → IsOf t.files b.kept) → IfSome told (λ t. IsOf t.files a.kept → Before t.files → Between t.files × Says t.files x)
+        → IfSome told (λ t. IsOf t.files b.kept → Between t.files × Says t.files x → After t.files × IfOk answer (NextSays t.files))
+        → IfSome told (λ t. IsOf t.files a.kept → Before t.files → After t.files × IfOk answer (NextSays t.files))
+    three None right one two = tt
+    three (Some t) right one two = λ old before. two (right old) (one old before)
+
+-- learning stopped, so nothing more was done
+pub learns_stopped : {X Z : Type 0} {s : CatStop} {Says : Files → X → Type 0} {Before After : Files → Type 0} {a b : Held} (NextSays : Files → Z → Type 0) → Learns {X = X} (Err s) Says Before After a b → Learns {X = Z} (Err s) NextSays Before After a b
+learns_stopped {s = s} {Before = Before} {After = After} NextSays one = learns_so (Err s) NextSays Before After refl (λ f before. before) (λ f before after says. (after, tt)) one

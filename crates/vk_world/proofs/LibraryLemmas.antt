@@ -1,0 +1,131 @@
+-- What a world learns of a port, by what was found for it.
+use Rattle.std.proofs.Common.{◌≡◌, ℕ, Bool, true, false, List, [], ◌∷◌, ◌++◌, refl, ap, sym, subst, ◌∙◌}
+use Rattle.std.specs.Prelude.{Option, Some, None, IsSome, option_map, Result, Ok, Err, IfOk, OnOk, OnErr, bytes_eq}
+use Rattle.std.proofs.lemmas.Slice.Eq.{bytes_eq-Decides}
+use Rattle.vk_spec.specs.Paths.{Path}
+use Rattle.vk_spec.specs.Files.{Files}
+use Rattle.vk_spec.specs.Versions as versions
+use Rattle.vk_spec.specs.Versions.{Ask}
+use Rattle.vk_spec.specs.Pages.{Given, overlay, override, baseline, version_in, manifest_in}
+use Rattle.vk_catalogue.specs.Views.{given_said, manifest_said, cat_failed}
+use Rattle.vk_catalogue.specs.declared.stops.CatStop.{CatStop}
+use Rattle.vk_catalogue.specs.declared.wrongs.Wrong.{Wrong}
+use Rattle.vk_catalogue.specs.declared.wrongs.Given as declared
+use Rattle.vk_model.specs.declared.manifests.Manifest.{Manifest}
+use Rattle.std.specs.declared.rc.Rc.{Rc}
+use Rattle.vk_version.specs.declared.versions.Version.{Version}
+use Rattle.vk_files.specs.Kept.{Held}
+use Rattle.vk_files.specs.Notes.{AreRight}
+use Rattle.vk_files.specs.declared.caches.FileCache.{FileCache}
+use Rattle.vk_files.proofs.NoteLemmas.{right_found}
+use Rattle.vk_opening.specs.Starts.{Start}
+use Rattle.vk_pages.specs.Homes.{in_overlay, in_registry, home_of}
+use Rattle.vk_pages.specs.HomeViews.{layout_view}
+use Rattle.vk_pages.specs.Pages.{page_at, page_of}
+use Rattle.vk_world.specs.Learning.{Learns, SaysNothing}
+use Rattle.vk_world.specs.KnownVersions.{folders_in}
+use Rattle.vk_world.specs.HomeNotes.{FoundHome, homes_in, home_noted, IsHomeOf, AreHomes}
+use Rattle.vk_world.specs.ManifestNotes.{AreManifests}
+use Rattle.vk_world.specs.Listed.{listed_in}
+use Rattle.vk_world.specs.Answered.{folders_given, folders_listed, given_in}
+use Rattle.vk_world.specs.ManifestAnswers.{IsManifestFor}
+use Rattle.vk_world.specs.Libraries.{start_of, StandsAt, IsFolderOf, IsRight, Stays, SaysGivenOf, SaysVersionOf, SaysManifestOf}
+use Rattle.vk_world.specs.declared.answered.PortVersion.{PortVersion}
+use Rattle.vk_world.specs.declared.answered.KnownVersions.{KnownVersions}
+use Rattle.vk_world.specs.declared.homes.Homes.{Homes}
+use Rattle.vk_world.specs.declared.manifests.Manifests.{Manifests}
+use Rattle.vk_world.specs.declared.libraries.Library.{Library}
+use Rattle.vk_world.proofs.LearnLemmas.{learns_pure, learns_then, learns_so}
+use Rattle.vk_world.proofs.ListedLemmas.{given_on_page, version_on_page, folder_of_listed, folder_of_own}
+use Rattle.vk_world.proofs.AnsweredLemmas.{right_with}
+use Rattle.vk_world.proofs.RegistryLemmas.{no_overlay}
+
+-- the home that was found is that of the files
+pub home_is : (start : Start) (homes : Homes) (files : Files) (port : List ℕ) (found : FoundHome) → AreHomes start homes files → home_noted port homes ≡ Some found → found ≡ home_of start port files
+home_is start homes files port found right noted = right_found (IsHomeOf start files) bytes_eq (λ x y e. (bytes_eq-Decides x y).0 e) (homes_in homes) port found right.found noted
+
+-- ---- what is given
+
+given_right : (start : Start) (files : Files) (port : List ℕ) (found : FoundHome) (folders : List (PortVersion × Path)) → found ≡ home_of start port files → AreRight (IsFolderOf start files) folders → AreRight (IsFolderOf start files) (folders_given port found folders)
+given_right start files port (Err wrong) folders is right = right
+given_right start files port (Ok (in_overlay folder v m)) folders is right = right_with (IsFolderOf start files) port v folder folders (record { home = in_overlay folder v m; found = sym is; stands = folder_of_own folder v m }) right
+given_right start files port (Ok (in_registry (overlay v) registry rows)) folders is right = absurd (no_overlay start port files v registry rows (sym is))
+given_right start files port (Ok (in_registry (override ask) registry rows)) folders is right = right
+given_right start files port (Ok (in_registry (baseline ask) registry rows)) folders is right = right
+
+given_says : (start : Start) (files : Files) (port : List ℕ) (found : FoundHome) (answer : Result (Result declared.Given Wrong) CatStop) (before after : List (PortVersion × Path)) → found ≡ home_of start port files
+    → IfOk answer (λ given. given_said given ≡ given_in found) → OnOk answer (after ≡ folders_given port found before) → OnErr answer (after ≡ before)
+    → AreRight (IsFolderOf start files) before → AreRight (IsFolderOf start files) after × IfOk answer (SaysGivenOf start port files)
+given_says start files port found (Ok given) before after is told ok err right = (
+  subst (AreRight (IsFolderOf start files)) (sym ok) (given_right start files port found before is right),
+  told ∙ sym (given_on_page port files found) ∙ ap (λ h. (page_at port files h).given) is,
+)
+given_says start files port found (Err stop) before after is told ok err right = (subst (AreRight (IsFolderOf start files)) (sym err) right, tt)
+
+start_stays : {before after : Library} → Stays before after → start_of after ≡ start_of before
+start_stays s = ap layout_view s.layout
+
+pub given_learned : {lib mid : Library} {port : List ℕ} {answer : Result (Result declared.Given Wrong) CatStop} {a b : Held} (known : KnownVersions) (found : FoundHome)
+    → Learns (Ok tt) SaysNothing (IsRight lib) (IsRight mid) a b → Stays lib mid → home_noted port mid.homes ≡ Some found
+    → IfOk answer (λ given. given_said given ≡ given_in found) → OnOk answer (folders_in known ≡ folders_given port found (folders_in mid.known)) → OnErr answer (folders_in known ≡ folders_in mid.known) → cat_failed answer ≡ false
+    → Learns answer (SaysGivenOf (start_of lib) port) (IsRight lib) (IsRight (record mid { known = known })) a b
+given_learned {lib = lib} {mid = mid} {port = port} {answer = answer} {a = a} {b = b} known found looked stays noted told ok err calm =
+    subst (λ start. Learns answer (SaysGivenOf start port) (IsRight lib) (IsRight (record mid { known = known })) a b) (start_stays stays)
+    (learns_then looked (learns_pure answer (SaysGivenOf (start_of mid) port) (λ f. IsRight mid f × SaysNothing f tt) (IsRight (record mid { known = known })) b calm
+      (λ f both.
+        let right = both.0 in
+        let says = given_says (start_of mid) f port found answer (folders_in mid.known) (folders_in known) (home_is (start_of mid) mid.homes f port found right.homes noted) told ok err right.folders in
+        (record { homes = right.homes; manifests = right.manifests; folders = says.0 }, says.1))))
+
+-- ---- versions
+
+listed_right : (start : Start) (files : Files) (port : List ℕ) (found : FoundHome) (ask : Ask) (listed : Option (versions.Version × Path)) (folders : List (PortVersion × Path)) → found ≡ home_of start port files → listed_in found ask ≡ listed
+    → AreRight (IsFolderOf start files) folders → AreRight (IsFolderOf start files) (folders_listed port listed folders)
+listed_right start files port found ask None folders is at right = right
+listed_right start files port (Err wrong) ask (Some l) folders is at right = (cc)
+listed_right start files port (Ok home) ask (Some l) folders is at right = right_with (IsFolderOf start files) port l.0 l.1 folders (record { home = home; found = sym is; stands = folder_of_listed home ask l at }) right
+
+version_says : (start : Start) (files : Files) (port : List ℕ) (found : FoundHome) (ask : Ask) (answer : Result (Option Version) CatStop) (before after : List (PortVersion × Path)) → found ≡ home_of start port files
+    → IfOk answer (λ v. v ≡ option_map (λ l. l.0) (listed_in found ask)) → OnOk answer (after ≡ folders_listed port (listed_in found ask) before) → OnErr answer (after ≡ before)
+    → AreRight (IsFolderOf start files) before → AreRight (IsFolderOf start files) after × IfOk answer (SaysVersionOf start port ask files)
+version_says start files port found ask (Ok v) before after is told ok err right = (
+  subst (AreRight (IsFolderOf start files)) (sym ok) (listed_right start files port found ask (listed_in found ask) before is refl right),
+  told ∙ sym (version_on_page port files found ask) ∙ ap (λ h. version_in (page_at port files h) ask) is,
+)
+version_says start files port found ask (Err stop) before after is told ok err right = (subst (AreRight (IsFolderOf start files)) (sym err) right, tt)
+
+pub version_learned : {lib mid : Library} {port : List ℕ} {answer : Result (Option Version) CatStop} {a b : Held} (ask : Ask) (known : KnownVersions) (found : FoundHome)
+    → Learns (Ok tt) SaysNothing (IsRight lib) (IsRight mid) a b → Stays lib mid → home_noted port mid.homes ≡ Some found
+    → IfOk answer (λ v. v ≡ option_map (λ l. l.0) (listed_in found ask)) → OnOk answer (folders_in known ≡ folders_listed port (listed_in found ask) (folders_in mid.known)) → OnErr answer (folders_in known ≡ folders_in mid.known) → cat_failed answer ≡ false
+    → Learns answer (SaysVersionOf (start_of lib) port ask) (IsRight lib) (IsRight (record mid { known = known })) a b
+version_learned {lib = lib} {mid = mid} {port = port} {answer = answer} {a = a} {b = b} ask known found looked stays noted told ok err calm =
+    subst (λ start. Learns answer (SaysVersionOf start port ask) (IsRight lib) (IsRight (record mid { known = known })) a b) (start_stays stays)
+    (learns_then looked (learns_pure answer (SaysVersionOf (start_of mid) port ask) (λ f. IsRight mid f × SaysNothing f tt) (IsRight (record mid { known = known })) b calm
+      (λ f both.
+        let right = both.0 in
+        let says = version_says (start_of mid) f port found ask answer (folders_in mid.known) (folders_in known) (home_is (start_of mid) mid.homes f port found right.homes noted) told ok err right.folders in
+        (record { homes = right.homes; manifests = right.manifests; folders = says.0 }, says.1))))
+
+-- ---- manifests
+
+some_first : {X Y : Type 0} (o : Option (X × Y)) → IsSome (option_map (λ l. l.0) o) → IsSome o
+some_first None some = (cc)
+some_first (Some l) some = (cc)
+
+manifest_says : {Z : Type 0} (start : Start) (files : Files) (port : List ℕ) (found : FoundHome) (ask : Ask) (answer : Result (Result (Rc Manifest Z) Wrong) CatStop) → found ≡ home_of start port files
+    → IfOk answer (IsManifestFor port found ask files) → IfOk answer (SaysManifestOf start port ask files)
+manifest_says start files port found ask (Ok m) is says = λ some.
+    says (some_first (listed_in found ask) (subst IsSome (version_on_page port files found ask) (subst (λ h. IsSome (version_in (page_at port files h) ask)) (sym is) some)))
+    ∙ ap (λ h. manifest_in (page_at port files h) ask) is
+manifest_says start files port found ask (Err stop) is says = tt
+
+pub manifest_learned : {Z : Type 0} {lib mid : Library} {port : List ℕ} {answer : Result (Result (Rc Manifest Z) Wrong) CatStop} {a b c : Held} (ask : Ask) (files : FileCache) (manifests : Manifests) (found : FoundHome)
+    → Learns (Ok tt) SaysNothing (IsRight lib) (IsRight mid) a b → Stays lib mid → home_noted port mid.homes ≡ Some found
+    → Learns answer (IsManifestFor port found ask) (AreManifests mid.manifests) (AreManifests manifests) b c
+    → Learns answer (SaysManifestOf (start_of lib) port ask) (IsRight lib) (IsRight (record mid { files = files; manifests = manifests })) a c
+manifest_learned {lib = lib} {mid = mid} {port = port} {answer = answer} {a = a} {c = c} ask files manifests found looked stays noted read =
+    subst (λ start. Learns answer (SaysManifestOf start port ask) (IsRight lib) (IsRight (record mid { files = files; manifests = manifests })) a c) (start_stays stays)
+    (learns_then looked (learns_so answer (SaysManifestOf (start_of mid) port ask) (λ f. IsRight mid f × SaysNothing f tt) (IsRight (record mid { files = files; manifests = manifests })) refl (λ f both. both.0.manifests)
+      (λ f both after says.
+        let right = both.0 in
+        (record { homes = right.homes; manifests = after; folders = right.folders }, manifest_says (start_of mid) f port found ask answer (home_is (start_of mid) mid.homes f port found right.homes noted) says)) read))

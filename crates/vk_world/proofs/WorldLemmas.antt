@@ -1,0 +1,166 @@
+-- A world over a tree: it stays sound, and its answers are what the pages say.
+use Rattle.std.proofs.Common.{◌≡◌, ◌≤◌, ◌+◌, ◌-◌, ℕ, zero, suc, Bool, true, false, List, [], ◌∷◌, ◌++◌, length, take, drop, map, refl, ap, sym, subst, ◌∙◌, length-append, arith}
+use Rattle.std.specs.Prelude.{Option, Some, None, option_map, IfSome, Result, Ok, Err, IfOk}
+use Rattle.std.proofs.lemmas.List.{append-nil, append_assoc, map-append}
+use Rattle.std.proofs.Math.Seq.{take-append_seam}
+use Rattle.vk_spec.specs.Paths.{Path}
+use Rattle.vk_spec.specs.Files.{Files}
+use Rattle.vk_spec.specs.Calls.{Answer, is_failed}
+use Rattle.vk_spec.specs.States.{Told, State, with_asked, Looks}
+use Rattle.vk_spec.specs.Pages.{Page}
+use Rattle.vk_spec.specs.Catalogues.{ArePages, OnPage, OnlyAsked, Asks}
+use Rattle.vk_expr.specs.Trees.{Tree}
+use Rattle.vk_catalogue.specs.Views.{cat_failed, seen_by}
+use Rattle.vk_catalogue.specs.declared.stops.CatStop.{CatStop}
+use Rattle.vk_files.specs.Kept.{Kept, paths_of, IsOf, IsSeen, ReadOnce}
+use Rattle.vk_files.specs.Views.{kept_of, held}
+use Rattle.vk_files.proofs.NoteLemmas.{right_more}
+use Rattle.vk_opening.specs.Starts.{Start}
+use Rattle.vk_pages.specs.HomeViews.{layout_view}
+use Rattle.vk_pages.specs.Pages.{page_of}
+use Rattle.vk_world.specs.Learning.{Learns}
+use Rattle.vk_world.specs.Libraries.{start_of, IsRight, Stays}
+use Rattle.vk_world.specs.Worlds.{paths_in, asked_since, log_before, origin_on, origin_of, pages_in, world_state, IsSoundOn, IsSound, told_with, IsReadSince}
+use Rattle.vk_world.specs.declared.libraries.Library.{Library}
+
+-- ---- lists
+
+drop_front : {X : Type 0} (n : ℕ) (xs ys : List X) → n ≤ length xs → drop n (xs ++ ys) ≡ drop n xs ++ ys
+drop_front zero xs ys within = refl
+drop_front (suc n) [] ys within = absurd (omega (arith, within))
+drop_front (suc n) (x ∷ xs) ys within = drop_front n xs ys (omega (arith, within))
+
+drop_all : {X : Type 0} (xs : List X) → drop (length xs) xs ≡ []
+drop_all [] = refl
+drop_all (x ∷ xs) = drop_all xs
+
+-- what stands before the paths that a log ends with
+before_is : (log before asked : List Path) → log ≡ before ++ asked → log_before asked log ≡ before
+before_is log before asked e =
+    let n : length log - length asked ≡ length before = omega (arith, ap length e, length-append before asked) in
+    rw (n, e) (take-append_seam before asked)
+
+-- ---- what was kept since
+
+paths_more : {failed : Bool} {before after : Library} {s s' : State} (r : ReadOnce failed (held before.files s) (held after.files s')) → paths_in after ≡ paths_in before ++ paths_of r.more
+paths_more {before = before} r = ap paths_of r.kept ∙ map-append (λ e. e.0) (kept_of before.files) r.more
+
+since_more : {failed : Bool} {before after : Library} {s s' : State} → before.opened ≤ length (paths_in before) → Stays before after → (r : ReadOnce failed (held before.files s) (held after.files s')) → asked_since after ≡ asked_since before ++ paths_of r.more
+since_more {before = before} {after = after} within stays r =
+    ap (λ n. drop n (paths_in after)) stays.opened ∙ ap (drop before.opened) (paths_more {before = before} {after = after} r) ∙ drop_front before.opened (paths_in before) (paths_of r.more) within
+
+within_more : {failed : Bool} {before after : Library} {s s' : State} → before.opened ≤ length (paths_in before) → Stays before after → (r : ReadOnce failed (held before.files s) (held after.files s')) → after.opened ≤ length (paths_in after)
+within_more {before = before} {after = after} within stays r =
+    rw (stays.opened) (omega (arith, within, ap length (paths_more {before = before} {after = after} r), length-append (paths_in before) (paths_of r.more)))
+
+start_stays : {before after : Library} → Stays before after → start_of after ≡ start_of before
+start_stays s = ap layout_view s.layout
+
+-- ---- it stays sound
+
+sound_on : {X : Type 0} {answer : Result X CatStop} {Says : Files → X → Type 0} {before after : Library} {s s' : State} → before.opened ≤ length (paths_in before) → Stays before after
+    → (l : Learns answer Says (IsRight before) (IsRight after) (held before.files s) (held after.files s')) → (t : Told)
+    → IsOf t.files l.once.more → (IsOf t.files (kept_of before.files) → IsRight before t.files → IsRight after t.files × IfOk answer (Says t.files))
+    → IsSoundOn before t → IsSoundOn after (record { files = t.files; log = t.log ++ paths_of l.once.more })
+sound_on {before = before} {after = after} within stays l t more content sound = record {
+  files = subst (IsOf t.files) (sym l.once.kept) (right_more (IsSeen t.files) (kept_of before.files) l.once.more sound.files more);
+  right = (content sound.files sound.right).0;
+  before = sound.before;
+  log = ap (λ log. log ++ paths_of l.once.more) sound.log ∙ append_assoc sound.before (asked_since before) (paths_of l.once.more) ∙ ap (λ asked. sound.before ++ asked) (sym (since_more {before = before} {after = after} within stays l.once));
+}
+
+pub still_sound : {X : Type 0} {answer : Result X CatStop} {Says : Files → X → Type 0} {before after : Library} {s s' : State} → IsSound s before → Stays before after
+    → Learns answer Says (IsRight before) (IsRight after) (held before.files s) (held after.files s') → IsSound s' after
+still_sound {answer = answer} {Says = Says} {before = before} {after = after} {s = s} {s' = s'} sound stays l = record {
+  opened = within_more {before = before} {after = after} sound.opened stays l.once;
+  told = subst (λ o. IfSome o (IsSoundOn after)) (sym l.once.looks.told) (by s.told l.once.right l.content sound.told);
+}
+  where
+    by : (o : Option Told) → IfSome o (λ t. IsOf t.files l.once.more) → IfSome o (λ t. IsOf t.files (kept_of before.files) → IsRight before t.files → IsRight after t.files × IfOk answer (Says t.files)) → IfSome o (IsSoundOn before)
+        → IfSome (with_asked (paths_of l.once.more) o) (IsSoundOn after)
+    by None more content old = tt
+    by (Some t) more content old = sound_on {before = before} {after = after} sound.opened stays l t more content old
+
+-- ---- it only asked
+
+files_stay : (asked : List Path) (o : Option Told) → option_map (λ t. t.files) (with_asked asked o) ≡ option_map (λ t. t.files) o
+files_stay asked None = refl
+files_stay asked (Some t) = refl
+
+pages_stay : (start : Start) (asked : List Path) (o : Option Told) → option_map (λ t. page_of start t.files) (with_asked asked o) ≡ option_map (λ t. page_of start t.files) o
+pages_stay start asked None = refl
+pages_stay start asked (Some t) = refl
+
+-- the log of the origin stays
+log_stays : (before after : Library) (o p : Option Told) (more : List Path) → p ≡ with_asked more o → IfSome o (IsSoundOn before) → IfSome p (IsSoundOn after) → asked_since after ≡ asked_since before ++ more
+    → option_map (λ t. log_before (asked_since after) t.log) p ≡ option_map (λ t. log_before (asked_since before) t.log) o
+log_stays before after None p more e one two since = ap (option_map (λ t. log_before (asked_since after) t.log)) e
+log_stays before after (Some t) p more e one two since =
+    let log : t.log ++ more ≡ one.before ++ asked_since after = ap (λ l. l ++ more) one.log ∙ append_assoc one.before (asked_since before) more ∙ ap (λ asked. one.before ++ asked) (sym since) in
+    ap (option_map (λ t. log_before (asked_since after) t.log)) e ∙ ap Some (before_is (t.log ++ more) one.before (asked_since after) log ∙ sym (before_is t.log one.before (asked_since before) one.log))
+
+same_failed : {X A : Type 0} (view : X → A) (answer : Result X CatStop) → is_failed (seen_by view answer) ≡ cat_failed answer
+same_failed view (Ok x) = refl
+same_failed view (Err e) = refl
+
+only_asked : {X : Type 0} {answer : Result X CatStop} {Says : Files → X → Type 0} {before after : Library} {s s' : State} → IsSound s before → Stays before after
+    → Learns answer Says (IsRight before) (IsRight after) (held before.files s) (held after.files s') → OnlyAsked (cat_failed answer) (world_state s before) (world_state s' after)
+only_asked {before = before} {after = after} {s = s} {s' = s'} sound stays l =
+    let looks = l.once.looks in
+    let since = since_more {before = before} {after = after} sound.opened stays l.once in
+    let later = still_sound {before = before} {after = after} sound stays l in
+    record {
+      pages = ap (λ start. option_map (λ t. page_of start t.files) s'.told) (start_stays stays) ∙ ap (option_map (λ t. page_of (start_of before) t.files)) looks.told ∙ pages_stay (start_of before) (paths_of l.once.more) s.told;
+      origin = λ i. record {
+        files = (ap (option_map (λ t. t.files)) looks.told ∙ files_stay (paths_of l.once.more) s.told) i;
+        log = log_stays before after s.told s'.told (paths_of l.once.more) looks.told sound.told later.told since i;
+        changes = looks.changes i;
+      };
+      calls = looks.calls;
+      faults = looks.ends.faults;
+      sure = looks.ends.sure;
+      safe = looks.ends.safe;
+    }
+
+-- ---- its answers are what the pages say
+
+pub asks_learned : {X A : Type 0} {answer : Result X CatStop} {Says : Files → X → Type 0} {before after : Library} {s s' : State} (view : X → A) (port : List ℕ) (PageSays : Page Tree → A → Type 0)
+    → ((start : Start) (files : Files) → ArePages (page_of start files)) → IsSound s before → Stays before after
+    → ((t : Told) → s.told ≡ Some t → (x : X) → Says t.files x → PageSays (page_of (start_of before) t.files port) (view x))
+    → Learns answer Says (IsRight before) (IsRight after) (held before.files s) (held after.files s') → Asks port PageSays (seen_by view answer) (world_state s before) (world_state s' after)
+asks_learned {X} {answer = answer} {Says = Says} {before = before} {after = after} {s = s} {s' = s'} view port PageSays pages sound stays page_says l = record {
+  told = told answer s.told refl l.content sound.told;
+  kept = kept s.told;
+  only = subst (λ failed. OnlyAsked failed (world_state s before) (world_state s' after)) (sym (same_failed view answer)) (only_asked {before = before} {after = after} sound stays l);
+}
+  where
+    kept : (o : Option Told) → IfSome (option_map (λ t. page_of (start_of before) t.files) o) ArePages
+    kept None = tt
+    kept (Some t) = pages (start_of before) t.files
+
+    told : (r : Result X CatStop) (o : Option Told) → s.told ≡ o → IfSome o (λ t. IsOf t.files (kept_of before.files) → IsRight before t.files → IsRight after t.files × IfOk r (Says t.files)) → IfSome o (IsSoundOn before)
+        → IfOk (seen_by view r) (λ x. IfSome (option_map (λ t. page_of (start_of before) t.files) o) (λ p. PageSays (p port) x))
+    told (Err e) o is content old = tt
+    told (Ok x) None is content old = tt
+    told (Ok x) (Some t) is content old = page_says t is x (content old.files old.right).1
+
+-- what holds on a port's page holds of the page of the files
+pub on_page : (port : List ℕ) (P : Page Tree → Type 0) (lib : Library) (s : State) (t : Told) → s.told ≡ Some t → OnPage port P (world_state s lib) → P (page_of (start_of lib) t.files port)
+on_page port P lib s t is holds = subst (λ (o : Option Told). IfSome (option_map (λ u. page_of (start_of lib) u.files) o) (λ p. P (p port))) is holds
+
+-- ---- the beginning and the end
+
+-- as a start gives it
+pub sound_on_start : (lib : Library) (s : State) → lib.opened ≡ length (kept_of lib.files) → IfSome s.told (λ t. IsOf t.files (kept_of lib.files)) → ((files : Files) → IsRight lib files) → IsSound s lib
+sound_on_start lib s opened files right = record { opened = rw (opened, length_paths (kept_of lib.files)) (omega arith); told = by s.told files }
+  where
+    length_paths : (kept : Kept) → length (paths_of kept) ≡ length kept
+    length_paths [] = refl
+    length_paths (e ∷ es) = ap suc (length_paths es)
+
+    nothing : asked_since lib ≡ []
+    nothing = ap (λ n. drop n (paths_in lib)) (opened ∙ sym (length_paths (kept_of lib.files))) ∙ drop_all (paths_in lib)
+
+    by : (o : Option Told) → IfSome o (λ t. IsOf t.files (kept_of lib.files)) → IfSome o (IsSoundOn lib)
+    by None of = tt
+    by (Some t) of = record { files = of; right = right t.files; before = t.log; log = sym (append-nil t.log) ∙ ap (λ asked. t.log ++ asked) (sym nothing) }

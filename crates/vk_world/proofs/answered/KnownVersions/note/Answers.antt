@@ -1,0 +1,8 @@
+use Rattle.std.proofs.Common.{◌≡◌, ◌∙◌, sym}
+use Rattle.vk_world.proofs.KnownLemmas.{put_last, stays}
+use Rattle.vk_world.proofs.answered.KnownVersions.note.Goals as goal
+
+pub returns-clause-ok : goal.returns-clause-ok
+returns-clause-ok c =
+    c.in_ok-insert.ensures.entries
+    ∙ put_last c.args.self.now.folders c.args.port.now c.args.version.now _ c.args.folder (λ i. record { port = c.in_ok-clone.ensures.cases i; version = c.in_ok-clone-2.ensures.cases i }) (sym c.contains_key.ensures ∙ c.if-contains_key.false)

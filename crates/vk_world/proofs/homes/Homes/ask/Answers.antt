@@ -1,0 +1,55 @@
+use Rattle.std.proofs.Common.{◌∙◌, [], ◌∷◌, ◌++◌, refl, sym, ap, subst}
+use Rattle.std.specs.Prelude.{Ok, Err, IsSome, bytes_eq}
+use Rattle.std.specs.Map.{lookup}
+use Rattle.std.proofs.lemmas.Result.{err_from_is_err_and}
+use Rattle.std.proofs.lemmas.Slice.Eq.{bytes_eq-Decides}
+use Rattle.vk_catalogue.specs.declared.stops.CatStop.TheVariants as cat
+use Rattle.vk_files.specs.Notes.{AreRight}
+use Rattle.vk_files.specs.Views.{held}
+use Rattle.vk_files.proofs.NoteLemmas.{right_more}
+use Rattle.vk_pages.specs.HomeViews.{layout_view}
+use Rattle.vk_pages.specs.BaselineNotes.{AreBaselines}
+use Rattle.vk_pages.specs.NoteViews.{notes_of}
+use Rattle.vk_world.specs.Learning.{SaysNothing}
+use Rattle.vk_world.specs.HomeNotes.{AreHomes, IsHomeOf, homes_in, found_home}
+use Rattle.vk_world.proofs.LearnLemmas.{learns_memory, learns_pure, learns_so}
+use Rattle.vk_world.proofs.NotedLemmas.{seen_notes, last_noted}
+use Rattle.vk_world.proofs.homes.Homes.ask.Goals as goal
+
+pub returns-in_err-key-clause-learns : goal.returns-in_err-key-clause-learns
+returns-in_err-key-clause-learns g c =
+    let p = err_from_is_err_and c.from_residual.result c.from_residual.ensures.1 in
+    rw (p.1, p.2) (learns_memory SaysNothing (AreHomes (layout_view c.args.layout.now) c.args.self.now) (held c.args.files.now (g.T.Tree.state c.args.tree.now)))
+
+pub returns-in_err-reserve-clause-learns : goal.returns-in_err-reserve-clause-learns
+returns-in_err-reserve-clause-learns g c =
+    let p = err_from_is_err_and c.from_residual-in_err-reserve.result c.from_residual-in_err-reserve.ensures.1 in
+    rw (p.1, p.2)
+    (learns_pure (Err cat.Memory) SaysNothing (AreHomes (layout_view c.args.layout.now) c.args.self.now) (AreHomes (layout_view c.args.layout.now) (record { baselines = c.args.self.now.baselines; found = c.reserve.new.self })) (held c.args.files.now (g.T.Tree.state c.args.tree.now)) refl
+    (λ f right. (record { baselines = right.baselines; found = subst (λ es. AreRight (IsHomeOf (layout_view c.args.layout.now) f) (seen_notes found_home es)) (sym c.reserve.ensures.entries) right.found }, tt)))
+
+pub returns-clause-learns : goal.returns-clause-learns
+returns-clause-learns g c =
+    let start = layout_view c.args.layout.now in
+    let kept = c.keep.ensures.homes ∙ ap (λ es. seen_notes found_home es ++ (c.in_ok-key.key, found_home c.in_ok-found.found) ∷ []) c.reserve.ensures.entries in
+    learns_so (Ok tt) SaysNothing (AreHomes start c.args.self.now) (AreHomes start c.keep.new.self) refl (λ f right. right.baselines)
+    (λ f before right says. (
+      record {
+        baselines = subst (λ b. AreBaselines start (notes_of b) f) (sym c.keep.ensures.baselines) right;
+        found = subst (AreRight (IsHomeOf start f)) (sym kept) (right_more (IsHomeOf start f) (homes_in c.args.self.now) ((c.in_ok-key.key, found_home c.in_ok-found.found) ∷ []) before.found (rw c.in_ok-key.ensures.cases says, tt));
+      },
+      tt,
+    )) c.in_ok-found.ensures
+
+pub returns-clause-there : goal.returns-clause-there
+returns-clause-there g c =
+    subst (λ notes. IsSome (lookup (bytes_eq c.args.port.now) notes)) (sym c.keep.ensures.homes)
+    (rw c.in_ok-key.ensures.cases (last_noted bytes_eq c.args.port.now (found_home c.in_ok-found.found) _ ((bytes_eq-Decides c.args.port.now c.args.port.now).1 refl)))
+
+pub returns-in_err-found-clause-learns : goal.returns-in_err-found-clause-learns
+returns-in_err-found-clause-learns g c =
+    let start = layout_view c.args.layout.now in
+    let p = err_from_is_err_and c.from_residual-in_err-found.result c.from_residual-in_err-found.ensures.1 in
+    rw (p.1, p.2)
+    (learns_so (Err c.in_err-found.field-0.0) SaysNothing (AreHomes start c.args.self.now) (AreHomes start (record { baselines = c.find_home.new.baselines; found = c.reserve.new.self })) refl (λ f right. right.baselines)
+    (λ f before right says. (record { baselines = right; found = subst (λ es. AreRight (IsHomeOf start f) (seen_notes found_home es)) (sym c.reserve.ensures.entries) before.found }, tt)) c.in_err-found.ensures)

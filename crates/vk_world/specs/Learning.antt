@@ -1,0 +1,32 @@
+-- What a call answers that reads files and keeps notes of them, and what it leaves.
+use Rattle.std.specs.Prelude.{◌≡◌, IfSome, Result, Ok, Err, IfOk}
+use Rattle.vk_spec.specs.Files.{Files}
+use Rattle.vk_files.specs.Kept.{IsOf, Held, ReadOnce}
+use Rattle.vk_files.specs.declared.stops.Stop.{Stop}
+use Rattle.vk_files.specs.declared.stops.Stop.TheVariants as stop
+use Rattle.vk_catalogue.specs.declared.stops.CatStop.{CatStop}
+use Rattle.vk_catalogue.specs.declared.stops.CatStop.TheVariants as cat
+use Rattle.vk_catalogue.specs.Views.{cat_failed}
+
+-- nothing but reading was done, each path for the first time; and where the files are told and the notes were right of them, the notes are right after it, and what is answered holds
+pub record Learns {X : Type 0} (answer : Result X CatStop) (Says : Files → X → Type 0) (Before After : Files → Type 0) (before after : Held) : Type 0 where
+  pub once : ReadOnce (cat_failed answer) before after
+  pub content : IfSome before.tree.told (λ t. IsOf t.files before.kept → Before t.files → After t.files × IfOk answer (Says t.files))
+
+-- nothing is said of an answer
+abbrev pub SaysNothing : {X : Type 0} → Files → X → Type 0
+SaysNothing files x = Unit {0}
+
+-- what is answered is what the files mean
+abbrev pub Means : {X Y : Type 0} → (X → Y) → (Files → Y) → Files → X → Type 0
+Means view meaning files x = view x ≡ meaning files
+
+-- a refusal is an answer too; the tree's failure and want of memory are none
+abbrev pub unanswered : {X F : Type 0} → Stop F → Result (Result X F) CatStop
+unanswered (stop.Refused refusal) = Ok (Err refusal)
+unanswered stop.TreeFailed = Err cat.Failed
+unanswered stop.Memory = Err cat.Memory
+
+abbrev pub settled : {X F : Type 0} → Result X (Stop F) → Result (Result X F) CatStop
+settled (Ok x) = Ok (Ok x)
+settled (Err s) = unanswered s

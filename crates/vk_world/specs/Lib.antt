@@ -1,0 +1,11 @@
+pub mod Learning
+pub mod KnownVersions
+pub mod PairLaws
+pub mod HomeNotes
+pub mod ManifestNotes
+pub mod Listed
+pub mod Answered
+pub mod ManifestAnswers
+pub mod VersionFolders
+pub mod Libraries
+pub mod Worlds

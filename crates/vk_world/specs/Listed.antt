@@ -1,0 +1,47 @@
+-- What a port's home has: what is given, the version for an ask and its folder, and a row's manifest.
+use Rattle.std.specs.Prelude.{ℕ, List, Option, Some, None, option_map, Result, Ok, Err, if◌then◌else◌}
+use Rattle.std.specs.List.{find}
+use Rattle.vk_spec.specs.Paths.{Path}
+use Rattle.vk_spec.specs.Reading.{◌>>=◌}
+use Rattle.vk_spec.specs.Versions.{Version, Ask, ask_of, same_ask}
+use Rattle.vk_spec.specs.Manifests.{Manifest}
+use Rattle.vk_spec.specs.Pages.{Given, overlay, override, baseline, Wrong}
+use Rattle.vk_expr.specs.Trees.{Tree}
+use Rattle.vk_registry.specs.Tables.{Row}
+use Rattle.vk_pages.specs.Agreement.{agreeing}
+use Rattle.vk_pages.specs.Homes.{Home, in_overlay, in_registry}
+use Rattle.vk_pages.specs.Pages.{row_folder}
+
+-- what is given at a home, and the folder of the port or of its registry
+abbrev pub given_at : Home → Given
+given_at (in_overlay folder v m) = overlay v
+given_at (in_registry given registry rows) = given
+
+abbrev pub folder_at : Home → Path
+folder_at (in_overlay folder v m) = folder
+folder_at (in_registry given registry rows) = registry
+
+-- the row that an ask means
+abbrev pub row_meant : List Row → Ask → Option Row
+row_meant rows ask = find (λ r. same_ask (ask_of r.version) ask) rows
+
+-- an overlay's version, if it is what an ask means, with its folder
+abbrev pub own_listed : Path → Version → Ask → Option (Version × Path)
+own_listed folder v ask = if same_ask (ask_of v) ask then Some (v, folder) else None
+
+-- the version of a registry's table that an ask means, with its folder
+abbrev pub table_listed : Path → List Row → Ask → Option (Version × Path)
+table_listed registry rows ask = option_map (λ r. (r.version, row_folder registry r)) (row_meant rows ask)
+
+-- the same at a home
+abbrev pub listed_at : Home → Ask → Option (Version × Path)
+listed_at (in_overlay folder v m) ask = own_listed folder v ask
+listed_at (in_registry given registry rows) ask = table_listed registry rows ask
+
+abbrev pub listed_in : Result Home Wrong → Ask → Option (Version × Path)
+listed_in (Ok home) ask = listed_at home ask
+listed_in (Err wrong) ask = None
+
+-- the manifest that was found at a path, if it is that of the port and the version
+abbrev pub agreed : Path → List ℕ → Version → Result (Manifest Tree) Wrong → Result (Manifest Tree) Wrong
+agreed path port v found = found >>= λ m. agreeing path port v m >>= λ same. Ok m

@@ -1,0 +1,112 @@
+//! The homes of ports that were found.
+ghost use Rattle.std.specs.Prelude.{◌≡◌, ◌<◌, ◌++◌, ◌∷◌, [], ℕ, List, None, IsSome, OnOk, option_map};
+ghost use Rattle.std.specs.Option.{option_copied};
+ghost use Rattle.indexmap.specs.IndexMap.{spare};
+ghost use Rattle.vk_spec.specs.Files.{Files};
+ghost use Rattle.vk_opening.specs.Starts.{Start};
+ghost use Rattle.vk_files.specs.Views.{held};
+ghost use Rattle.vk_pages.specs.Homes.{home_of};
+ghost use Rattle.vk_pages.specs.HomeViews.{layout_view};
+ghost use Rattle.vk_pages.specs.BaselineNotes.{AreBaselines};
+ghost use Rattle.vk_pages.specs.NoteViews.{notes_of};
+ghost use Rattle.vk_world.specs.Learning.{Learns, Means, SaysNothing};
+ghost use Rattle.vk_world.specs.HomeNotes.{found_home, homes_in, home_noted, AreHomes};
+
+use crate::settling::settle;
+use indexmap::IndexMap;
+use std::alloc::Global;
+use vk_base::PortName;
+use vk_catalogue::{CatStop, Wrong};
+use vk_files::FileCache;
+use vk_pages::{Baselines, Home, Layout, home_of};
+use vk_tree::Tree;
+
+/// Where the versions of ports are, or what is wrong, by port; and the baselines that were read.
+#[derive(Drop)]
+pub struct Homes {
+    baselines: Baselines,
+    found: IndexMap<PortName, Result<Home, Wrong>>,
+}
+
+// The home of a port, or what is wrong.
+#[tactic(auto, using(crate::proofs::LearnLemmas::learns_settled))]
+fn find_home<T: Tree>(
+    alloc: Global,
+    layout: &Layout,
+    files: &mut FileCache,
+    baselines: &mut Baselines,
+    tree: &mut T,
+    port: &PortName,
+) -> Result<Result<Home, Wrong>, CatStop>
+    ensures { Learns result (Means found_home (home_of (layout_view layout.now) port.now)) (AreBaselines (layout_view layout.now) (notes_of baselines.old)) (AreBaselines (layout_view layout.now) (notes_of baselines.new)) (held files.old (T.state tree.old)) (held files.new (T.state tree.new)) }
+{
+    settle(home_of(alloc, layout, files, baselines, tree, port))
+}
+
+impl Homes {
+    /// None was found yet. Takes no memory.
+    pub fn new(alloc: Global) -> Homes
+        ensures homes { homes_in result ≡ [] }
+        ensures right { (start : Start) (files : Files) → AreHomes start result files }
+    {
+        Homes {
+            baselines: Baselines::new(alloc),
+            found: IndexMap::new(alloc),
+        }
+    }
+
+    // Keeps what was found for a port, for which there is room.
+    fn keep(&mut self, port: PortName, home: Result<Home, Wrong>)
+        requires room { 0 < spare self.old.found }
+        requires new { home_noted port self.old ≡ None }
+        ensures homes { homes_in self.new ≡ homes_in self.old ++ (port, found_home home) ∷ [] }
+        ensures baselines { self.new.baselines ≡ self.old.baselines }
+    {
+        let _ = self.found.insert(port, home);
+    }
+
+    // Finds the home of a port for which it wasn't found yet. The room for it is taken first.
+    fn ask<T: Tree>(
+        &mut self,
+        alloc: Global,
+        layout: &Layout,
+        files: &mut FileCache,
+        tree: &mut T,
+        port: &PortName,
+    ) -> Result<(), CatStop>
+        requires { home_noted port.now self.old ≡ None }
+        ensures learns { Learns result SaysNothing (AreHomes (layout_view layout.now) self.old) (AreHomes (layout_view layout.now) self.new) (held files.old (T.state tree.old)) (held files.new (T.state tree.new)) }
+        ensures there { OnOk result (IsSome (home_noted port.now self.new)) }
+    {
+        let key = port.clone()?;
+        self.found.reserve(1)?;
+        let found = find_home(alloc, layout, files, &mut self.baselines, tree, port)?;
+        self.keep(key, found);
+        Ok(())
+    }
+
+    /// Looks for the home of a port, for which files are read unless it was found before.
+    pub fn look<T: Tree>(
+        &mut self,
+        alloc: Global,
+        layout: &Layout,
+        files: &mut FileCache,
+        tree: &mut T,
+        port: &PortName,
+    ) -> Result<(), CatStop>
+        ensures learns { Learns result SaysNothing (AreHomes (layout_view layout.now) self.old) (AreHomes (layout_view layout.now) self.new) (held files.old (T.state tree.old)) (held files.new (T.state tree.new)) }
+        ensures there { OnOk result (IsSome (home_noted port.now self.new)) }
+    {
+        if self.found.contains_key(port) {
+            return Ok(());
+        }
+        self.ask(alloc, layout, files, tree, port)
+    }
+
+    /// What was found for a port; `None` exactly where it wasn't looked for.
+    pub fn get(&self, port: &PortName) -> Option<&Result<Home, Wrong>>
+        ensures { option_map found_home (option_copied result) ≡ home_noted port.now self.now }
+    {
+        self.found.get(port)
+    }
+}

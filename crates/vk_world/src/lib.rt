@@ -1,0 +1,16 @@
+//! The world that a plan is made from: what the files of a project say of each port, read as it is
+//! asked for. It promises upwards that each answer is what the files say, and that no file is read
+//! twice.
+#![tactic(auto)]
+
+mod answered;
+mod answering;
+mod homes;
+mod libraries;
+mod listed;
+mod manifests;
+mod row_manifests;
+mod settling;
+mod worlds;
+
+pub use worlds::World;

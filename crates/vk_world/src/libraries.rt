@@ -1,0 +1,148 @@
+//! What a world keeps, and what it learns.
+ghost use Rattle.std.specs.Prelude.{◌≡◌, [], IsSome, OnOk, length};
+ghost use Rattle.vk_spec.specs.Files.{Files};
+ghost use Rattle.vk_version.specs.AskViews.{ask_view};
+ghost use Rattle.vk_catalogue.specs.Views.{given_answer, version_answer};
+ghost use Rattle.vk_files.specs.Views.{held, kept_of};
+ghost use Rattle.vk_opening.specs.Views.{start_view, opened_files};
+ghost use Rattle.vk_world.specs.Learning.{Learns, SaysNothing};
+ghost use Rattle.vk_world.specs.KnownVersions.{folders_in, pairs_of};
+ghost use Rattle.vk_world.specs.HomeNotes.{home_noted};
+ghost use Rattle.vk_world.specs.Answered.{pairs_given, pairs_listed};
+ghost use Rattle.vk_world.specs.Libraries.{start_of, IsRight, Stays, SaysGivenOf, SaysVersionOf, SaysManifestOf};
+
+use crate::answered::KnownVersions;
+use crate::answering::{answer_given, answer_version};
+use crate::homes::Homes;
+use crate::manifests::Manifests;
+use crate::row_manifests::manifest_for;
+use std::alloc::Global;
+use std::rc::Rc;
+use vk_base::PortName;
+use vk_catalogue::{CatStop, Given, Wrong};
+use vk_files::FileCache;
+use vk_model::Manifest;
+use vk_opening::Start;
+use vk_pages::Layout;
+use vk_tree::Tree;
+use vk_version::{Ask, Version};
+
+/// What is kept of a tree: what is known of the project, the files that were read, and what was
+/// learned from them.
+#[derive(Drop)]
+pub struct Library {
+    pub layout: Layout,
+    pub files: FileCache,
+    /// How many paths were looked at before the first question.
+    pub opened: usize,
+    pub homes: Homes,
+    pub manifests: Manifests,
+    pub known: KnownVersions,
+}
+
+impl Library {
+    /// What a start tells, and nothing learned yet. Takes no memory.
+    pub fn new(alloc: Global, start: Start) -> Library
+        ensures layout { start_of result ≡ start_view start }
+        ensures files { kept_of result.files ≡ opened_files start }
+        ensures opened { result.opened ≡ length (opened_files start) }
+        ensures right { (files : Files) → IsRight result files }
+        ensures known { folders_in result.known ≡ [] }
+    {
+        let Start {
+            folder,
+            config,
+            overlays,
+            overrides,
+            files,
+        } = start;
+        Library {
+            layout: Layout {
+                folder,
+                config,
+                overlays,
+                overrides,
+            },
+            opened: files.len(),
+            files,
+            homes: Homes::new(alloc),
+            manifests: Manifests::new(alloc),
+            known: KnownVersions::new(alloc),
+        }
+    }
+
+    // Looks for the home of a port.
+    fn look<T: Tree>(
+        &mut self,
+        alloc: Global,
+        tree: &mut T,
+        port: &PortName,
+    ) -> Result<(), CatStop>
+        ensures learns { Learns result SaysNothing (IsRight self.old) (IsRight self.new) (held self.old.files (T.state tree.old)) (held self.new.files (T.state tree.new)) }
+        ensures there { OnOk result (IsSome (home_noted port.now self.new.homes)) }
+        ensures stays { Stays self.old self.new }
+        ensures known { self.new.known ≡ self.old.known }
+        ensures manifests { self.new.manifests ≡ self.old.manifests }
+    {
+        self.homes.look(alloc, &self.layout, &mut self.files, tree, port)
+    }
+
+    /// What is given for a port, or what is wrong.
+    pub fn given<T: Tree>(
+        &mut self,
+        alloc: Global,
+        tree: &mut T,
+        port: &PortName,
+    ) -> Result<Result<Given, Wrong>, CatStop>
+        ensures learns { Learns result (SaysGivenOf (start_of self.old) port.now) (IsRight self.old) (IsRight self.new) (held self.old.files (T.state tree.old)) (held self.new.files (T.state tree.new)) }
+        ensures stays { Stays self.old self.new }
+        ensures known { pairs_of (folders_in self.new.known) ≡ pairs_given port.now (given_answer result) (pairs_of (folders_in self.old.known)) }
+    {
+        self.look(alloc, tree, port)?;
+        let found = self.homes.get(port).unwrap();
+        answer_given(&mut self.known, port, found)
+    }
+
+    /// The version of a port that an ask means; `None` exactly where there is none.
+    pub fn version<T: Tree>(
+        &mut self,
+        alloc: Global,
+        tree: &mut T,
+        port: &PortName,
+        ask: &Ask,
+    ) -> Result<Option<Version>, CatStop>
+        ensures learns { Learns result (SaysVersionOf (start_of self.old) port.now (ask_view ask.now)) (IsRight self.old) (IsRight self.new) (held self.old.files (T.state tree.old)) (held self.new.files (T.state tree.new)) }
+        ensures stays { Stays self.old self.new }
+        ensures known { pairs_of (folders_in self.new.known) ≡ pairs_listed port.now (version_answer result) (pairs_of (folders_in self.old.known)) }
+    {
+        self.look(alloc, tree, port)?;
+        let found = self.homes.get(port).unwrap();
+        answer_version(alloc, &mut self.known, port, found, ask)
+    }
+
+    /// The manifest of the version that an ask means, or what is wrong with it. Where no version is
+    /// meant, nothing is promised.
+    pub fn manifest<T: Tree>(
+        &mut self,
+        alloc: Global,
+        tree: &mut T,
+        port: &PortName,
+        ask: &Ask,
+    ) -> Result<Result<Rc<Manifest>, Wrong>, CatStop>
+        ensures learns { Learns result (SaysManifestOf (start_of self.old) port.now (ask_view ask.now)) (IsRight self.old) (IsRight self.new) (held self.old.files (T.state tree.old)) (held self.new.files (T.state tree.new)) }
+        ensures stays { Stays self.old self.new }
+        ensures known { self.new.known ≡ self.old.known }
+    {
+        self.look(alloc, tree, port)?;
+        let found = self.homes.get(port).unwrap();
+        manifest_for(
+            alloc,
+            &mut self.files,
+            &mut self.manifests,
+            tree,
+            port,
+            found,
+            ask,
+        )
+    }
+}

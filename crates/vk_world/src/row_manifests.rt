@@ -1,0 +1,84 @@
+//! The manifest of a version, which is read where it stands.
+ghost use Rattle.std.specs.Prelude.{◌≡◌};
+ghost use Rattle.vk_registry.specs.TableViews.{row_view};
+ghost use Rattle.vk_version.specs.AskViews.{ask_view};
+ghost use Rattle.vk_catalogue.specs.Views.{manifest_said};
+ghost use Rattle.vk_files.specs.Views.{held};
+ghost use Rattle.vk_pages.specs.Pages.{row_manifest};
+ghost use Rattle.vk_world.specs.Learning.{Learns, Means};
+ghost use Rattle.vk_world.specs.HomeNotes.{found_home};
+ghost use Rattle.vk_world.specs.ManifestNotes.{AreManifests};
+ghost use Rattle.vk_world.specs.ManifestAnswers.{IsRowManifest, IsManifestFor};
+
+use crate::listed::{agreed, row_meant};
+use crate::manifests::Manifests;
+use std::alloc::Global;
+use std::rc::Rc;
+use vk_base::{PortName, TreePath};
+use vk_catalogue::{CatStop, Wrong};
+use vk_files::FileCache;
+use vk_model::Manifest;
+use vk_pages::{Home, manifest_path, row_folder};
+use vk_registry::{Row, Table};
+use vk_tree::Tree;
+use vk_version::Ask;
+
+// The manifest of a row, or what is wrong with it.
+fn row_manifest<T: Tree>(
+    alloc: Global,
+    files: &mut FileCache,
+    manifests: &mut Manifests,
+    tree: &mut T,
+    port: &PortName,
+    registry: &TreePath,
+    row: &Row,
+) -> Result<Result<Rc<Manifest>, Wrong>, CatStop>
+    ensures { Learns result (Means manifest_said (row_manifest port.now registry.now (row_view row.now))) (AreManifests manifests.old) (AreManifests manifests.new) (held files.old (T.state tree.old)) (held files.new (T.state tree.new)) }
+{
+    let folder = row_folder(alloc, registry, row)?;
+    let path = manifest_path(alloc, &folder)?;
+    manifests.look(alloc, files, tree, &path)?;
+    let found = manifests.get(&path).unwrap();
+    agreed(alloc, &path, port, &row.version, found)
+}
+
+// The manifest of the row that an ask means. Where no row is meant, nothing is promised.
+fn table_manifest<T: Tree>(
+    alloc: Global,
+    files: &mut FileCache,
+    manifests: &mut Manifests,
+    tree: &mut T,
+    port: &PortName,
+    registry: &TreePath,
+    table: &Table,
+    ask: &Ask,
+) -> Result<Result<Rc<Manifest>, Wrong>, CatStop>
+    ensures { Learns result (IsRowManifest port.now registry.now table.now (ask_view ask.now)) (AreManifests manifests.old) (AreManifests manifests.new) (held files.old (T.state tree.old)) (held files.new (T.state tree.new)) }
+{
+    match row_meant(table, ask) {
+        Some(row) => row_manifest(alloc, files, manifests, tree, port, registry, row),
+        None => Ok(Err(Wrong::NoRegistry)),
+    }
+}
+
+/// The manifest of the version that an ask means, by what was found for the port. Where no version
+/// is meant, nothing is promised.
+pub fn manifest_for<T: Tree>(
+    alloc: Global,
+    files: &mut FileCache,
+    manifests: &mut Manifests,
+    tree: &mut T,
+    port: &PortName,
+    found: &Result<Home, Wrong>,
+    ask: &Ask,
+) -> Result<Result<Rc<Manifest>, Wrong>, CatStop>
+    ensures { Learns result (IsManifestFor port.now (found_home found.now) (ask_view ask.now)) (AreManifests manifests.old) (AreManifests manifests.new) (held files.old (T.state tree.old)) (held files.new (T.state tree.new)) }
+{
+    match found {
+        Ok(Home::Overlay { manifest, .. }) => Ok(Ok(manifest.clone()?)),
+        Ok(Home::Registry { folder, table, .. }) => {
+            table_manifest(alloc, files, manifests, tree, port, folder, table, ask)
+        }
+        Err(_) => Ok(Err(Wrong::NoRegistry)),
+    }
+}

@@ -1,0 +1,18 @@
+//! What a reader refuses is an answer of the world.
+ghost use Rattle.std.specs.Prelude.{◌≡◌};
+ghost use Rattle.vk_world.specs.Learning.{settled};
+
+use vk_catalogue::CatStop;
+use vk_files::Stop;
+
+/// A value or a refusal; the tree's failure and want of memory are no answer.
+pub fn settle<X, F>(answer: Result<X, Stop<F>>) -> Result<Result<X, F>, CatStop>
+    ensures { result ≡ settled answer }
+{
+    match answer {
+        Ok(value) => Ok(Ok(value)),
+        Err(Stop::Refused(refusal)) => Ok(Err(refusal)),
+        Err(Stop::TreeFailed) => Err(CatStop::Failed),
+        Err(Stop::Memory) => Err(CatStop::Memory),
+    }
+}
