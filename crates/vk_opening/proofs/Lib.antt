@@ -1,5 +1,4 @@
 pub mod PartLemmas
-pub mod ReadMore
 pub mod LoopLemmas
 pub mod SearchLemmas
 pub mod TripletLemmas

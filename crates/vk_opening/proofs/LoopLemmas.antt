@@ -10,7 +10,7 @@ use Rattle.vk_files.specs.StopViews.{refusal_in}
 use Rattle.vk_files.specs.Readings.{ReadsAs}
 use Rattle.vk_files.specs.declared.stops.Stop.{Stop}
 use Rattle.vk_files.proofs.OnceLemmas.{nothing_read, once_then}
-use Rattle.vk_opening.proofs.ReadMore.{each_told, two_told, known_before}
+use Rattle.vk_files.proofs.ReadMore.{each_told, two_told, known_before}
 
 -- nothing failed so far, and what is read of the members that are left goes on to what is read of all
 pub record ReadSoFar {X R A P : Type 0} (out : R → A) (one : X → Files → Result A P) (front : List R) (left all : List X) (before now : Held) : Type 0 where

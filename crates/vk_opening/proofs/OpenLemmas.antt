@@ -32,7 +32,7 @@ use Rattle.vk_opening.specs.declared.opens.Opened.TheVariants as opened
 use Rattle.vk_opening.specs.declared.opens.OpenStop.{OpenStop}
 use Rattle.vk_model.specs.declared.earlies.Early.{Early}
 use Rattle.vk_opening.specs.declared.opens.Opening.{Opening}
-use Rattle.vk_opening.proofs.ReadMore.{two_told}
+use Rattle.vk_files.proofs.ReadMore.{two_told}
 
 -- what is read after each step
 abbrev pub after_overlays : Project → Root → Config → Triplets → List Overlay → Files → Result plain.Opening early.Early

@@ -15,7 +15,7 @@ use Rattle.vk_files.specs.declared.stops.Stop.TheVariants as stop
 use Rattle.vk_files.proofs.OnceLemmas.{nothing_read, once_then}
 use Rattle.vk_opening.specs.Projects.{triplet_path}
 use Rattle.vk_opening.specs.TripletFiles.{is_at, triplet_file}
-use Rattle.vk_opening.proofs.ReadMore.{each_told, two_told, known_before}
+use Rattle.vk_files.proofs.ReadMore.{each_told, two_told, known_before}
 
 -- nothing failed so far, and the folders that are left have the file which all have
 pub record SearchedSoFar (name : List ℕ) (n : ℕ) (folders : List Path) (before now : Held) : Type 0 where

@@ -13,7 +13,7 @@ use Rattle.vk_spec.specs.Earlies.{Early}
 use Rattle.vk_opening.specs.TripletFiles.{Triplets, triplet_at, triplets_at}
 use Rattle.vk_opening.specs.Views.{triplets_view}
 use Rattle.vk_model.specs.EarlyViews.{early_view}
-use Rattle.vk_opening.proofs.ReadMore.{two_told}
+use Rattle.vk_files.proofs.ReadMore.{two_told}
 
 -- what is read after the first triplet, and after the second
 abbrev pub after_second : plain.Triplet → plain.Triplet → Files → Result Triplets Early

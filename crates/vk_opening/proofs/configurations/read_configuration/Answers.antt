@@ -1,7 +1,7 @@
 use Rattle.serde_json.specs.View.{view}
 use Rattle.vk_files.proofs.ReadLemmas.{reads_then}
 use Rattle.vk_opening.specs.Configurations.{config_by, config_in}
-use Rattle.vk_opening.proofs.ReadMore.{reads_wanting}
+use Rattle.vk_files.proofs.ReadMore.{reads_wanting}
 use Rattle.vk_opening.proofs.configurations.read_configuration.Goals as goal
 
 pub returns-in_err-path : goal.returns-in_err-path

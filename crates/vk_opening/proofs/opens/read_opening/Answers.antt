@@ -7,7 +7,7 @@ use Rattle.vk_files.proofs.ReadLemmas.{reads_then, reads_stopped, reads_pure}
 use Rattle.vk_opening.specs.Openings.{opened_of}
 use Rattle.vk_opening.specs.OpeningViews.{opening_view}
 use Rattle.vk_opening.specs.Views.{root_view, triplets_view}
-use Rattle.vk_opening.proofs.ReadMore.{once_lacking}
+use Rattle.vk_files.proofs.ReadMore.{once_lacking}
 use Rattle.vk_opening.proofs.OpenLemmas.{after_root, after_config, after_triplets, after_overlays}
 use Rattle.vk_opening.proofs.opens.read_opening.Goals as goal
 

@@ -1,4 +1,4 @@
-use Rattle.vk_opening.proofs.ReadMore.{reads_wanting}
+use Rattle.vk_files.proofs.ReadMore.{reads_wanting}
 use Rattle.vk_opening.proofs.opens.triplets_of.Goals as goal
 
 pub returns-in_err-folders : goal.returns-in_err-folders

@@ -1,6 +1,6 @@
 use Rattle.vk_files.proofs.ReadLemmas.{reads_then}
 use Rattle.vk_opening.specs.Overlays.{overlay_by, overlay_at}
-use Rattle.vk_opening.proofs.ReadMore.{reads_wanting}
+use Rattle.vk_files.proofs.ReadMore.{reads_wanting}
 use Rattle.vk_opening.proofs.overlays.overlay_at.Goals as goal
 
 pub returns-in_err-path : goal.returns-in_err-path

@@ -1,4 +1,4 @@
-use Rattle.vk_opening.proofs.ReadMore.{reads_wanting, once_lacking}
+use Rattle.vk_files.proofs.ReadMore.{reads_wanting, once_lacking}
 use Rattle.vk_opening.proofs.overlays.port_at.Goals as goal
 
 pub returns-in_err-path : goal.returns-in_err-path

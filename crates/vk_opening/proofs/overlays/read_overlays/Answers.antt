@@ -5,7 +5,7 @@ use Rattle.vk_files.proofs.OnceLemmas.{once_then}
 use Rattle.vk_model.specs.EarlyViews.{early_view}
 use Rattle.vk_opening.specs.Overlays.{overlay_at, overlays_at}
 use Rattle.vk_opening.specs.Views.{overlay_view}
-use Rattle.vk_opening.proofs.ReadMore.{once_lacking}
+use Rattle.vk_files.proofs.ReadMore.{once_lacking}
 use Rattle.vk_opening.proofs.LoopLemmas.{so_far_none, so_far_more, so_far_stopped, so_far_all, nothing_left}
 use Rattle.vk_opening.proofs.overlays.read_overlays.Goals as goal
 

@@ -1,6 +1,6 @@
 use Rattle.std.proofs.lemmas.Result.{err_from_is_err_and}
 use Rattle.vk_model.specs.EarlyViews.{early_view}
-use Rattle.vk_opening.proofs.ReadMore.{once_lacking}
+use Rattle.vk_files.proofs.ReadMore.{once_lacking}
 use Rattle.vk_opening.proofs.SearchLemmas.{searched_none, searched_more, searched_found, searched_all, searched_stopped}
 use Rattle.vk_opening.proofs.triplet_files.triplet_file.Goals as goal
 
