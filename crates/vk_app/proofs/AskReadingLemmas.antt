@@ -133,3 +133,7 @@ pub asks_item : {X : Type 0} {view : X → Item} {answer : Result X PortStop} {a
     → AsksAs view answer (λ p. given_for port p >>= λ given. item_at port (given_ask given) p) a b → AsksAs view answer (item_of port) a b
 unfolding item_of
 asks_item port one = one
+
+-- a version that was answered is known
+pub listed_known : (port : List ℕ) (v : Version) (before now : List (List ℕ × Version)) → now ≡ pairs_listed port (Ok (Some v)) before → Contains now (port, v)
+listed_known port v before now e = rw e (pair_known port v before)
