@@ -1,6 +1,6 @@
 -- What was read is known of the files before, also where memory was wanting in the end.
 use Rattle.std.proofs.Common.{◌≡◌, Bool, false}
-use Rattle.std.specs.Prelude.{Option, Some, None, IfSome, Result, Ok, Err}
+use Rattle.std.specs.Prelude.{Option, Some, None, IfSome, Result, Err}
 use Rattle.std.specs.Result.{IsErrAnd}
 use Rattle.std.proofs.lemmas.Result.{err_from_is_err_and}
 use Rattle.vk_spec.specs.Files.{Files}
