@@ -1,8 +1,7 @@
 -- What early files decide.
-use Rattle.std.proofs.Common.{◌≡◌, ◌+◌, ◌<◌, ℕ, Bool, true, false, List, [], ◌∷◌, ◌++◌, map, refl, ap, sym, ◌∙◌, codes}
-use Rattle.std.specs.Prelude.{Option, Some, None, Result, Ok, Err, if◌then◌else◌}
+use Rattle.std.proofs.Common.{◌≡◌, ◌+◌, ℕ, Bool, true, false, List, [], ◌∷◌, ◌++◌, map, refl, ap, sym, ◌∙◌, codes}
+use Rattle.std.specs.Prelude.{Result, Ok, Err, if◌then◌else◌}
 use Rattle.std.specs.FinMap as files_map
-use Rattle.std.specs.List.{find}
 use Rattle.std.proofs.lemmas.List.Elements.{All-head, All-tail}
 use Rattle.serde_json.specs.Data.{Data}
 use Rattle.vk_spec.specs.Reading.{◌>>=◌, read_each}
@@ -15,16 +14,15 @@ use Rattle.vk_config.specs.Embedding.{has_both, embedded_at}
 use Rattle.vk_files.specs.Kept.{Seen, seen_in, seen_at, absent, too_large, holds}
 use Rattle.vk_files.specs.Readings.{Standing, missing, too_long, readable, standing_by, standing_at, seen_file, told_at}
 use Rattle.vk_model.specs.declared.projects.Project.{Project}
-use Rattle.vk_triplet.specs.TripletReadings.{Triplet}
 use Rattle.vk_spec.specs.Earlies.{Early, bad_file, two_configurations, no_triplet}
 use Rattle.vk_opening.specs.Starts.{Overlay}
 use Rattle.vk_opening.specs.Laws.{AgreeAt, LacksTriplet, NoneHas, triplet_paths, early_paths}
 use Rattle.vk_opening.specs.Projects.{manifest_path, config_path, triplet_path, folders_of}
 use Rattle.vk_opening.specs.Roots.{Root, root_in, or_early, early_at, port_in}
-use Rattle.vk_opening.specs.Configurations.{has_configuration, alone_in, config_by, config_in}
-use Rattle.vk_opening.specs.TripletFiles.{Triplets, is_at, triplet_in, triplet_file, triplet_from, triplet_at, triplets_at}
-use Rattle.vk_opening.specs.Overlays.{port_at, overlay_by, overlay_at, overlays_at}
-use Rattle.vk_opening.specs.Openings.{Opening, opening_with, triplets_of, overlays_of, opened_of}
+use Rattle.vk_opening.specs.Configurations.{has_configuration, config_by, config_in}
+use Rattle.vk_opening.specs.TripletFiles.{Triplets, is_at, triplet_in, triplet_file, triplet_at, triplets_at}
+use Rattle.vk_opening.specs.Overlays.{overlay_by, overlay_at, overlays_at}
+use Rattle.vk_opening.specs.Openings.{Opening, triplets_of, overlays_of, opened_of}
 use Rattle.vk_opening.proofs.OpenLemmas.{after_root, after_config, after_triplets, after_overlays}
 
 -- two configurations

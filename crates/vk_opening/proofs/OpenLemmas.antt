@@ -1,13 +1,12 @@
 -- What was read of a project is what is answered.
-use Rattle.std.proofs.Common.{◌≡◌, List, [], refl, ap, sym, subst, ◌∙◌}
-use Rattle.std.specs.Prelude.{IfSome, Option, Some, None, Result, Ok, Err}
+use Rattle.std.proofs.Common.{◌≡◌, List, [], refl, sym, subst, ◌∙◌}
+use Rattle.std.specs.Prelude.{IfSome, Result, Ok, Err}
 use Rattle.vk_spec.specs.Reading.{◌>>=◌}
 use Rattle.vk_spec.specs.Files.{Files}
 use Rattle.vk_spec.specs.Lists.{NoRepeats}
 use Rattle.vk_spec.specs.States.{State, OnlyRead}
-use Rattle.vk_files.specs.Kept.{Kept, paths_of, IsOf, ReadOnce}
+use Rattle.vk_files.specs.Kept.{Kept, paths_of, IsOf}
 use Rattle.vk_files.specs.Views.{kept_of}
-use Rattle.vk_files.specs.StopViews.{has_tree_failed, refusal_in}
 use Rattle.vk_files.specs.Readings.{ReadsAs}
 use Rattle.vk_files.specs.declared.caches.FileCache.{FileCache}
 use Rattle.vk_files.specs.declared.stops.Stop.{Stop}

@@ -1,6 +1,6 @@
 -- Two triplets, of which the second may be the first.
 use Rattle.std.proofs.Common.{◌≡◌, ℕ, List, refl}
-use Rattle.std.specs.Prelude.{IfSome, Result, Ok}
+use Rattle.std.specs.Prelude.{Result, Ok}
 use Rattle.vk_spec.specs.Reading.{◌>>=◌}
 use Rattle.vk_spec.specs.Paths.{Path}
 use Rattle.vk_spec.specs.Files.{Files}

@@ -1,5 +1,5 @@
 -- The configuration of a project: in a file of its own, or in the root manifest under one of two keys.
-use Rattle.std.specs.Prelude.{ℕ, Bool, List, [], None, Result, Ok, Err, ◌||◌, if◌then◌else◌}
+use Rattle.std.specs.Prelude.{Bool, [], None, Result, Ok, Err, ◌||◌, if◌then◌else◌}
 use Rattle.std.specs.Option.{is_some}
 use Rattle.serde_json.specs.Data.{Data}
 use Rattle.serde_json.specs.Find.{get}

@@ -1,7 +1,6 @@
 -- What the early files of a project give: a setting and a start, or the first early line.
 use Rattle.std.specs.Prelude.{List, [], map, Result, Ok}
 use Rattle.vk_spec.specs.Reading.{◌>>=◌}
-use Rattle.vk_spec.specs.Paths.{Path}
 use Rattle.vk_spec.specs.Files.{Files}
 use Rattle.vk_base.specs.FeatureViews.{feature_view}
 use Rattle.vk_spec.specs.Manifests.{Manifest}

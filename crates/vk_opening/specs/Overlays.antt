@@ -1,5 +1,5 @@
 -- The folders that stand before every registry: each is a port, or holds ports.
-use Rattle.std.specs.Prelude.{ℕ, List, Result, Ok}
+use Rattle.std.specs.Prelude.{List, Result, Ok}
 use Rattle.vk_spec.specs.Reading.{◌>>=◌, read_each}
 use Rattle.vk_spec.specs.Paths.{Path}
 use Rattle.vk_spec.specs.Files.{Files}
