@@ -3,3 +3,4 @@ mod OrderLaws
 mod ReportLemmas
 pub mod FormLemmas
 pub mod AskReadingLemmas
+pub mod EndLemmas

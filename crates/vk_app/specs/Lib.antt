@@ -6,7 +6,13 @@ pub mod PlainManifests
 pub mod PortPlans
 pub mod PortStops
 pub mod AskReadings
+pub mod Located
 pub mod Refusals
 pub mod RefusalViews
 pub mod ShortReports
+pub mod Plans
+pub mod Answers
+pub mod Runs
+pub mod Ends
+pub mod PlanReadings
 pub mod WordViews

@@ -3,14 +3,21 @@
 //! every other end.
 #![tactic(auto)]
 
+mod ends;
 mod fronts;
 mod items;
 pub mod laws;
 mod plain_manifests;
+mod plans;
 mod port_plans;
 mod port_sets;
 mod refusals;
 mod reports;
 mod requests;
+mod runs;
 mod stops;
+#[cfg(test)]
+mod tests;
 mod troubles;
+
+pub use runs::{Ran, run};

@@ -1,4 +1,8 @@
-use vk_base::{PortName, TreePath};
+ghost use Rattle.std.specs.Prelude.{◌≡◌};
+ghost use Rattle.vk_app.specs.declared.refusals.PlanStop.TheVariants as plan_stop;
+
+use std::alloc::{AllocError, AllocFailed};
+use vk_base::{Memory, PortName, TreePath};
 use vk_catalogue::Wrong;
 use vk_model::Early;
 use vk_version::Ask;
@@ -14,4 +18,36 @@ pub enum Refusal {
     Wrong(PortName, Wrong),
     /// A port's table lacks the version that is given.
     NoVersion(PortName, Ask),
+}
+
+/// Why there is no plan.
+#[derive(Drop)]
+pub enum PlanStop {
+    Refused(Refusal),
+    TreeFailed,
+    Memory,
+}
+
+impl From<AllocError> for PlanStop {
+    ghost from_gives = { λ _ e. e ≡ plan_stop.Memory };
+
+    fn from(_: AllocError) -> Self {
+        PlanStop::Memory
+    }
+}
+
+impl<T: Drop> From<AllocFailed<T>> for PlanStop {
+    ghost from_gives = { λ _ e. e ≡ plan_stop.Memory };
+
+    fn from(_: AllocFailed<T>) -> Self {
+        PlanStop::Memory
+    }
+}
+
+impl From<Memory> for PlanStop {
+    ghost from_gives = { λ _ e. e ≡ plan_stop.Memory };
+
+    fn from(_: Memory) -> Self {
+        PlanStop::Memory
+    }
 }

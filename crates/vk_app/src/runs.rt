@@ -1,0 +1,144 @@
+//! The top call: `plan`, from the words to the status.
+ghost use Rattle.std.specs.Prelude.{◌≡◌, ◌≤◌, ◌<◌, ◌^◌, ℕ, List, Bool, false, Result, Err, IfSome, length};
+ghost use Rattle.vk_spec.specs.Reading.{Fails};
+ghost use Rattle.vk_spec.specs.States.{OnlyRead};
+ghost use Rattle.vk_app.specs.Answers.{report_of};
+ghost use Rattle.vk_app.specs.Ends.{EndsAs, EndFits, IsOfPlan, end_failed, end_of_fault};
+ghost use Rattle.vk_app.specs.PortPlans.{Item};
+ghost use Rattle.vk_app.specs.Plans.{project_of, plan_of};
+ghost use Rattle.vk_app.specs.PlanReadings.{refused_of, is_tree_failed};
+ghost use Rattle.vk_app.specs.Refusals.{Refused};
+ghost use Rattle.vk_app.specs.RefusalViews.{refusal_view};
+ghost use Rattle.vk_app.specs.Runs.{Answers, Completes, HasCauses, TellsLine, KeepsOut, JudgesWords};
+ghost use Rattle.vk_app.specs.WordViews.{words_view, request_view};
+
+use crate::ends::{End, tell};
+use crate::plans::plan;
+use crate::refusals::{PlanStop, Refusal};
+use crate::reports::refused_report;
+use crate::requests::{Request, read_request};
+use crate::stops::WordsFault;
+use std::alloc::Global;
+use vk_base::{List, Word};
+use vk_tree::{Sink, Tree};
+
+/// How a run ended, and the tree as it stands.
+#[derive(Drop)]
+pub struct Ran<T> {
+    /// 0: a plan. 1: refused. 2: words of no form. 3: want of memory. 4: the tree failed.
+    /// 5: a sink stopped.
+    pub status: u8,
+    /// The tree that was moved in.
+    pub tree: T,
+}
+
+// How a run ends, before that is told, and the tree as it stands.
+#[derive(Drop)]
+struct Ended<T> {
+    end: End,
+    tree: T,
+}
+
+fn refused(alloc: Global, refusal: &Refusal) -> End
+    ensures fits { (triplet : List ℕ) → EndFits result (report_of triplet (Err (refusal_view refusal.now))) }
+    ensures calm { end_failed result ≡ false }
+    ensures plan { IsOfPlan result }
+{
+    match refused_report(alloc, refusal) {
+        Ok(report) => End::Refused(report),
+        Err(_) => End::Memory,
+    }
+}
+
+fn end_of_stop(alloc: Global, stop: PlanStop) -> End
+    ensures fits { (triplet : List ℕ) (read : Result (List Item) Refused) → Fails (refused_of stop) read → EndFits result (report_of triplet read) }
+    ensures failed { end_failed result ≡ is_tree_failed stop }
+    ensures plan { IsOfPlan result }
+{
+    match stop {
+        PlanStop::Refused(refusal) => refused(alloc, &refusal),
+        PlanStop::TreeFailed => End::TreeFailed,
+        PlanStop::Memory => End::Memory,
+    }
+}
+
+fn end_of_plan<T: Tree>(alloc: Global, request: &Request, tree: T) -> Ended<T>
+    ensures only { OnlyRead (end_failed result.end) (T.state tree) (T.state result.tree) }
+    ensures content { IfSome (T.state tree).told (λ t. EndFits result.end (report_of request.now.triplet (plan_of (project_of (request_view request.now)) t.files))) }
+    ensures plan { IsOfPlan result.end }
+{
+    let planned = plan(alloc, request, tree);
+    let end = match planned.report {
+        Ok(report) => End::Planned(report),
+        Err(stop) => end_of_stop(alloc, stop),
+    };
+    Ended {
+        end,
+        tree: planned.tree,
+    }
+}
+
+fn end_of_words(fault: WordsFault) -> End
+    ensures { result ≡ end_of_fault fault }
+{
+    match fault {
+        WordsFault::Form => End::Form,
+        WordsFault::Memory => End::Memory,
+    }
+}
+
+fn end_of<T: Tree>(alloc: Global, words: &List<Word>, tree: T) -> Ended<T>
+    ensures { EndsAs (words_view words.now) result.end (T.state tree) (T.state result.tree) }
+{
+    match read_request(alloc, words) {
+        Ok(request) => end_of_plan(alloc, &request, tree),
+        Err(fault) => Ended {
+            end: end_of_words(fault),
+            tree,
+        },
+    }
+}
+
+/// Does what the words ask for, over a tree that is moved in and handed back: `plan` prints the
+/// plan of the project in the working folder, or its refusal, on `out`. Other ends have a line on
+/// `err`: 2 for words of no form, 3 for want of memory, 4 where a call of the tree failed, 5 where
+/// a sink stopped.
+pub fn run<T: Tree, O: Sink, E: Sink>(
+    alloc: Global,
+    words: &List<Word>,
+    tree: T,
+    out: &mut O,
+    err: &mut E,
+) -> Ran<T>
+    requires { length words.now < 2 ^ 32 }
+    // Where the files are told and nothing outside failed, status and bytes are the answer.
+    ensures answers { Answers (words_view words.now) result.status
+        (record { tree = T.state tree; out = O.state out.old; err = E.state err.old })
+        (record { tree = T.state result.tree; out = O.state out.new; err = E.state err.new }) }
+    // Where nothing can fail, nothing but want of memory stands in its place.
+    ensures completes { Completes (words_view words.now) result.status
+        (record { tree = T.state tree; out = O.state out.old; err = E.state err.old })
+        (record { tree = T.state result.tree; out = O.state out.new; err = E.state err.new }) }
+    // 4 and 5 come only where a count may have risen, and a count that rose is told.
+    ensures causes { HasCauses result.status
+        (record { tree = T.state tree; out = O.state out.old; err = E.state err.old })
+        (record { tree = T.state result.tree; out = O.state out.new; err = E.state err.new }) }
+    // 2 comes for words of no form alone, and then nothing was read.
+    ensures words { JudgesWords (words_view words.now) result.status
+        (record { tree = T.state tree; out = O.state out.old; err = E.state err.old })
+        (record { tree = T.state result.tree; out = O.state out.new; err = E.state err.new }) }
+    // What the sinks took under every status.
+    ensures out { KeepsOut (words_view words.now) result.status
+        (record { tree = T.state tree; out = O.state out.old; err = E.state err.old })
+        (record { tree = T.state result.tree; out = O.state out.new; err = E.state err.new }) }
+    ensures err { TellsLine result.status
+        (record { tree = T.state tree; out = O.state out.old; err = E.state err.old })
+        (record { tree = T.state result.tree; out = O.state out.new; err = E.state err.new }) }
+    // Nothing was changed in the tree.
+    ensures unchanged { (failed : Bool) × OnlyRead failed (T.state tree) (T.state result.tree) }
+    ensures small { result.status ≤ 5 }
+{
+    let Ended { end, tree } = end_of(alloc, words, tree);
+    let status = tell(&end, out, err);
+    Ran { status, tree }
+}
