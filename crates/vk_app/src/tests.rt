@@ -18,6 +18,7 @@ const FILES: &[(&str, &str)] = &[
         "reg/versions/f-/fmt.json",
         r#"{"versions":[{"version":"10.1.1","path":"$/fmt"}]}"#,
     ),
+    ("triplets/x64-linux.cmake", "set(A b)\n"),
     ("reg/fmt/vcpkg.json", r#"{"name":"fmt","version":"10.1.1"}"#),
 ];
 
