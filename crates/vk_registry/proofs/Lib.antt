@@ -3,5 +3,5 @@ mod OrderLemmas
 mod StepLemmas
 mod AskLemmas
 mod FolderLemmas
-mod TableLemmas
+pub mod TableLemmas
 mod EntryLemmas
