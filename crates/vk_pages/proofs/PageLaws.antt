@@ -1,5 +1,5 @@
 -- What every page keeps, and where a port comes from.
-use Rattle.std.proofs.Common.{◌≡◌, ◌++◌, ℕ, Bool, true, false, cond, List, [], ◌∷◌, map, inl, inr, refl, ap, sym, subst, ◌∙◌}
+use Rattle.std.proofs.Common.{◌≡◌, ℕ, Bool, true, false, cond, List, [], ◌∷◌, map, inl, inr, refl, ap, sym, subst, ◌∙◌}
 use Rattle.std.specs.Prelude.{Option, Some, None, option_map, IfOk, IfErr, Result, Ok, Err, bytes_eq, decimal}
 use Rattle.std.specs.List.{Contains}
 use Rattle.vk_spec.specs.Lists.{NoRepeats}
@@ -27,7 +27,7 @@ use Rattle.vk_opening.specs.Starts.{Overlay, is_port, has_ports, Start}
 use Rattle.vk_pages.specs.RegistryFiles.{table_path}
 use Rattle.vk_pages.specs.Wrongs.{or_wrong, port_manifest, manifest_file, version_in}
 use Rattle.vk_pages.specs.Agreement.{class_word, name_text, same_in, named, version_agrees, agreeing}
-use Rattle.vk_pages.specs.Homes.{Home, in_overlay, in_registry, Served, served_by, served_for, override_for, baseline_file, baseline_given, given_by, table_in, overlay_home, named_home, folder_home, port_folder, home_in, home_with, served_home, registry_home, overlay_for, home_by, home_of}
+use Rattle.vk_pages.specs.Homes.{Home, in_overlay, in_registry, Served, served_by, served_for, override_for, baseline_file, baseline_given, given_by, table_in, overlay_home, named_home, port_folder, home_in, home_with, served_home, registry_home, overlay_for, home_by, home_of}
 use Rattle.vk_pages.specs.Pages.{row_folder, row_manifest, page_row, page_at, page_of}
 
 -- ---- what can be wrong
@@ -145,7 +145,7 @@ served_sound : (set : Option Ask) (served : Served) (port : List ℕ) (files : F
 unfolding served_home
 served_sound set served port files =
     sound_then IsSet (given_by set served port files) (λ given. home_with given served port files) (by_wrong set served port files) (by_set set served port files)
-        (λ given is. sound_then IsTable (table_in served port files) (λ rows. Ok (in_registry given served.folder rows)) (file_wrong _) (table_is served port files) (λ rows table. (is, table)))
+    (λ given is. sound_then IsTable (table_in served port files) (λ rows. Ok (in_registry given served.folder rows)) (file_wrong _) (table_is served port files) (λ rows table. (is, table)))
 
 registry_sound : (start : Start) (port : List ℕ) (files : Files) → IsSound (registry_home start port files)
 unfolding registry_home
@@ -170,21 +170,21 @@ agrees_wrong path v w =
     let last = λ (two : Unit {0}). same_in path the.port (decimal v.port) (decimal w.port) in
     let rest = λ (one : Unit {0}). same_in path the.text v.text w.text >>= last in
     wrong_then CanBeOfRow (same_in path the.class (class_word v.class) (class_word w.class)) rest (same_wrong path the.class (class_word v.class) (class_word w.class))
-        (λ one. wrong_then CanBeOfRow (same_in path the.text v.text w.text) last (same_wrong path the.text v.text w.text) (λ two. same_wrong path the.port (decimal v.port) (decimal w.port)))
+    (λ one. wrong_then CanBeOfRow (same_in path the.text v.text w.text) last (same_wrong path the.text v.text w.text) (λ two. same_wrong path the.port (decimal v.port) (decimal w.port)))
 
 agreeing_wrong : (path : Path) (port : List ℕ) (v : Version) (m : Manifest Tree) → IfErr (agreeing path port v m) CanBeOfRow
 unfolding agreeing
 agreeing_wrong path port v m =
     let last = λ (w : Version). version_agrees path v w in
     wrong_then CanBeOfRow (named path port m) (λ (one : Unit {0}). version_in path m >>= last) (same_wrong path the.name port (name_text m.name))
-        (λ one. wrong_then CanBeOfRow (version_in path m) last (version_row_wrong path m) (λ w. agrees_wrong path v w))
+    (λ one. wrong_then CanBeOfRow (version_in path m) last (version_row_wrong path m) (λ w. agrees_wrong path v w))
 
 row_wrong : (port : List ℕ) (registry : Path) (row : Row) (files : Files) → IfErr (row_manifest port registry row files) CanBeOfRow
 unfolding row_manifest
 row_wrong port registry row files =
     let path = manifest_path (row_folder registry row) in
     wrong_then CanBeOfRow (manifest_file path files) (λ m. agreeing path port row.version m >>= λ same. Ok m) (file_row_wrong (file_at port_manifest path files))
-        (λ m. wrong_then CanBeOfRow (agreeing path port row.version m) (λ same. Ok m) (agreeing_wrong path port row.version m) (λ same. tt))
+    (λ m. wrong_then CanBeOfRow (agreeing path port row.version m) (λ same. Ok m) (agreeing_wrong path port row.version m) (λ same. tt))
 
 rows_wrong : (port : List ℕ) (registry : Path) (files : Files) (rows : List Row) (r : the.Row Tree) → Contains (map (page_row port registry files) rows) r → IfErr r.manifest CanBeOfRow
 rows_wrong port registry files [] r at = absurd (contains_nothing r at)

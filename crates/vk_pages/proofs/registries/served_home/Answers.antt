@@ -23,7 +23,7 @@ returns-in_err-table g c = λ start is.
     let known = AreBaselines start (notes_of c.given_by.new.baselines) in
     let p = err_from_is_err_and c.from_residual-in_err-table.result c.from_residual-in_err-table.ensures.1 in
     rw (p.1, p.2) (noting_then (λ given f. home_with given s c.args.port.now f) (c.in_ok-given.ensures start is)
-        (noting_stopped home_view (λ rows f. Ok (in_registry (given_view c.in_ok-given.given) s.folder rows)) (noting_none known c.in_err-table.ensures)))
+    (noting_stopped home_view (λ rows f. Ok (in_registry (given_view c.in_ok-given.given) s.folder rows)) (noting_none known c.in_err-table.ensures)))
 
 pub returns : goal.returns
 unfolding served_home
@@ -31,5 +31,5 @@ returns g c = λ start is.
     let s = served_view c.args.served in
     let known = AreBaselines start (notes_of c.given_by.new.baselines) in
     noting_then (λ given f. home_with given s c.args.port.now f) (c.in_ok-given.ensures start is)
-        (noting_then (λ rows f. Ok (in_registry (given_view c.in_ok-given.given) s.folder rows)) (noting_none known c.in_ok-table.ensures)
-            (noting_pure wrong_view home_view _ (λ f. Ok (in_registry (given_view c.in_ok-given.given) s.folder c.in_ok-table.table)) known known _ refl (λ f old right. (right, refl))))
+    (noting_then (λ rows f. Ok (in_registry (given_view c.in_ok-given.given) s.folder rows)) (noting_none known c.in_ok-table.ensures)
+    (noting_pure wrong_view home_view _ (λ f. Ok (in_registry (given_view c.in_ok-given.given) s.folder c.in_ok-table.table)) known known _ refl (λ f old right. (right, refl))))
