@@ -2,6 +2,7 @@ pub mod KnownLemmas
 pub mod LearnLemmas
 pub mod NotedLemmas
 pub mod ListedLemmas
+pub mod ManifestLemmas
 pub mod AnsweredLemmas
 pub mod RegistryLemmas
 pub mod LibraryLemmas

@@ -10,13 +10,12 @@ use Rattle.vk_spec.specs.Pages.{Wrong, no_baseline, Given, overlay, override, ba
 use Rattle.vk_expr.specs.Trees.{Tree}
 use Rattle.vk_registry.specs.Baselines.{Entry, ask_for}
 use Rattle.vk_registry.specs.Tables.{Row}
-use Rattle.vk_registry.proofs.StepLemmas.{bind_ok}
 use Rattle.vk_files.specs.Readings.{Bad}
 use Rattle.vk_opening.specs.Projects.{manifest_path}
 use Rattle.vk_opening.specs.Starts.{Overlay, is_port, has_ports, Start}
 use Rattle.vk_pages.specs.Wrongs.{or_wrong, manifest_file, version_in}
 use Rattle.vk_pages.specs.Agreement.{named}
-use Rattle.vk_pages.specs.Homes.{Home, in_overlay, in_registry, Served, overlay_for, overlay_home, folder_home, home_in, port_folder, served_for, override_for, baseline_given, baseline_file, given_by, table_in, served_home, registry_home, home_by, home_of}
+use Rattle.vk_pages.specs.Homes.{Home, in_overlay, in_registry, Served, overlay_for, overlay_home, named_home, folder_home, home_in, port_folder, served_for, override_for, baseline_given, baseline_file, given_by, table_in, served_home, registry_home, home_by, home_of}
 
 -- an override or a baseline's entry
 abbrev pub IsSet : Given → Type 0
@@ -29,7 +28,11 @@ abbrev IsSetAt : Home → Type 0
 IsSetAt (in_overlay folder v m) = Unit {0}
 IsSetAt (in_registry given registry rows) = IsSet given
 
-ok_is : {X F : Type 0} {x y : X} → Ok {E = F} x ≡ Ok y → x ≡ y
+bind_ok : {A B F : Type 0} (m : Result A F) (f : A → Result B F) (y : B) → (m >>= f) ≡ Ok y → (x : A) × (m ≡ Ok x) × (f x ≡ Ok y)
+bind_ok (Ok x) f y e = (x, refl, e)
+bind_ok (Err fault) f y e = (cc)
+
+ok_is : {X F : Type 0} {x y : X} → ◌≡◌ {A = Result X F} (Ok x) (Ok y) → x ≡ y
 ok_is e = (cc)
 
 by_entry : (o : Option Ask) (g : Given) → or_fault no_baseline (option_map baseline o) ≡ Ok g → IsSet g
@@ -53,12 +56,12 @@ in_own : (folder : Path) (m : Manifest Tree) (home : Home) → overlay_home fold
 unfolding overlay_home
 in_own folder m home e = let v = bind_ok (version_in (manifest_path folder) m) (λ v. Ok (in_overlay folder v m)) home e in subst IsSetAt (ok_is v.2) tt
 
+in_named : (port : List ℕ) (folder : Path) (m : Manifest Tree) (home : Home) → named_home port folder m ≡ Ok home → IsSetAt home
+unfolding named_home
+in_named port folder m home e = let same = bind_ok (named (manifest_path folder) port m) (λ same. overlay_home folder m) home e in in_own folder m home same.2
+
 in_folder : (port : List ℕ) (folder : Path) (files : Files) (home : Home) → folder_home port folder files ≡ Ok home → IsSetAt home
-unfolding folder_home
-in_folder port folder files home e =
-    let m = bind_ok (manifest_file (manifest_path folder) files) (λ m. named (manifest_path folder) port m >>= λ same. overlay_home folder m) home e in
-    let same = bind_ok (named (manifest_path folder) port m.0) (λ same. overlay_home folder m.0) home m.2 in
-    in_own folder m.0 home same.2
+in_folder port folder files home e = let m = bind_ok (manifest_file (manifest_path folder) files) (named_home port folder) home e in in_named port folder m.0 home m.2
 
 set_in : (overlay : Option Overlay) (start : Start) (port : List ℕ) (files : Files) (home : Home) → home_by overlay start port files ≡ Ok home → IsSetAt home
 unfolding registry_home
