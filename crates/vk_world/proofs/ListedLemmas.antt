@@ -5,7 +5,7 @@ use Rattle.std.specs.List.{Contains, find}
 use Rattle.vk_spec.specs.Paths.{Path}
 use Rattle.vk_spec.specs.Files.{Files}
 use Rattle.vk_spec.specs.Lists.{NoRepeats}
-use Rattle.vk_spec.specs.Versions.{Version, Ask, ask_of, same_ask}
+use Rattle.vk_spec.specs.Versions.{Version, Ask, ask_of, same_ask, same_version}
 use Rattle.vk_spec.specs.Manifests.{Manifest}
 use Rattle.vk_spec.specs.Pages.{row_in, version_in, manifest_in}
 use Rattle.vk_spec.specs.Pages.{Row as PageRow}
@@ -15,8 +15,7 @@ use Rattle.vk_expr.specs.Trees.{Tree}
 use Rattle.vk_registry.specs.Tables.{Row, ask_in, asks_of, IsRowAt, HasNoRow}
 use Rattle.vk_pages.specs.Homes.{Home, in_overlay, in_registry}
 use Rattle.vk_pages.specs.Pages.{row_folder, row_manifest, page_row, page_at}
-use Rattle.vk_world.specs.KnownVersions.{same_version}
-use Rattle.vk_world.specs.PairLaws.{version_decides}
+use Rattle.vk_spec.proofs.VersionLemmas.{version_decides}
 use Rattle.vk_world.specs.VersionFolders.{version_folder}
 use Rattle.vk_world.specs.HomeNotes.{FoundHome}
 use Rattle.vk_world.specs.Listed.{own_listed, row_listed, table_listed, listed_at, listed_in, row_meant}

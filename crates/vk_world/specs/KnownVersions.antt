@@ -5,24 +5,9 @@ use Rattle.std.specs.Map.{lookup}
 use Rattle.std.specs.Option.{is_some}
 use Rattle.std.specs.Hash as fed
 use Rattle.vk_spec.specs.Paths.{Path}
-use Rattle.vk_spec.specs.Versions.{Class, dot, date, text, Version}
+use Rattle.vk_spec.specs.Versions.{Version, same_version}
 use Rattle.vk_world.specs.declared.answered.PortVersion.{PortVersion}
 use Rattle.vk_world.specs.declared.answered.KnownVersions.{KnownVersions}
-
-abbrev pub same_class : Class → Class → Bool
-same_class dot dot = true
-same_class dot date = false
-same_class dot text = false
-same_class date dot = false
-same_class date date = true
-same_class date text = false
-same_class text dot = false
-same_class text date = false
-same_class text text = true
-
--- versions are one where class, text and port-version are
-abbrev pub same_version : Version → Version → Bool
-same_version v w = same_class v.class w.class && (bytes_eq v.text w.text && (v.port == w.port))
 
 -- a port and a version are another port and version
 abbrev pub same_pair : List ℕ → Version → List ℕ → Version → Bool

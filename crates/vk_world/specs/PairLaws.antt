@@ -4,31 +4,14 @@ use Rattle.std.specs.Cmp.{IsEquivalence, decided, unsigned_Decides}
 use Rattle.std.specs.Hash as fed
 use Rattle.std.specs.Bool.{Decides}
 use Rattle.std.proofs.lemmas.Slice.Eq.{bytes_eq-Decides}
-use Rattle.vk_spec.specs.Versions.{Class, dot, date, text, Version}
-use Rattle.vk_world.specs.KnownVersions.{same_class, same_version, same_pair, pair_fed}
+use Rattle.vk_spec.specs.Versions.{Version}
+use Rattle.vk_spec.proofs.VersionLemmas.{version_decides}
+use Rattle.vk_world.specs.KnownVersions.{same_pair, pair_fed}
 
 both_decide : {P Q : Type 0} (a b : Bool) → Decides a P → Decides b Q → Decides (a && b) (P × Q)
 both_decide true true p q = (λ e. (p.0 refl, q.0 refl), λ e. refl)
 both_decide true false p q = (λ e. (cc), λ e. q.1 e.1)
 both_decide false b p q = (λ e. (cc), λ e. p.1 e.0)
-
-class_decides : (c d : Class) → Decides (same_class c d) (c ≡ d)
-class_decides dot dot = (λ e. refl, λ e. refl)
-class_decides dot date = (λ e. (cc), λ e. (cc))
-class_decides dot text = (λ e. (cc), λ e. (cc))
-class_decides date dot = (λ e. (cc), λ e. (cc))
-class_decides date date = (λ e. refl, λ e. refl)
-class_decides date text = (λ e. (cc), λ e. (cc))
-class_decides text dot = (λ e. (cc), λ e. (cc))
-class_decides text date = (λ e. (cc), λ e. (cc))
-class_decides text text = (λ e. refl, λ e. refl)
-
-pub version_decides : (v w : Version) → Decides (same_version v w) (v ≡ w)
-version_decides v w =
-    let d = both_decide (same_class v.class w.class) _ (class_decides v.class w.class) (both_decide (bytes_eq v.text w.text) _ (bytes_eq-Decides v.text w.text) (unsigned_Decides v.port w.port)) in (
-      λ e. let p = d.0 e in λ i. record { class = p.0 i; text = p.1.0 i; port = p.1.1 i },
-      λ e. d.1 (ap (λ x. x.class) e, (ap (λ x. x.text) e, ap (λ x. x.port) e)),
-    )
 
 -- pairs are one exactly where ports and versions are
 pub pair_decides : (port : List ℕ) (v : Version) (other : List ℕ) (w : Version) → Decides (same_pair port v other w) ((port ≡ other) × (v ≡ w))

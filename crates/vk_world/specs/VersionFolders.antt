@@ -2,11 +2,10 @@
 use Rattle.std.specs.Prelude.{Option, Some, None, option_map, List, if◌then◌else◌}
 use Rattle.std.specs.List.{find}
 use Rattle.vk_spec.specs.Paths.{Path}
-use Rattle.vk_spec.specs.Versions.{Version}
+use Rattle.vk_spec.specs.Versions.{Version, same_version}
 use Rattle.vk_registry.specs.Tables.{Row}
 use Rattle.vk_pages.specs.Homes.{Home, in_overlay, in_registry}
 use Rattle.vk_pages.specs.Pages.{row_folder}
-use Rattle.vk_world.specs.KnownVersions.{same_version}
 
 -- an overlay's own version stands in its folder, and one of a registry where its table says
 abbrev pub version_folder : Home → Version → Option Path

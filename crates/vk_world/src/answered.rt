@@ -2,7 +2,8 @@
 ghost use Rattle.std.specs.Prelude.{◌≡◌, [], OnOk, OnErr};
 ghost use Rattle.std.specs.Cmp.{partial_equiv_from_equiv};
 ghost use Rattle.std.specs.Option.{option_copied};
-ghost use Rattle.vk_world.specs.KnownVersions.{same_class, same_version, same_pair, pair_fed, folders_in, with_folder, folder_known};
+ghost use Rattle.vk_spec.specs.Versions.{same_class, same_version};
+ghost use Rattle.vk_world.specs.KnownVersions.{same_pair, pair_fed, folders_in, with_folder, folder_known};
 ghost use Rattle.vk_world.specs.PairLaws.{pair_laws, pair_hashed, pair_respected};
 
 use indexmap::{Equivalent, IndexMap};
