@@ -6,12 +6,12 @@ use Rattle.vk_spec.specs.Lists.{NoRepeats}
 use Rattle.vk_spec.specs.Paths.{Path}
 use Rattle.vk_spec.specs.Files.{Files}
 use Rattle.vk_spec.specs.Reading.{◌>>=◌, or_fault}
-use Rattle.vk_spec.specs.Versions.{Version, Ask}
+use Rattle.vk_spec.specs.Versions.{Version, Ask, ask_of}
 use Rattle.vk_spec.specs.Manifests.{Manifest}
 use Rattle.vk_spec.specs.Pages as the
 use Rattle.vk_spec.specs.Pages.{Wrong, Given, overlay, override, baseline, Field}
 use Rattle.vk_spec.proofs.ListLemmas.{contains_nothing, contains_cases}
-use Rattle.vk_catalogue.specs.Catalogues.{ask_of, CanBeOfGiven, CanBeOfRow, HasOwnAlone, IsPage}
+use Rattle.vk_spec.specs.Catalogues.{CanBeOfGiven, CanBeOfRow, HasOwnAlone, IsPage}
 use Rattle.vk_config.specs.Configs.{Source, filesystem, git, builtin, artifact}
 use Rattle.vk_expr.specs.Trees.{Tree}
 use Rattle.vk_json.specs.Documents.{Fault}

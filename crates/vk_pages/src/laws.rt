@@ -3,7 +3,7 @@ ghost use Rattle.std.specs.Prelude.{◌≡◌, List, ℕ, Ok, Some, None};
 ghost use Rattle.vk_spec.specs.Files.{Files};
 ghost use Rattle.vk_spec.specs.Pages.{override};
 ghost use Rattle.vk_spec.specs.Versions as versions;
-ghost use Rattle.vk_catalogue.specs.Catalogues.{ArePages};
+ghost use Rattle.vk_spec.specs.Catalogues.{ArePages};
 ghost use Rattle.vk_opening.specs.Starts as plain;
 ghost use Rattle.vk_pages.specs.Homes.{Served, overlay_for, home_in, served_for, override_for, home_with, home_of};
 ghost use Rattle.vk_pages.specs.Pages.{page_of};
