@@ -19,7 +19,7 @@ returns-in_err-clone-in-Overlay g c =
 pub returns-in_ok-clone-in-Overlay : goal.returns-in_ok-clone-in-Overlay
 returns-in_ok-clone-in-Overlay g c =
     rw c.in-Overlay.is
-    (overlay_learned c.args.port.now c.in-Overlay.folder c.in-Overlay.version (ask_view c.args.ask.now) c.in_ok-clone-in-Overlay.field-0 c.in-Overlay.manifest (AreManifests c.args.manifests.now) (held c.args.files.now (g.T.Tree.state c.args.tree.now)) c.in_ok-clone-in-Overlay.ensures.cases)
+    (overlay_learned c.args.port.now c.in-Overlay.folder c.in-Overlay.version (ask_view c.args.ask.now) c.in_ok-clone-in-Overlay.field-0 c.in-Overlay.manifest.value (AreManifests c.args.manifests.now) (held c.args.files.now (g.T.Tree.state c.args.tree.now)) c.in_ok-clone-in-Overlay.ensures.cases)
 
 pub returns-in-Registry : goal.returns-in-Registry
 returns-in-Registry g c =
