@@ -72,10 +72,10 @@ pub given_learned : {lib mid : Library} (port : List ℕ) {answer : Result (Resu
 given_learned {lib = lib} {mid = mid} port {answer = answer} {a = a} {b = b} known found looked stays noted told ok err calm =
     subst (λ start. Learns answer (SaysGivenOf start port) (IsRight lib) (IsRight (record mid { known = known })) a b) (start_stays lib mid stays)
     (learns_then looked (learns_pure answer (SaysGivenOf (start_of mid) port) (λ f. IsRight mid f × SaysNothing {X = Unit {0}} f tt) (IsRight (record mid { known = known })) b calm
-      (λ f both.
-        let right = both.0 in
-        let says = given_says (start_of mid) f port found answer (folders_in mid.known) (folders_in known) (home_is (start_of mid) mid.homes f port found right.homes noted) told ok err right.folders in
-        (record { homes = right.homes; manifests = right.manifests; folders = says.0 }, says.1))))
+    (λ f both.
+    let right = both.0 in
+    let says = given_says (start_of mid) f port found answer (folders_in mid.known) (folders_in known) (home_is (start_of mid) mid.homes f port found right.homes noted) told ok err right.folders in
+    (record { homes = right.homes; manifests = right.manifests; folders = says.0 }, says.1))))
 
 -- ---- versions
 
@@ -101,10 +101,10 @@ pub version_learned : {lib mid : Library} (port : List ℕ) {answer : Result (Op
 version_learned {lib = lib} {mid = mid} port {answer = answer} {a = a} {b = b} ask known found looked stays noted told ok err calm =
     subst (λ start. Learns answer (SaysVersionOf start port ask) (IsRight lib) (IsRight (record mid { known = known })) a b) (start_stays lib mid stays)
     (learns_then looked (learns_pure answer (SaysVersionOf (start_of mid) port ask) (λ f. IsRight mid f × SaysNothing {X = Unit {0}} f tt) (IsRight (record mid { known = known })) b calm
-      (λ f both.
-        let right = both.0 in
-        let says = version_says (start_of mid) f port found ask answer (folders_in mid.known) (folders_in known) (home_is (start_of mid) mid.homes f port found right.homes noted) told ok err right.folders in
-        (record { homes = right.homes; manifests = right.manifests; folders = says.0 }, says.1))))
+    (λ f both.
+    let right = both.0 in
+    let says = version_says (start_of mid) f port found ask answer (folders_in mid.known) (folders_in known) (home_is (start_of mid) mid.homes f port found right.homes noted) told ok err right.folders in
+    (record { homes = right.homes; manifests = right.manifests; folders = says.0 }, says.1))))
 
 -- ---- manifests
 
@@ -126,6 +126,6 @@ pub manifest_learned : {Z : Type 0} {lib mid : Library} (port : List ℕ) {answe
 manifest_learned {lib = lib} {mid = mid} port {answer = answer} {a = a} {c = c} ask files manifests found looked stays noted read =
     subst (λ start. Learns answer (SaysManifestOf start port ask) (IsRight lib) (IsRight (record mid { files = files; manifests = manifests })) a c) (start_stays lib mid stays)
     (learns_then looked (learns_so answer (SaysManifestOf (start_of mid) port ask) (λ f. IsRight mid f × SaysNothing {X = Unit {0}} f tt) (IsRight (record mid { files = files; manifests = manifests })) refl (λ f both. both.0.manifests)
-      (λ f both after says.
-        let right = both.0 in
-        (record { homes = right.homes; manifests = after; folders = right.folders }, manifest_says (start_of mid) f port found ask answer (home_is (start_of mid) mid.homes f port found right.homes noted) says)) read))
+    (λ f both after says.
+    let right = both.0 in
+    (record { homes = right.homes; manifests = after; folders = right.folders }, manifest_says (start_of mid) f port found ask answer (home_is (start_of mid) mid.homes f port found right.homes noted) says)) read))

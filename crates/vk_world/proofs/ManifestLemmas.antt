@@ -43,7 +43,7 @@ pub row_learned : {Z : Type 0} (port : List ℕ) (registry : Path) (row : Row) {
     → Learns answer (Means manifest_said (row_manifest port registry row)) Before (AreManifests manifests) a b
 row_learned port registry row {answer = answer} {b = b} manifests path found is noted looked told calm =
     learns_then looked (learns_pure answer (Means manifest_said (row_manifest port registry row)) (λ f. AreManifests manifests f × SaysNothing {X = Unit {0}} f tt) (AreManifests manifests) b calm
-      (λ f both. (both.0, row_means port registry row path f found answer is (right_found (IsManifestAt f) same_path path_is (manifests_in manifests) path found both.0 noted) told)))
+    (λ f both. (both.0, row_means port registry row path f found answer is (right_found (IsManifestAt f) same_path path_is (manifests_in manifests) path found both.0 noted) told)))
 
 table_means : {Z : Type 0} (port : List ℕ) (given : Given) (registry : Path) (rows : List Row) (ask : Ask) (files : Files) (answer : Result (Result (Rc Manifest Z) Wrong) CatStop) → IfOk answer (IsRowManifest port registry rows ask files) → IfOk answer (IsManifestFor port (Ok (in_registry given registry rows)) ask files)
 table_means port given registry rows ask files (Ok m) says = λ some. says (some_listed registry rows ask some) ∙ sym (manifest_on_table port registry files rows ask)
@@ -56,6 +56,6 @@ table_learned port registry rows ask {answer = answer} {Before = Before} {After 
     learns_so answer (IsManifestFor port (Ok (in_registry given registry rows)) ask) Before After refl (λ f before. before) (λ f before after says. (after, table_means port given registry rows ask f answer says)) one
 
 -- an overlay's own manifest is that of the page
-pub overlay_learned : {Z : Type 0} (port : List ℕ) (folder : Path) (v : Version) (ask : Ask) (m : Rc Manifest Z) (own : Rc Manifest Z) (Known : Files → Type 0) (h : Held) → m ≡ own → Learns (Ok (Ok m)) (IsManifestFor port (Ok (in_overlay folder v (manifest_view own.value))) ask) Known Known h h
+pub overlay_learned : {Z : Type 0} (port : List ℕ) (folder : Path) (v : Version) (ask : Ask) (m : Rc Manifest Z) (own : Manifest) (Known : Files → Type 0) (h : Held) → m.value ≡ own → Learns (Ok (Ok m)) (IsManifestFor port (Ok (in_overlay folder v (manifest_view own))) ask) Known Known h h
 overlay_learned port folder v ask m own Known h same =
-    rw same (learns_pure (Ok (Ok own)) (IsManifestFor port (Ok (in_overlay folder v (manifest_view own.value))) ask) Known Known h refl (λ f known. (known, manifest_on_overlay port f folder v (manifest_view own.value) ask)))
+    learns_pure (Ok (Ok m)) (IsManifestFor port (Ok (in_overlay folder v (manifest_view own))) ask) Known Known h refl (λ f known. (known, λ some. ap (λ x. Some (Ok (manifest_view x))) same ∙ manifest_on_overlay port f folder v (manifest_view own) ask some))

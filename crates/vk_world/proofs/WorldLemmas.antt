@@ -34,6 +34,10 @@ drop_all : {X : Type 0} (xs : List X) → drop (length xs) xs ≡ []
 drop_all [] = refl
 drop_all (x ∷ xs) = drop_all xs
 
+length_paths : (kept : Kept) → length (paths_of kept) ≡ length kept
+length_paths [] = refl
+length_paths (e ∷ es) = ap suc (length_paths es)
+
 -- what stands before the paths that a log ends with
 before_is : (log before asked : List Path) → log ≡ before ++ asked → log_before asked log ≡ before
 before_is log before asked e =
@@ -154,13 +158,31 @@ on_page port P lib s t is holds = subst (λ (o : Option Told). IfSome (option_ma
 pub sound_on_start : (lib : Library) (s : State) → lib.opened ≡ length (kept_of lib.files) → IfSome s.told (λ t. IsOf t.files (kept_of lib.files)) → ((files : Files) → IsRight lib files) → IsSound s lib
 sound_on_start lib s opened files right = record { opened = rw (opened, length_paths (kept_of lib.files)) (omega arith); told = by s.told files }
   where
-    length_paths : (kept : Kept) → length (paths_of kept) ≡ length kept
-    length_paths [] = refl
-    length_paths (e ∷ es) = ap suc (length_paths es)
-
     nothing : asked_since (learned_view lib) ≡ []
     nothing = ap (λ n. drop n (paths_in (learned_view lib))) (opened ∙ sym (length_paths (kept_of lib.files))) ∙ drop_all (paths_in (learned_view lib))
 
     by : (o : Option Told) → IfSome o (λ t. IsOf t.files (kept_of lib.files)) → IfSome o (IsSoundOn lib)
     by None of = tt
     by (Some t) of = record { files = of; right = right t.files; before = t.log; log = sym (append-nil t.log) ∙ ap (λ asked. t.log ++ asked) (sym nothing) }
+
+-- what the origin told, and what was looked at since, is what the tree tells
+told_since : (lib : Library) (o : Option Told) → IfSome o (IsSoundOn lib) → o ≡ with_asked (asked_since (learned_view lib)) (told_with (option_map (λ t. t.files) o) (option_map (λ t. log_before (asked_since (learned_view lib)) t.log) o))
+told_since lib None sound = refl
+told_since lib (Some t) sound =
+    let asked = asked_since (learned_view lib) in
+    let before = before_is t.log sound.before asked sound.log in
+    ap (λ log. Some (record { files = t.files; log = log })) (sound.log ∙ ap (λ l. l ++ asked) (sym before))
+
+pub read_since : (lib : Library) (s : State) → IsSound s lib → IsReadSince (world_state s (learned_view lib)).origin (asked_since (learned_view lib)) s
+read_since lib s sound = record { told = told_since lib s.told sound.told; changes = refl }
+
+-- as a world begins, its origin is what the tree tells
+origin_log : (lib : Library) (o : Option Told) → asked_since (learned_view lib) ≡ [] → option_map (λ t. log_before (asked_since (learned_view lib)) t.log) o ≡ option_map (λ t. t.log) o
+origin_log lib None nothing = refl
+origin_log lib (Some t) nothing = ap Some (before_is t.log t.log (asked_since (learned_view lib)) (sym (append-nil t.log) ∙ ap (λ asked. t.log ++ asked) (sym nothing)))
+
+pub origin_is : (lib : Library) (s : State) → lib.opened ≡ length (kept_of lib.files) → (world_state s (learned_view lib)).origin ≡ origin_on s
+origin_is lib s opened = λ i. record { files = option_map (λ t. t.files) s.told; log = origin_log lib s.told nothing i; changes = s.changes }
+  where
+    nothing : asked_since (learned_view lib) ≡ []
+    nothing = ap (λ n. drop n (paths_in (learned_view lib))) (opened ∙ sym (length_paths (kept_of lib.files))) ∙ drop_all (paths_in (learned_view lib))

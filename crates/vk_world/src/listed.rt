@@ -78,11 +78,7 @@ fn listed_row(alloc: Global, registry: &TreePath, row: &Row) -> Result<Listed, C
 }
 
 // An overlay's version, if it is what an ask means, and its folder.
-fn own_version(
-    folder: &TreePath,
-    version: &Version,
-    ask: &Ask,
-) -> Result<Option<Listed>, CatStop>
+fn own_version(folder: &TreePath, version: &Version, ask: &Ask) -> Result<Option<Listed>, CatStop>
     ensures told { IfOk result (λ o. option_map listed_view o ≡ own_listed folder.now version.now (ask_view ask.now)) }
     ensures calm { cat_failed result ≡ false }
 {
@@ -118,7 +114,9 @@ pub fn listed_at(alloc: Global, home: &Home, ask: &Ask) -> Result<Option<Listed>
 {
     match home {
         Home::Overlay {
-            folder, version, ..
+            folder,
+            version,
+            ..
         } => own_version(folder, version, ask),
         Home::Registry { folder, table, .. } => table_version(alloc, folder, table, ask),
     }

@@ -33,7 +33,6 @@ pub struct World<T: Tree> {
 
 impl<T: Tree> Model for World<T> {
     ghost use Rattle.vk_world.specs.Worlds.{Learned, learned_view, IsSound};
-
     ghost use Rattle.vk_expr.specs.contracts.exprs.Expr as expr;
     ghost use Rattle.std.specs.Coded.{codes};
 

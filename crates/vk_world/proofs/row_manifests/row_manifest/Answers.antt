@@ -21,5 +21,5 @@ returns-in_err-path g c =
 pub returns : goal.returns
 returns g c =
     row_learned c.args.port.now c.args.registry.now (row_view c.args.row.now) c.look.new.self c.in_ok-path.path (manifest_said c.unwrap-found.result.now) (c.in_ok-path.ensures ∙ ap manifest_path c.in_ok-folder.ensures)
-      (sym c.get.ensures ∙ ap (λ o. option_map manifest_said (option_copied o)) c.unwrap-found.ensures)
-      c.in_ok-look.ensures.learns c.agreed.ensures.told c.agreed.ensures.calm
+    (sym c.get.ensures ∙ ap (λ o. option_map manifest_said (option_copied o)) c.unwrap-found.ensures)
+    c.in_ok-look.ensures.learns c.agreed.ensures.told c.agreed.ensures.calm

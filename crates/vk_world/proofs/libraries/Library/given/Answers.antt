@@ -12,8 +12,8 @@ use Rattle.vk_world.proofs.libraries.Library.given.Goals as goal
 pub returns-clause-learns : goal.returns-clause-learns
 returns-clause-learns g c =
     given_learned c.args.port.now c.answer_given.new.known (found_home c.unwrap-found.result.now) c.in_ok-look.ensures.learns c.in_ok-look.ensures.stays
-      (sym c.get.ensures ∙ ap (λ o. option_map found_home (option_copied o)) c.unwrap-found.ensures)
-      c.answer_given.ensures.told c.answer_given.ensures.ok c.answer_given.ensures.err c.answer_given.ensures.calm
+    (sym c.get.ensures ∙ ap (λ o. option_map found_home (option_copied o)) c.unwrap-found.ensures)
+    c.answer_given.ensures.told c.answer_given.ensures.ok c.answer_given.ensures.err c.answer_given.ensures.calm
 
 pub returns-clause-known : goal.returns-clause-known
 returns-clause-known g c =

@@ -9,5 +9,5 @@ use Rattle.vk_world.proofs.libraries.Library.manifest.Goals as goal
 pub returns-clause-learns : goal.returns-clause-learns
 returns-clause-learns g c =
     manifest_learned c.args.port.now (ask_view c.args.ask.now) c.manifest_for.new.files c.manifest_for.new.manifests (found_home c.unwrap-found.result.now) c.in_ok-look.ensures.learns c.in_ok-look.ensures.stays
-      (sym c.get.ensures ∙ ap (λ o. option_map found_home (option_copied o)) c.unwrap-found.ensures)
-      c.manifest_for.ensures
+    (sym c.get.ensures ∙ ap (λ o. option_map found_home (option_copied o)) c.unwrap-found.ensures)
+    c.manifest_for.ensures

@@ -14,8 +14,8 @@ use Rattle.vk_world.proofs.libraries.Library.version.Goals as goal
 pub returns-clause-learns : goal.returns-clause-learns
 returns-clause-learns g c =
     version_learned c.args.port.now (ask_view c.args.ask.now) c.answer_version.new.known (found_home c.unwrap-found.result.now) c.in_ok-look.ensures.learns c.in_ok-look.ensures.stays
-      (sym c.get.ensures ∙ ap (λ o. option_map found_home (option_copied o)) c.unwrap-found.ensures)
-      c.answer_version.ensures.told c.answer_version.ensures.ok c.answer_version.ensures.err c.answer_version.ensures.calm
+    (sym c.get.ensures ∙ ap (λ o. option_map found_home (option_copied o)) c.unwrap-found.ensures)
+    c.answer_version.ensures.told c.answer_version.ensures.ok c.answer_version.ensures.err c.answer_version.ensures.calm
 
 pub returns-clause-known : goal.returns-clause-known
 returns-clause-known g c =
