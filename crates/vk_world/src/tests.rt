@@ -10,10 +10,9 @@ use vk_config::read_config;
 use vk_files::FileCache;
 use vk_opening::Start;
 use vk_tree::MemTree;
-use vk_version::{Scheme, read};
+use vk_version::{Scheme, Version, read};
 
-const CONFIG: &str =
-    r#"{"registries":[{"kind":"filesystem","path":"r","packages":["zlib"]}]}"#;
+const CONFIG: &str = r#"{"registries":[{"kind":"filesystem","path":"r","packages":["zlib"]}]}"#;
 
 const FILES: &[(&str, &str)] = &[
     (
@@ -24,10 +23,7 @@ const FILES: &[(&str, &str)] = &[
         "p/r/versions/z-/zlib.json",
         r#"{"versions":[{"version":"1.0","path":"$/zlib"}]}"#,
     ),
-    (
-        "p/r/zlib/vcpkg.json",
-        r#"{"name":"zlib","version":"1.0"}"#,
-    ),
+    ("p/r/zlib/vcpkg.json", r#"{"name":"zlib","version":"1.0"}"#),
 ];
 
 fn path(alloc: Global, text: &str) -> Result<TreePath, Fail> {
@@ -69,29 +65,37 @@ fn is_found<C: Catalogue>(cat: &mut C, port: &PortName) -> bool {
     }
 }
 
+// Whether a version is known once it is answered, and three files are read for it, each once.
+fn is_read_once(world: World<MemTree>, port: &PortName, version: &Version) -> bool {
+    let mut world = world;
+    let unknown = world.folder(port, version).is_none();
+    let found = is_found(&mut world, port);
+    let again = is_found(&mut world, port);
+    let known = world.folder(port, version).is_some();
+    let reads = world.into_tree().logged().len();
+    unknown && found && again && known && reads == 3
+}
+
 #[test]
 fn a_version_is_known_once_it_is_answered_and_no_file_is_read_twice(
     rt: HostRuntime,
 ) -> Result<(), Fail> {
     let alloc = rt.alloc();
-    let mut world = World::on(alloc, start(alloc)?, tree_of(alloc, FILES)?);
     let port = PortName::read(alloc, "zlib").ok().ok_or("no port")?;
     let version = read(alloc, Scheme::Relaxed, "1.0", 0)
         .ok()
         .ok_or("no version")?;
-    assert!(rt; world.folder(&port, &version).is_none());
-    assert!(rt; is_found(&mut world, &port));
-    assert!(rt; is_found(&mut world, &port));
-    assert!(rt; world.folder(&port, &version).is_some());
-    assert_eq!(rt; world.into_tree().logged().len(), 3);
+    let start = start(alloc)?;
+    let tree = tree_of(alloc, FILES)?;
+    assert!(rt; is_read_once(World::on(alloc, start, tree), &port, &version));
     Ok(())
 }
 
 #[test]
 fn a_catalogue_in_memory_answers_as_well(rt: HostRuntime) -> Result<(), Fail> {
     let alloc = rt.alloc();
-    let mut cat = MemCatalogue::new(alloc)?;
     let port = PortName::read(alloc, "zlib").ok().ok_or("no port")?;
+    let mut cat = MemCatalogue::new(alloc)?;
     assert!(rt; !is_found(&mut cat, &port));
     Ok(())
 }
