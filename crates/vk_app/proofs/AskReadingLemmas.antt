@@ -1,7 +1,11 @@
 -- One asking after another.
-use Rattle.std.proofs.Common.{◌≡◌, ◌+◌, ◌<◌, ◌≤◌, ℕ, Bool, true, false, List, [], ◌∷◌, ◌++◌, length, get_or, map, refl, ap, sym, subst, ◌∙◌}
+use Rattle.std.proofs.Common.{◌≡◌, ◌+◌, ◌<◌, ◌≤◌, ◌||◌, ℕ, Bool, true, false, List, [], ◌∷◌, ◌++◌, length, get_or, map, refl, ap, sym, subst, ◌∙◌}
 use Rattle.std.specs.Prelude.{Option, Some, None, IfSome, option_map, Result, Ok, Err, IfOk}
 use Rattle.vk_spec.specs.Reading.{◌>>=◌, or_fault, read_each, Gives, Fails}
+use Rattle.vk_spec.specs.Files.{Files}
+use Rattle.vk_spec.specs.States.{Told, State, with_asked, OnlyRead}
+use Rattle.vk_pages.specs.Pages.{page_of}
+use Rattle.vk_world.specs.Worlds.{Learned, start_in, asked_since, origin_on, pages_in, world_state, told_with, IsReadSince}
 use Rattle.vk_spec.specs.Calls.{Answer, is_failed}
 use Rattle.vk_spec.specs.Versions.{Version, Ask}
 use Rattle.vk_spec.specs.Pages.{Page, Wrong, Given, given_ask}
@@ -134,6 +138,39 @@ pub asks_item : {X : Type 0} {view : X → Item} {answer : Result X PortStop} {a
 unfolding item_of
 asks_item port one = one
 
--- a version that was answered is known
-pub listed_known : (port : List ℕ) (v : Version) (before now : List (List ℕ × Version)) → now ≡ pairs_listed port (Ok (Some v)) before → Contains now (port, v)
-listed_known port v before now e = rw e (pair_known port v before)
+-- ---- the tree below
+
+origin_told : (told : Option Told) → told_with (option_map (λ t. t.files) told) (option_map (λ t. t.log) told) ≡ told
+origin_told None = refl
+origin_told (Some t) = refl
+
+-- what only asked a world that was just made only read its tree
+pub only_read : {failed : Bool} (before after : State) (l now : Learned) → (world_state before l).origin ≡ origin_on before → OnlyAsked failed (world_state before l) (world_state after now) → IsReadSince (world_state after now).origin (asked_since now) after → OnlyRead failed before after
+only_read before after l now fresh only since =
+    let same : (world_state after now).origin ≡ origin_on before = only.origin ∙ fresh in
+    record {
+      asked = asked_since now;
+      looks = record {
+        told = since.told ∙ ap (λ o. with_asked (asked_since now) (told_with o.files o.log)) same ∙ ap (with_asked (asked_since now)) (origin_told before.told);
+        changes = since.changes ∙ ap (λ o. o.changes) same;
+        calls = only.calls;
+        ends = record { faults = only.faults; sure = only.sure; safe = only.safe };
+      };
+    }
+
+-- the files that a tree tells stay
+pub files_stay : {failed : Bool} (before after : State) (l now : Learned) (P : Files → Type 0) → OnlyAsked failed (world_state before l) (world_state after now) → IfSome after.told (λ t. P t.files) → IfSome before.told (λ t. P t.files)
+files_stay before after l now P only h = by before.told after.told (ap (λ o. o.files) only.origin) h
+  where
+    by : (one other : Option Told) → option_map (λ t. t.files) other ≡ option_map (λ t. t.files) one → IfSome other (λ t. P t.files) → IfSome one (λ t. P t.files)
+    by None other e h = tt
+    by (Some t) None e h = (cc)
+    by (Some t) (Some u) e h = let same : u.files ≡ t.files = (cc) in subst P same h
+
+-- what is told of pages is told of the files whose pages they are
+pub pages_told : (tree : State) (l : Learned) (P : Pages Tree → Type 0) → IfSome (pages_in l tree.told) P → IfSome tree.told (λ t. P (page_of (start_in l) t.files))
+pages_told tree l P h = by tree.told h
+  where
+    by : (told : Option Told) → IfSome (option_map (λ t. page_of (start_in l) t.files) told) P → IfSome told (λ t. P (page_of (start_in l) t.files))
+    by None h = tt
+    by (Some t) h = h

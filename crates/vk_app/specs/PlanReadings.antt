@@ -45,13 +45,17 @@ pub record PlansAs {X Y : Type 0} (view : X → Y) (answer : Result X PlanStop) 
   pub only : OnlyRead (has_tree_failed answer) before after
   pub content : IfSome before.told (λ t. Gives view refused_of answer (meaning t.files))
 
+-- the report of the items that were read
+abbrev pub reported : List ℕ → Result (List Item) Refused → Result (List ℕ) Refused
+reported triplet read = read >>= λ items. Ok (planned_report triplet items)
+
 -- the report of the plan of an opened project
 abbrev pub report_for : List ℕ → Path → Manifest Tree → Start → Files → Result (List ℕ) Refused
-report_for triplet folder root start files = (ports_of folder root >>= λ ports. items_for start ports files) >>= λ items. Ok (planned_report triplet items)
+report_for triplet folder root start files = reported triplet (ports_of folder root >>= λ ports. items_for start ports files)
 
 -- the report of the plan that files have, or the refusal that stands in its place
 abbrev pub planned_report_of : Request → Files → Result (List ℕ) Refused
-planned_report_of request files = plan_of (project_of request) files >>= λ items. Ok (planned_report request.triplet items)
+planned_report_of request files = reported request.triplet (plan_of (project_of request) files)
 
 -- a project that wasn't opened, told as the stop of a plan
 abbrev pub stop_opened : OpenStop → PlanStop

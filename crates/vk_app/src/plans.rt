@@ -5,8 +5,8 @@ ghost use Rattle.vk_spec.specs.Reading.{Gives, Fails};
 ghost use Rattle.vk_spec.specs.Catalogues.{OnlyAsked};
 ghost use Rattle.vk_opening.specs.Starts as opening;
 ghost use Rattle.vk_model.specs.Views.{manifest_view};
-ghost use Rattle.vk_world.specs.Libraries.{start_of};
-ghost use Rattle.vk_world.specs.Worlds.{world_state, origin_on};
+
+ghost use Rattle.vk_world.specs.Worlds.{world_state, origin_on, start_in};
 ghost use Rattle.vk_app.specs.PortPlans as plain;
 ghost use Rattle.vk_app.specs.Plans.{project_of, ports_of, refused_for, items_for, or_refused};
 ghost use Rattle.vk_app.specs.Refusals as the;
@@ -110,7 +110,7 @@ fn items_for<'a, T: Tree>(
     ports: &'a [PortName],
 ) -> Result<List<Item<'a>>, PlanStop>
     ensures only { OnlyAsked (has_tree_failed result) (world_state (T.state world.old.0) world.old.1) (world_state (T.state world.new.0) world.new.1) }
-    ensures content { IfSome (T.state world.old.0).told (λ t. Gives (λ l. map item_view l) refused_of result (items_for (start_of world.old.1) ports.now t.files)) }
+    ensures content { IfSome (T.state world.old.0).told (λ t. Gives (λ l. map item_view l) refused_of result (items_for (start_in world.old.1) ports.now t.files)) }
 {
     match items(alloc, world, ports) {
         Ok(items) => Ok(items),
@@ -127,7 +127,7 @@ fn report_of<T: Tree>(
     world: &mut World<T>,
 ) -> Result<Text, PlanStop>
     ensures only { OnlyAsked (has_tree_failed result) (world_state (T.state world.old.0) world.old.1) (world_state (T.state world.new.0) world.new.1) }
-    ensures content { IfSome (T.state world.old.0).told (λ t. Gives (λ t. t) refused_of result (report_for triplet.now folder.now (manifest_view root) (start_of world.old.1) t.files)) }
+    ensures content { IfSome (T.state world.old.0).told (λ t. Gives (λ t. t) refused_of result (report_for triplet.now folder.now (manifest_view root) (start_in world.old.1) t.files)) }
 {
     let ports = ports_of(alloc, folder, root)?;
     let items = items_for(alloc, world, ports.as_slice())?;
@@ -143,7 +143,7 @@ fn planned_in<T: Tree>(
     mut world: World<T>,
 ) -> Planned<T>
     requires { (world_state (T.state world.0) world.1).origin ≡ origin_on (T.state world.0) }
-    ensures { PlansAs (λ t. t) result.report (report_for triplet.now folder.now (manifest_view root) (start_of world.1)) (T.state world.0) (T.state result.tree) }
+    ensures { PlansAs (λ t. t) result.report (report_for triplet.now folder.now (manifest_view root) (start_in world.1)) (T.state world.0) (T.state result.tree) }
 {
     let report = report_of(alloc, triplet, folder, root, &mut world);
     Planned {
@@ -183,21 +183,34 @@ fn stopped(stop: OpenStop) -> PlanStop
     }
 }
 
-/// The report of the plan that is asked for: the project is opened, and its ports are asked for in
-/// byte order, each file read once.
-pub fn plan<T: Tree>(alloc: Global, request: &Request, mut tree: T) -> Planned<T>
+// The plan of a project that isn't opened yet.
+fn planned_for<T: Tree>(
+    alloc: Global,
+    request: &Request,
+    project: &Project,
+    mut tree: T,
+) -> Planned<T>
+    requires { project.now ≡ project_of (request_view request.now) }
     ensures { PlansAs (λ t. t) result.report (planned_report_of (request_view request.now)) (T.state tree) (T.state result.tree) }
 {
-    let Ok(project) = project_of(alloc, request) else {
-        return Planned {
-            report: Err(PlanStop::Memory),
-            tree,
-        };
-    };
-    match World::open(alloc, &mut tree, &project, None) {
+    match World::open(alloc, &mut tree, project, None) {
         Ok(opened) => planned_from(alloc, &request.triplet, &project.folder, opened, tree),
         Err(stop) => Planned {
             report: Err(stopped(stop)),
+            tree,
+        },
+    }
+}
+
+/// The report of the plan that is asked for: the project is opened, and its ports are asked for in
+/// byte order, each file read once.
+pub fn plan<T: Tree>(alloc: Global, request: &Request, tree: T) -> Planned<T>
+    ensures { PlansAs (λ t. t) result.report (planned_report_of (request_view request.now)) (T.state tree) (T.state result.tree) }
+{
+    match project_of(alloc, request) {
+        Ok(project) => planned_for(alloc, request, &project, tree),
+        Err(_) => Planned {
+            report: Err(PlanStop::Memory),
             tree,
         },
     }

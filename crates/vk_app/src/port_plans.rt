@@ -6,19 +6,20 @@ ghost use Rattle.vk_spec.specs.Catalogues.{OnPage, CanAskVersion, CanAskManifest
 ghost use Rattle.vk_version.specs.AskViews.{ask_view};
 ghost use Rattle.vk_model.specs.Views.{manifest_view};
 ghost use Rattle.vk_catalogue.specs.Views.{given_view};
-ghost use Rattle.vk_world.specs.Libraries.{start_of};
-ghost use Rattle.vk_world.specs.Worlds.{world_state, known_in};
+
+ghost use Rattle.vk_world.specs.Worlds.{world_state, known_in, start_in};
 ghost use Rattle.vk_app.specs.PortPlans as plain;
 ghost use Rattle.vk_app.specs.PortPlans.{given_for, version_for, manifest_for, item_with, item_at, item_of, items_of};
 ghost use Rattle.vk_app.specs.AskReadings.{AsksAs, item_view, trouble_of, is_failed, has_failed};
+ghost use Rattle.vk_app.specs.declared.troubles.Trouble.TheVariants as trouble;
 ghost use Rattle.vk_app.specs.Located.{IsLocated, IsLocatedStop};
 
 use crate::items::Item;
 use crate::plain_manifests::wants_nothing;
 use crate::troubles::{PortStop, Trouble};
-use std::alloc::Global;
+use std::alloc::{AllocError, Global};
 use std::rc::Rc;
-use vk_base::{List, PortName};
+use vk_base::{List, PortName, TreePath};
 use vk_catalogue::{Catalogue, Given};
 use vk_model::Manifest;
 use vk_tree::Tree;
@@ -30,8 +31,8 @@ use vk_world::World;
 fn given<T: Tree>(world: &mut World<T>, port: &PortName) -> Result<Given, PortStop>
     ensures asks { AsksAs given_view result (given_for port.now) (world_state (T.state world.old.0) world.old.1) (world_state (T.state world.new.0) world.new.1) }
     ensures can { OnOk result (OnPage port.now CanAskVersion (world_state (T.state world.new.0) world.new.1)) }
-    ensures start { start_of world.new.1 ≡ start_of world.old.1 }
-    ensures located { IsLocated result (start_of world.new.1) (T.state world.new.0) }
+    ensures start { start_in world.new.1 ≡ start_in world.old.1 }
+    ensures located { IsLocated result (start_in world.new.1) (T.state world.new.0) }
 {
     match world.given(port)? {
         Ok(given) => Ok(given),
@@ -40,7 +41,7 @@ fn given<T: Tree>(world: &mut World<T>, port: &PortName) -> Result<Given, PortSt
 }
 
 // The version of a port that an ask means.
-#[tactic(auto, using(vk_spec::proofs::AskLemmas::can_ask_manifest, crate::proofs::AskReadingLemmas::asks_one, crate::proofs::AskReadingLemmas::listed_known))]
+#[tactic(auto, using(vk_spec::proofs::AskLemmas::can_ask_manifest, crate::proofs::AskReadingLemmas::asks_one, crate::proofs::KnownLemmas::listed_known))]
 fn version<T: Tree>(
     world: &mut World<T>,
     port: &PortName,
@@ -50,8 +51,8 @@ fn version<T: Tree>(
     ensures asks { AsksAs (λ v. v) result (version_for port.now (ask_view ask.now)) (world_state (T.state world.old.0) world.old.1) (world_state (T.state world.new.0) world.new.1) }
     ensures can { OnOk result (OnPage port.now (CanAskManifest (ask_view ask.now)) (world_state (T.state world.new.0) world.new.1)) }
     ensures known { IfOk result (λ v. Contains (known_in world.new.1) (port.now, v)) }
-    ensures start { start_of world.new.1 ≡ start_of world.old.1 }
-    ensures located { IsLocated result (start_of world.new.1) (T.state world.new.0) }
+    ensures start { start_in world.new.1 ≡ start_in world.old.1 }
+    ensures located { IsLocated result (start_in world.new.1) (T.state world.new.0) }
 {
     match world.version(port, ask)? {
         Some(version) => Ok(version),
@@ -72,8 +73,8 @@ fn manifest<T: Tree>(
     requires { OnPage port.now (CanAskManifest (ask_view ask.now)) (world_state (T.state world.old.0) world.old.1) }
     ensures asks { AsksAs (λ m. manifest_view m.value) result (manifest_for port.now (ask_view ask.now)) (world_state (T.state world.old.0) world.old.1) (world_state (T.state world.new.0) world.new.1) }
     ensures known { known_in world.new.1 ≡ known_in world.old.1 }
-    ensures start { start_of world.new.1 ≡ start_of world.old.1 }
-    ensures located { IsLocated result (start_of world.new.1) (T.state world.new.0) }
+    ensures start { start_in world.new.1 ≡ start_in world.old.1 }
+    ensures located { IsLocated result (start_in world.new.1) (T.state world.new.0) }
 {
     match world.manifest(port, ask)? {
         Ok(manifest) => Ok(manifest),
@@ -81,19 +82,25 @@ fn manifest<T: Tree>(
     }
 }
 
+fn located(port: &PortName, version: Version, folder: &TreePath) -> Result<Trouble, AllocError>
+    ensures { IfOk result (λ t. t ≡ trouble.WantsMore port.now version folder.now) }
+{
+    Ok(Trouble::WantsMore(port.clone()?, version, folder.clone()?))
+}
+
 // A port at a version that was answered wants more than is planned today.
 fn wants_more<T: Tree>(world: &World<T>, port: &PortName, version: Version) -> PortStop
     requires { Contains (known_in world.now.1) (port.now, version) }
     ensures told { Fails {Y = plain.Item} (trouble_of result) (Err (plain.wants_more port.now version)) }
     ensures calm { is_failed result ≡ false }
-    ensures located { IsLocatedStop result (start_of world.now.1) (T.state world.now.0) }
+    ensures located { IsLocatedStop result (start_in world.now.1) (T.state world.now.0) }
 {
     let Some(folder) = world.folder(port, &version) else {
         return PortStop::Memory;
     };
-    match (port.clone(), folder.clone()) {
-        (Ok(port), Ok(folder)) => PortStop::Trouble(Trouble::WantsMore(port, version, folder)),
-        _ => PortStop::Memory,
+    match located(port, version, folder) {
+        Ok(trouble) => PortStop::Trouble(trouble),
+        Err(_) => PortStop::Memory,
     }
 }
 
@@ -107,7 +114,7 @@ fn item_with<'a, T: Tree>(
     requires { Contains (known_in world.now.1) (port.now, version) }
     ensures told { Gives item_view trouble_of result (item_with port.now version (manifest_view manifest.now)) }
     ensures calm { has_failed result ≡ false }
-    ensures located { IsLocated result (start_of world.now.1) (T.state world.now.0) }
+    ensures located { IsLocated result (start_in world.now.1) (T.state world.now.0) }
 {
     if wants_nothing(manifest) {
         return Ok(Item { port, version });
@@ -123,8 +130,8 @@ fn item_at<'a, T: Tree>(
 ) -> Result<Item<'a>, PortStop>
     requires { OnPage port.now CanAskVersion (world_state (T.state world.old.0) world.old.1) }
     ensures asks { AsksAs item_view result (item_at port.now (ask_view ask.now)) (world_state (T.state world.old.0) world.old.1) (world_state (T.state world.new.0) world.new.1) }
-    ensures start { start_of world.new.1 ≡ start_of world.old.1 }
-    ensures located { IsLocated result (start_of world.new.1) (T.state world.new.0) }
+    ensures start { start_in world.new.1 ≡ start_in world.old.1 }
+    ensures located { IsLocated result (start_in world.new.1) (T.state world.new.0) }
 {
     let version = version(world, port, ask)?;
     let manifest = manifest(world, port, ask)?;
@@ -134,8 +141,8 @@ fn item_at<'a, T: Tree>(
 // The item of a port at its given version.
 fn item<'a, T: Tree>(world: &mut World<T>, port: &'a PortName) -> Result<Item<'a>, PortStop>
     ensures asks { AsksAs item_view result (item_of port.now) (world_state (T.state world.old.0) world.old.1) (world_state (T.state world.new.0) world.new.1) }
-    ensures start { start_of world.new.1 ≡ start_of world.old.1 }
-    ensures located { IsLocated result (start_of world.new.1) (T.state world.new.0) }
+    ensures start { start_in world.new.1 ≡ start_in world.old.1 }
+    ensures located { IsLocated result (start_in world.new.1) (T.state world.new.0) }
 {
     let given = given(world, port)?;
     item_at(world, port, given.ask())
@@ -148,8 +155,8 @@ pub fn items<'a, T: Tree>(
     ports: &'a [PortName],
 ) -> Result<List<Item<'a>>, PortStop>
     ensures asks { AsksAs (λ l. map item_view l) result (items_of ports.now) (world_state (T.state world.old.0) world.old.1) (world_state (T.state world.new.0) world.new.1) }
-    ensures start { start_of world.new.1 ≡ start_of world.old.1 }
-    ensures located { IsLocated result (start_of world.new.1) (T.state world.new.0) }
+    ensures start { start_in world.new.1 ≡ start_in world.old.1 }
+    ensures located { IsLocated result (start_in world.new.1) (T.state world.new.0) }
 {
     let mut items = List::new(alloc);
     for (n, port) in ports.iter().enumerate() {

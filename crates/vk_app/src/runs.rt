@@ -1,25 +1,25 @@
 //! The top call: `plan`, from the words to the status.
 ghost use Rattle.std.specs.Prelude.{◌≡◌, ◌≤◌, ◌<◌, ◌^◌, ℕ, List, Bool, false, Result, Err, IfSome, length};
-ghost use Rattle.vk_spec.specs.Reading.{Fails};
+ghost use Rattle.vk_spec.specs.Reading.{Gives, Fails};
 ghost use Rattle.vk_spec.specs.States.{OnlyRead};
 ghost use Rattle.vk_app.specs.Answers.{report_of};
 ghost use Rattle.vk_app.specs.Ends.{EndsAs, EndFits, IsOfPlan, end_failed, end_of_fault};
 ghost use Rattle.vk_app.specs.PortPlans.{Item};
 ghost use Rattle.vk_app.specs.Plans.{project_of, plan_of};
-ghost use Rattle.vk_app.specs.PlanReadings.{refused_of, is_tree_failed};
+ghost use Rattle.vk_app.specs.PlanReadings.{refused_of, is_tree_failed, has_tree_failed, reported};
 ghost use Rattle.vk_app.specs.Refusals.{Refused};
 ghost use Rattle.vk_app.specs.RefusalViews.{refusal_view};
 ghost use Rattle.vk_app.specs.Runs.{Answers, Completes, HasCauses, TellsLine, KeepsOut, JudgesWords};
 ghost use Rattle.vk_app.specs.WordViews.{words_view, request_view};
 
 use crate::ends::{End, tell};
-use crate::plans::plan;
+use crate::plans::{Planned, plan};
 use crate::refusals::{PlanStop, Refusal};
 use crate::reports::refused_report;
 use crate::requests::{Request, read_request};
 use crate::stops::WordsFault;
 use std::alloc::Global;
-use vk_base::{List, Word};
+use vk_base::{List, Text, Word};
 use vk_tree::{Sink, Tree};
 
 /// How a run ended, and the tree as it stands.
@@ -62,19 +62,26 @@ fn end_of_stop(alloc: Global, stop: PlanStop) -> End
     }
 }
 
+fn end_of_report(alloc: Global, report: Result<Text, PlanStop>) -> End
+    ensures fits { (triplet : List ℕ) (read : Result (List Item) Refused) → Gives (λ t. t) refused_of report (reported triplet read) → EndFits result (report_of triplet read) }
+    ensures failed { end_failed result ≡ has_tree_failed report }
+    ensures plan { IsOfPlan result }
+{
+    match report {
+        Ok(report) => End::Planned(report),
+        Err(stop) => end_of_stop(alloc, stop),
+    }
+}
+
 fn end_of_plan<T: Tree>(alloc: Global, request: &Request, tree: T) -> Ended<T>
     ensures only { OnlyRead (end_failed result.end) (T.state tree) (T.state result.tree) }
     ensures content { IfSome (T.state tree).told (λ t. EndFits result.end (report_of request.now.triplet (plan_of (project_of (request_view request.now)) t.files))) }
     ensures plan { IsOfPlan result.end }
 {
-    let planned = plan(alloc, request, tree);
-    let end = match planned.report {
-        Ok(report) => End::Planned(report),
-        Err(stop) => end_of_stop(alloc, stop),
-    };
+    let Planned { report, tree } = plan(alloc, request, tree);
     Ended {
-        end,
-        tree: planned.tree,
+        end: end_of_report(alloc, report),
+        tree,
     }
 }
 

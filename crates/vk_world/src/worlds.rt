@@ -6,6 +6,7 @@ ghost use Rattle.vk_spec.specs.Catalogues.{Asks, OnPage, CanAskVersion, CanAskMa
 ghost use Rattle.vk_version.specs.AskViews.{ask_view};
 ghost use Rattle.vk_catalogue.specs.Views.{given_answer, version_answer, manifest_answer};
 ghost use Rattle.vk_files.specs.Kept.{IsOf};
+ghost use Rattle.vk_opening.specs.Opened.{Opens};
 ghost use Rattle.vk_opening.specs.Views.{start_view, opened_files};
 ghost use Rattle.vk_world.specs.Answered.{pairs_given, pairs_listed};
 ghost use Rattle.vk_world.specs.Libraries.{StandsAt};
@@ -17,8 +18,8 @@ use std::marker::Model;
 use std::rc::Rc;
 use vk_base::{PortName, TreePath};
 use vk_catalogue::{CatStop, Catalogue, Given, Wrong};
-use vk_model::Manifest;
-use vk_opening::Start;
+use vk_model::{Manifest, Project, Store};
+use vk_opening::{OpenStop, Opened, Start, open};
 use vk_tree::Tree;
 use vk_version::{Ask, Version};
 
@@ -46,6 +47,20 @@ impl<T: Tree> Model for World<T> {
 }
 
 impl<T: Tree> World<T> {
+    /// Opens a project: reads its root manifest, its configuration, its triplets and its overlays,
+    /// each path once. `Refused` exactly where they have a fault, with the first in this order;
+    /// `TreeFailed` exactly where a call of the tree failed. The store isn't looked at yet.
+    pub fn open(
+        alloc: Global,
+        tree: &mut T,
+        project: &Project,
+        _store: Option<&Store>,
+    ) -> Result<Opened, OpenStop>
+        ensures { Opens project.now result (T.state tree.old) (T.state tree.new) }
+    {
+        open(alloc, tree, project)
+    }
+
     /// The world of a project that was opened on a tree. Takes no memory.
     pub fn on(alloc: Global, start: Start, tree: T) -> World<T>
         requires { IfSome (T.state tree).told (λ t. IsOf t.files (opened_files start)) }

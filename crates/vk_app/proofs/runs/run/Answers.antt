@@ -1,0 +1,21 @@
+use Rattle.vk_app.specs.WordViews.{words_view}
+use Rattle.vk_app.proofs.EndLemmas.{answers, completes, has_causes, judges_words, keeps_out, tells_line}
+use Rattle.vk_app.proofs.runs.run.Goals as goal
+
+pub returns-clause-answers : goal.returns-clause-answers
+returns-clause-answers g c = answers (words_view c.args.words.now) c.end_of-end.result.end c.tell-status.result _ _ c.end_of-end.ensures c.tell-status.ensures
+
+pub returns-clause-completes : goal.returns-clause-completes
+returns-clause-completes g c = completes (words_view c.args.words.now) c.end_of-end.result.end c.tell-status.result _ _ c.end_of-end.ensures c.tell-status.ensures
+
+pub returns-clause-causes : goal.returns-clause-causes
+returns-clause-causes g c = has_causes c.end_of-end.result.end c.tell-status.result _ _ c.end_of-end.ensures.only c.tell-status.ensures
+
+pub returns-clause-words : goal.returns-clause-words
+returns-clause-words g c = judges_words (words_view c.args.words.now) c.end_of-end.result.end c.tell-status.result _ _ c.end_of-end.ensures c.tell-status.ensures
+
+pub returns-clause-out : goal.returns-clause-out
+returns-clause-out g c = keeps_out (words_view c.args.words.now) c.end_of-end.result.end c.tell-status.result _ _ c.end_of-end.ensures c.tell-status.ensures
+
+pub returns-clause-err : goal.returns-clause-err
+returns-clause-err g c = tells_line c.end_of-end.result.end c.tell-status.result _ _ c.tell-status.ensures
