@@ -1,0 +1,14 @@
+-- How a row is cut, and which bytes a word stands for.
+use Rattle.std.specs.Prelude.{◌==◌, ℕ, Bool, List, Some, None, Result, Ok, Err}
+use Rattle.vk_base.specs.Tokens.{ReadsToken}
+use Rattle.vk_table.specs.declared.stops.Stop.{Stop}
+use Rattle.vk_table.specs.declared.stops.Stop.TheVariants.{Row, Memory}
+
+abbrev pub is_blank : ℕ → Bool
+is_blank b = b == 32
+
+-- the bytes of which a word is the token, or that there are none
+abbrev pub ReadsBytes : List ℕ → Result (List ℕ) Stop → Type 0
+ReadsBytes word (Ok bytes) = ReadsToken word (Some bytes)
+ReadsBytes word (Err Row) = ReadsToken word None
+ReadsBytes word (Err Memory) = Unit {0}
