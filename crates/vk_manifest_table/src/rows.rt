@@ -8,10 +8,10 @@
 
 use crate::lines::line;
 use std::alloc::Global;
-use vk_base::{FeatureName, Memory, NameFault, PortName, Text, token};
+use vk_base::{FeatureName, NameFault, PortName, Text};
 use vk_json::{FileFault, Why};
 use vk_manifest::read_manifest;
-use vk_table::{Answering, Reply, Stop, bytes_of, cut, text_of};
+use vk_table::{Answering, Reply, Stop, bytes_of, cut, place_of, text_of};
 
 /// Answers rows about manifests, names and the words of faults.
 #[derive(Drop)]
@@ -19,13 +19,6 @@ pub struct Manifests;
 
 // As many bytes as a manifest may have.
 const MOST_BYTES: usize = 16_777_216;
-
-fn place_of(alloc: Global, place: &Text) -> Result<Text, Memory> {
-    if place.is_empty() {
-        return Ok(Text::from_str(alloc, "-")?);
-    }
-    token(alloc, place.as_bytes())
-}
 
 fn wrong(alloc: Global, place: &Text, why: Why) -> Result<Text, Stop> {
     let place = place_of(alloc, place)?;

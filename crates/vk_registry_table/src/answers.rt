@@ -8,7 +8,7 @@ use vk_base::Text;
 use vk_config::Embedded;
 use vk_json::FileFault;
 use vk_registry::{Baseline, Table};
-use vk_table::Stop;
+use vk_table::{Stop, place_of};
 use vk_version::Ask;
 
 /// A fault, as its place and its word; the whole document's place is `-`.
@@ -16,10 +16,8 @@ pub fn of_fault(alloc: Global, fault: FileFault) -> Result<String, Stop> {
     let FileFault::Wrong { place, why } = fault else {
         return Err(Stop::Memory);
     };
+    let place = place_of(alloc, &place)?;
     let word = why.word(alloc)?;
-    if place.is_empty() {
-        return Ok(format!(in alloc; "- {word}")?);
-    }
     Ok(format!(in alloc; "{place} {word}")?)
 }
 

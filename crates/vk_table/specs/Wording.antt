@@ -1,6 +1,6 @@
--- How a row is cut, and which bytes a word stands for.
-use Rattle.std.specs.Prelude.{◌==◌, ℕ, Bool, List, Some, None, Result, Ok, Err}
-use Rattle.vk_base.specs.Tokens.{ReadsToken}
+-- How a row is cut, which bytes a word stands for, and how a place is told.
+use Rattle.std.specs.Prelude.{◌==◌, ℕ, Bool, List, [], ◌∷◌, Some, None, Result, Ok, Err, codes}
+use Rattle.vk_base.specs.Tokens.{token_of, ReadsToken}
 use Rattle.vk_table.specs.declared.stops.Stop.{Stop}
 use Rattle.vk_table.specs.declared.stops.Stop.TheVariants.{Row, Memory}
 
@@ -12,3 +12,8 @@ abbrev pub ReadsBytes : List ℕ → Result (List ℕ) Stop → Type 0
 ReadsBytes word (Ok bytes) = ReadsToken word (Some bytes)
 ReadsBytes word (Err Row) = ReadsToken word None
 ReadsBytes word (Err Memory) = Unit {0}
+
+-- the token of a place; the whole document's is `-`
+abbrev pub place_text : List ℕ → List ℕ
+place_text [] = codes "-"
+place_text (b ∷ bytes) = token_of (b ∷ bytes)

@@ -1,12 +1,12 @@
 //! A row's words, and what they stand for.
-ghost use Rattle.std.specs.Prelude.{◌≡◌};
+ghost use Rattle.std.specs.Prelude.{◌≡◌, IfOk};
 ghost use Rattle.std.specs.List.{before_first, after_first};
-ghost use Rattle.vk_table.specs.Wording.{is_blank, ReadsBytes};
+ghost use Rattle.vk_table.specs.Wording.{is_blank, place_text, ReadsBytes};
 
 use crate::stops::Stop;
 use std::alloc::Global;
 use std::str::FromStr;
-use vk_base::{List, PathFault, Text, TreePath, read_token};
+use vk_base::{List, Memory, PathFault, Text, TreePath, read_token, token};
 
 /// A row's first word, and what stands after the blank behind it, which is nothing where the row has
 /// no blank.
@@ -50,4 +50,14 @@ where
     N::Err: Drop,
 {
     word.parse().map_err(|_| Stop::Row)
+}
+
+/// How a place in a document is told: its token, and `-` for the whole document.
+pub fn place_of(alloc: Global, place: &Text) -> Result<Text, Memory>
+    ensures { IfOk result (λ t. t ≡ place_text place.now) }
+{
+    if place.is_empty() {
+        return Ok(Text::from_str(alloc, "-")?);
+    }
+    token(alloc, place.as_bytes())
 }

@@ -1,4 +1,6 @@
 //! Files in memory that rows put.
+ghost use Rattle.std.specs.Prelude.{◌≡◌};
+
 use crate::stops::Stop;
 use crate::wording::{bytes_of, cut, number_of, path_of};
 use std::alloc::Global;
@@ -67,6 +69,13 @@ impl Workspace {
             put(&mut self.tree, file)?;
         }
         Ok(())
+    }
+
+    /// The tree, lent.
+    pub fn tree(&self) -> &MemTree
+        ensures { result.now ≡ self.now.tree }
+    {
+        &self.tree
     }
 
     /// The tree, in whose place an empty one stands until it is put back.
