@@ -1,11 +1,11 @@
 -- The first member of a list that passes a test on files, as a loop finds it.
-use Rattle.std.proofs.Common.{◌≡◌, ◌+◌, ◌<◌, ◌≤◌, ℕ, Bool, true, false, List, [], ◌∷◌, length, get_or, drop, map, refl, ap, sym, ◌∙◌}
+use Rattle.std.proofs.Common.{◌≡◌, ◌+◌, ◌<◌, ◌≤◌, ℕ, Bool, true, false, List, ◌∷◌, length, get_or, drop, map, refl, ap, sym, ◌∙◌}
 use Rattle.std.specs.Prelude.{Option, Some, None, option_map, IfSome, Result, Ok, Err}
 use Rattle.std.specs.List.{find}
 use Rattle.std.proofs.lemmas.List.{drop_more}
 use Rattle.std.proofs.Math.ListN.{drop_of_length-le}
 use Rattle.vk_spec.specs.Files.{Files}
-use Rattle.vk_spec.specs.Reading.{Fails, Gives}
+use Rattle.vk_spec.specs.Reading.{Fails}
 use Rattle.vk_files.specs.Kept.{IsOf, Held, ReadOnce}
 use Rattle.vk_files.specs.StopViews.{refusal_in}
 use Rattle.vk_files.specs.Readings.{ReadsAs}

@@ -1,16 +1,16 @@
 -- Baselines that are noted: one more, and what a note gives.
-use Rattle.std.proofs.Common.{◌≡◌, ℕ, Bool, true, false, List, [], ◌∷◌, ◌++◌, refl, ap, sym, subst, ◌∙◌, arith}
-use Rattle.std.specs.Prelude.{Option, Some, None, IfSome, IfOk, Result, Ok, Err, nat_eq}
+use Rattle.std.proofs.Common.{◌≡◌, ℕ, true, false, List, [], ◌∷◌, ◌++◌, refl, arith}
+use Rattle.std.specs.Prelude.{Some, Result, Ok, Err, nat_eq}
 use Rattle.std.proofs.lemmas.Bool.Decides.{nat_tests}
 use Rattle.vk_spec.specs.Files.{Files}
-use Rattle.vk_spec.specs.Reading.{◌>>=◌, Gives, Fails}
+use Rattle.vk_spec.specs.Reading.{Gives}
 use Rattle.vk_spec.specs.Pages as page
 use Rattle.vk_registry.specs.Baselines.{Entry}
 use Rattle.vk_registry.specs.declared.baselines.Baseline.{Baseline}
 use Rattle.vk_catalogue.specs.Views.{given_view, wrong_view}
 use Rattle.vk_catalogue.specs.declared.wrongs.Given.{Given}
 use Rattle.vk_catalogue.specs.declared.wrongs.Wrong.{Wrong}
-use Rattle.vk_files.specs.Kept.{IsOf, Held}
+use Rattle.vk_files.specs.Kept.{Held}
 use Rattle.vk_files.specs.StopViews.{refusal_in, has_tree_failed}
 use Rattle.vk_files.specs.Readings.{Bad, ReadsAs, ReadsNoting}
 use Rattle.vk_files.specs.declared.stops.BadFile.{BadFile}
@@ -67,7 +67,7 @@ pub note_gives : (start : Start) (served : Served) (place : ℕ) (port : List �
 note_gives start served place port read notes before answer a b is found calm gives looked =
     noting_then (λ done f. baseline_for served port f) looked
     (noting_pure wrong_view given_view answer (baseline_for served port) (AreBaselines start notes) (AreBaselines start notes) b calm
-        (λ f old known. (known, rw (note_right start f served place read notes is known found) at gives)))
+    (λ f old known. (known, rw (note_right start f served place read notes is known found) at gives)))
 
 pub same_place : (place : ℕ) → nat_eq place place ≡ true
 same_place place = grind (arith, nat_tests)

@@ -29,8 +29,8 @@ abbrev pub named : Path → List ℕ → Manifest Tree → Result (Unit {0}) Wro
 named path port m = same_in path the.name port (name_text m.name)
 
 -- the first of class, text and port-version that differs is told
-unfoldable pub same_version : Path → Version → Version → Result (Unit {0}) Wrong
-same_version path said found = do
+unfoldable pub version_agrees : Path → Version → Version → Result (Unit {0}) Wrong
+version_agrees path said found = do
   one_class ← same_in path the.class (class_word said.class) (class_word found.class)
   one_text ← same_in path the.text said.text found.text
   same_in path the.port (decimal said.port) (decimal found.port)
@@ -40,4 +40,4 @@ unfoldable pub agreeing : Path → List ℕ → Version → Manifest Tree → Re
 agreeing path port version m = do
   same_name ← named path port m
   found ← version_in path m
-  same_version path version found
+  version_agrees path version found

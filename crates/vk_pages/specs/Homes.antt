@@ -125,12 +125,13 @@ given_by None served port files = baseline_for served port files
 abbrev pub table_in : Served → List ℕ → Files → Result (List Row) Wrong
 table_in served port files = file_or_wrong table_of (table_path port served.folder) files
 
--- what is given in a registry, and then the table
+-- the home in a registry, where this is given
+abbrev pub home_with : Given → Served → List ℕ → Files → Result Home Wrong
+home_with given served port files = table_in served port files >>= λ rows. Ok (in_registry given served.folder rows)
+
+-- what is given, and then the table
 unfoldable pub served_home : Option Ask → Served → List ℕ → Files → Result Home Wrong
-served_home set served port files = do
-  given ← given_by set served port files
-  rows ← table_in served port files
-  Ok (in_registry given served.folder rows)
+served_home set served port files = given_by set served port files >>= λ given. home_with given served port files
 
 unfoldable pub registry_home : Start → List ℕ → Files → Result Home Wrong
 registry_home start port files = served_for start port >>= λ served. served_home (override_for start.overrides port) served port files

@@ -10,7 +10,7 @@ ghost use Rattle.vk_model.specs.Views.{manifest_view};
 ghost use Rattle.vk_catalogue.specs.Views.{field_view, wrong_view};
 ghost use Rattle.vk_files.specs.StopViews.{refusal_in, has_tree_failed};
 ghost use Rattle.vk_pages.specs.Wrongs.{version_in};
-ghost use Rattle.vk_pages.specs.Agreement.{class_word, name_text, same_in, named, same_version, agreeing};
+ghost use Rattle.vk_pages.specs.Agreement.{class_word, name_text, same_in, named, version_agrees, agreeing};
 
 use std::alloc::Global;
 use vk_base::{Memory, PortName, Text, TreePath};
@@ -123,14 +123,14 @@ fn same_port(alloc: Global, path: &TreePath, said: u32, found: u32) -> Result<()
 }
 
 // That the version which is found is the one that is said.
-#[tactic(auto, unfolding(crate::specs::Agreement::same_version))]
-fn same_version(
+#[tactic(auto, unfolding(crate::specs::Agreement::version_agrees))]
+fn version_agrees(
     alloc: Global,
     path: &TreePath,
     said: &Version,
     found: &Version,
 ) -> Result<(), Stop<Wrong>>
-    ensures told { Gives (λ done. tt) (refusal_in wrong_view) result (same_version path.now said.now found.now) }
+    ensures told { Gives (λ done. tt) (refusal_in wrong_view) result (version_agrees path.now said.now found.now) }
     ensures calm { has_tree_failed result ≡ false }
 {
     let class = class_word(said.class());
@@ -156,5 +156,5 @@ pub fn agree(
 {
     named(alloc, path, port, manifest)?;
     let found = version_in(alloc, path, manifest)?;
-    same_version(alloc, path, version, found)
+    version_agrees(alloc, path, version, found)
 }

@@ -101,11 +101,7 @@ fn overlay_home(
 }
 
 // The same of a folder and a manifest that are lent.
-fn port_home(
-    alloc: Global,
-    folder: &TreePath,
-    manifest: &Rc<Manifest>,
-) -> Result<Home, Stop<Wrong>>
+fn port_home(alloc: Global, folder: &TreePath, manifest: &Rc<Manifest>) -> Result<Home, Stop<Wrong>>
     ensures told { Gives home_view (refusal_in wrong_view) result (overlay_home folder.now (manifest_view manifest.now.value)) }
     ensures calm { has_tree_failed result ≡ false }
 {

@@ -2,5 +2,5 @@ mod OrderLemmas
 mod StepLemmas
 mod AskLemmas
 mod FolderLemmas
-mod TableLemmas
+pub mod TableLemmas
 mod EntryLemmas

@@ -1,14 +1,17 @@
 -- What is known of versions: one more of them.
-use Rattle.std.proofs.Common.{◌≡◌, ℕ, Bool, true, false, ◌||◌, List, [], ◌∷◌, ◌++◌, map, refl, ap, sym, subst, ◌∙◌, true≢false, cond, if◌then◌else◌}
-use Rattle.std.specs.Prelude.{Option, Some, None}
+use Rattle.std.proofs.Common.{◌≡◌, ℕ, Bool, true, false, ◌||◌, List, [], ◌∷◌, ◌++◌, inl, inr, map, refl, ap, sym, subst, ◌∙◌, true≢false, cond, if◌then◌else◌}
+use Rattle.std.specs.Prelude.{Option, Some, None, IfSome}
 use Rattle.std.specs.Option.{is_some}
-use Rattle.std.specs.List.{list_any}
+use Rattle.std.specs.List.{Contains, list_any}
 use Rattle.std.specs.Map.{lookup}
 use Rattle.std.proofs.lemmas.List.{map-append}
 use Rattle.indexmap.specs.IndexMap.{IndexMap, get, insert_entry}
 use Rattle.indexmap.proofs.CallerLemmas.{insert_entry-new}
 use Rattle.vk_spec.specs.Paths.{Path}
 use Rattle.vk_spec.specs.Versions.{Version}
+use Rattle.vk_spec.proofs.ListLemmas.{contains_nothing, contains_first, contains_later, contains_cases}
+use Rattle.vk_files.specs.Notes.{AreRight}
+use Rattle.vk_world.specs.PairLaws.{pair_decides}
 use Rattle.vk_world.specs.KnownVersions.{same_pair, folder_among, with_folder, pairs_of, with_pair}
 use Rattle.vk_world.specs.declared.answered.PortVersion.{PortVersion}
 
@@ -40,3 +43,40 @@ pairs_with port v folder folders = rw (any_pair port v folders) (by (is_some (fo
     by : (b : Bool) → pairs_of (if b then folders else folders ++ (record { port = port; version = v }, folder) ∷ []) ≡ (if b then pairs_of folders else pairs_of folders ++ (port, v) ∷ [])
     by true = refl
     by false = map-append (λ e. (e.0.port, e.0.version)) folders ((record { port = port; version = v }, folder) ∷ [])
+
+-- ---- finding a folder
+
+-- what has a folder is known
+pub folder_some : (port : List ℕ) (v : Version) (folder : Path) (folders : List (PortVersion × Path)) → folder_among port v folders ≡ Some folder → Contains (pairs_of folders) (port, v)
+folder_some port v folder [] e = (cc)
+folder_some port v folder (one ∷ es) e = by (same_pair port v one.0.port one.0.version) refl e (folder_some port v folder es)
+  where
+    by : (b : Bool) → same_pair port v one.0.port one.0.version ≡ b → cond b (Some one.1) (folder_among port v es) ≡ Some folder → (folder_among port v es ≡ Some folder → Contains (pairs_of es) (port, v)) → Contains (pairs_of (one ∷ es)) (port, v)
+    by true same is rest =
+        let both = (pair_decides port v one.0.port one.0.version).0 same in
+        subst (Contains (pairs_of (one ∷ es))) (λ i. (sym both.0 i, sym both.1 i)) (contains_first (one.0.port, one.0.version) (pairs_of es))
+    by false same is rest = contains_later (one.0.port, one.0.version) (port, v) (pairs_of es) (rest is)
+
+-- what has none isn't
+pub folder_none : (port : List ℕ) (v : Version) (folders : List (PortVersion × Path)) → folder_among port v folders ≡ None → Contains (pairs_of folders) (port, v) → ⊥
+folder_none port v [] e there = contains_nothing (port, v) there
+folder_none port v (one ∷ es) e there = by (same_pair port v one.0.port one.0.version) refl e (folder_none port v es)
+  where
+    by : (b : Bool) → same_pair port v one.0.port one.0.version ≡ b → cond b (Some one.1) (folder_among port v es) ≡ None → (folder_among port v es ≡ None → Contains (pairs_of es) (port, v) → ⊥) → ⊥
+    by true same is rest = (cc)
+    by false same is rest = elim (contains_cases (one.0.port, one.0.version) (port, v) (pairs_of es) there) [
+      | inl first ↦ true≢false (sym ((pair_decides port v one.0.port one.0.version).1 (ap (λ p. p.0) (sym first), ap (λ p. p.1) (sym first))) ∙ same)
+      | inr later ↦ rest is later
+    ]
+
+-- a folder that is found is right
+pub folder_right : (P : PortVersion → Path → Type 0) (port : List ℕ) (v : Version) (folder : Path) (folders : List (PortVersion × Path)) → AreRight P folders → folder_among port v folders ≡ Some folder → P (record { port = port; version = v }) folder
+folder_right P port v folder [] right e = (cc)
+folder_right P port v folder (one ∷ es) right e = by (same_pair port v one.0.port one.0.version) refl e (folder_right P port v folder es right.1)
+  where
+    by : (b : Bool) → same_pair port v one.0.port one.0.version ≡ b → cond b (Some one.1) (folder_among port v es) ≡ Some folder → (folder_among port v es ≡ Some folder → P (record { port = port; version = v }) folder) → P (record { port = port; version = v }) folder
+    by true same is rest =
+        let both = (pair_decides port v one.0.port one.0.version).0 same in
+        let folder_is : one.1 ≡ folder = (cc) in
+        subst (P (record { port = port; version = v })) folder_is (subst (λ pair. P pair one.1) (λ i. record { port = sym both.0 i; version = sym both.1 i }) right.0)
+    by false same is rest = rest is

@@ -27,6 +27,11 @@ reads_last {meaning = meaning} {a = a} next_view z same one = record {
   content = two_told a.tree.told one.content one.content (λ t is _ old. is old ∙ ap Ok (sym same));
 }
 
+-- files were read, and then memory was wanting
+pub reads_lacking : {X Y Z W F P : Type 0} {refusal : F → P} {view : X → Y} {x : X} {meaning : Files → Result Y P} {a b : Held} (next_view : Z → W) (whole : Files → Result W P)
+    → ReadsAs refusal view (Ok x) meaning a b → ReadsAs {X = Z} refusal next_view (Err stop.Memory) whole a b
+reads_lacking {a = a} next_view whole one = record { once = one.once; content = each_told a.tree.told (λ t _. tt) }
+
 -- what reading gives is what is answered, also where it is refused
 settled_means : {X Y : Type 0} (view : X → Y) (answer : Result X (Stop Wrong)) (read : Result Y plain.Wrong) → Gives view (refusal_in wrong_view) answer read → IfOk (settled answer) (λ x. or_wrong view x ≡ read)
 settled_means view (Ok x) read gives = sym gives

@@ -2,7 +2,9 @@ pub mod KnownLemmas
 pub mod LearnLemmas
 pub mod NotedLemmas
 pub mod ListedLemmas
+pub mod ManifestLemmas
 pub mod AnsweredLemmas
 pub mod RegistryLemmas
 pub mod LibraryLemmas
 pub mod WorldLemmas
+pub mod FolderLemmas

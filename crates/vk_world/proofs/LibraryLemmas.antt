@@ -62,20 +62,20 @@ given_says start files port found (Ok given) before after is told ok err right =
 )
 given_says start files port found (Err stop) before after is told ok err right = (subst (AreRight (IsFolderOf start files)) (sym err) right, tt)
 
-start_stays : {before after : Library} → Stays before after → start_of after ≡ start_of before
-start_stays s = ap layout_view s.layout
+start_stays : (before after : Library) → Stays before after → start_of after ≡ start_of before
+start_stays before after s = ap layout_view s.layout
 
-pub given_learned : {lib mid : Library} {port : List ℕ} {answer : Result (Result declared.Given Wrong) CatStop} {a b : Held} (known : KnownVersions) (found : FoundHome)
-    → Learns (Ok tt) SaysNothing (IsRight lib) (IsRight mid) a b → Stays lib mid → home_noted port mid.homes ≡ Some found
+pub given_learned : {lib mid : Library} (port : List ℕ) {answer : Result (Result declared.Given Wrong) CatStop} {a b : Held} (known : KnownVersions) (found : FoundHome)
+    → Learns {X = Unit {0}} (Ok tt) SaysNothing (IsRight lib) (IsRight mid) a b → Stays lib mid → home_noted port mid.homes ≡ Some found
     → IfOk answer (λ given. given_said given ≡ given_in found) → OnOk answer (folders_in known ≡ folders_given port found (folders_in mid.known)) → OnErr answer (folders_in known ≡ folders_in mid.known) → cat_failed answer ≡ false
     → Learns answer (SaysGivenOf (start_of lib) port) (IsRight lib) (IsRight (record mid { known = known })) a b
-given_learned {lib = lib} {mid = mid} {port = port} {answer = answer} {a = a} {b = b} known found looked stays noted told ok err calm =
-    subst (λ start. Learns answer (SaysGivenOf start port) (IsRight lib) (IsRight (record mid { known = known })) a b) (start_stays stays)
-    (learns_then looked (learns_pure answer (SaysGivenOf (start_of mid) port) (λ f. IsRight mid f × SaysNothing f tt) (IsRight (record mid { known = known })) b calm
-      (λ f both.
-        let right = both.0 in
-        let says = given_says (start_of mid) f port found answer (folders_in mid.known) (folders_in known) (home_is (start_of mid) mid.homes f port found right.homes noted) told ok err right.folders in
-        (record { homes = right.homes; manifests = right.manifests; folders = says.0 }, says.1))))
+given_learned {lib = lib} {mid = mid} port {answer = answer} {a = a} {b = b} known found looked stays noted told ok err calm =
+    subst (λ start. Learns answer (SaysGivenOf start port) (IsRight lib) (IsRight (record mid { known = known })) a b) (start_stays lib mid stays)
+    (learns_then looked (learns_pure answer (SaysGivenOf (start_of mid) port) (λ f. IsRight mid f × SaysNothing {X = Unit {0}} f tt) (IsRight (record mid { known = known })) b calm
+    (λ f both.
+    let right = both.0 in
+    let says = given_says (start_of mid) f port found answer (folders_in mid.known) (folders_in known) (home_is (start_of mid) mid.homes f port found right.homes noted) told ok err right.folders in
+    (record { homes = right.homes; manifests = right.manifests; folders = says.0 }, says.1))))
 
 -- ---- versions
 
@@ -86,7 +86,7 @@ listed_right start files port (Err wrong) ask (Some l) folders is at right = (cc
 listed_right start files port (Ok home) ask (Some l) folders is at right = right_with (IsFolderOf start files) port l.0 l.1 folders (record { home = home; found = sym is; stands = folder_of_listed home ask l at }) right
 
 version_says : (start : Start) (files : Files) (port : List ℕ) (found : FoundHome) (ask : Ask) (answer : Result (Option Version) CatStop) (before after : List (PortVersion × Path)) → found ≡ home_of start port files
-    → IfOk answer (λ v. v ≡ option_map (λ l. l.0) (listed_in found ask)) → OnOk answer (after ≡ folders_listed port (listed_in found ask) before) → OnErr answer (after ≡ before)
+    → IfOk answer (λ v. v ≡ option_map (λ (l : versions.Version × Path). l.0) (listed_in found ask)) → OnOk answer (after ≡ folders_listed port (listed_in found ask) before) → OnErr answer (after ≡ before)
     → AreRight (IsFolderOf start files) before → AreRight (IsFolderOf start files) after × IfOk answer (SaysVersionOf start port ask files)
 version_says start files port found ask (Ok v) before after is told ok err right = (
   subst (AreRight (IsFolderOf start files)) (sym ok) (listed_right start files port found ask (listed_in found ask) before is refl right),
@@ -94,17 +94,17 @@ version_says start files port found ask (Ok v) before after is told ok err right
 )
 version_says start files port found ask (Err stop) before after is told ok err right = (subst (AreRight (IsFolderOf start files)) (sym err) right, tt)
 
-pub version_learned : {lib mid : Library} {port : List ℕ} {answer : Result (Option Version) CatStop} {a b : Held} (ask : Ask) (known : KnownVersions) (found : FoundHome)
-    → Learns (Ok tt) SaysNothing (IsRight lib) (IsRight mid) a b → Stays lib mid → home_noted port mid.homes ≡ Some found
-    → IfOk answer (λ v. v ≡ option_map (λ l. l.0) (listed_in found ask)) → OnOk answer (folders_in known ≡ folders_listed port (listed_in found ask) (folders_in mid.known)) → OnErr answer (folders_in known ≡ folders_in mid.known) → cat_failed answer ≡ false
+pub version_learned : {lib mid : Library} (port : List ℕ) {answer : Result (Option Version) CatStop} {a b : Held} (ask : Ask) (known : KnownVersions) (found : FoundHome)
+    → Learns {X = Unit {0}} (Ok tt) SaysNothing (IsRight lib) (IsRight mid) a b → Stays lib mid → home_noted port mid.homes ≡ Some found
+    → IfOk answer (λ v. v ≡ option_map (λ (l : versions.Version × Path). l.0) (listed_in found ask)) → OnOk answer (folders_in known ≡ folders_listed port (listed_in found ask) (folders_in mid.known)) → OnErr answer (folders_in known ≡ folders_in mid.known) → cat_failed answer ≡ false
     → Learns answer (SaysVersionOf (start_of lib) port ask) (IsRight lib) (IsRight (record mid { known = known })) a b
-version_learned {lib = lib} {mid = mid} {port = port} {answer = answer} {a = a} {b = b} ask known found looked stays noted told ok err calm =
-    subst (λ start. Learns answer (SaysVersionOf start port ask) (IsRight lib) (IsRight (record mid { known = known })) a b) (start_stays stays)
-    (learns_then looked (learns_pure answer (SaysVersionOf (start_of mid) port ask) (λ f. IsRight mid f × SaysNothing f tt) (IsRight (record mid { known = known })) b calm
-      (λ f both.
-        let right = both.0 in
-        let says = version_says (start_of mid) f port found ask answer (folders_in mid.known) (folders_in known) (home_is (start_of mid) mid.homes f port found right.homes noted) told ok err right.folders in
-        (record { homes = right.homes; manifests = right.manifests; folders = says.0 }, says.1))))
+version_learned {lib = lib} {mid = mid} port {answer = answer} {a = a} {b = b} ask known found looked stays noted told ok err calm =
+    subst (λ start. Learns answer (SaysVersionOf start port ask) (IsRight lib) (IsRight (record mid { known = known })) a b) (start_stays lib mid stays)
+    (learns_then looked (learns_pure answer (SaysVersionOf (start_of mid) port ask) (λ f. IsRight mid f × SaysNothing {X = Unit {0}} f tt) (IsRight (record mid { known = known })) b calm
+    (λ f both.
+    let right = both.0 in
+    let says = version_says (start_of mid) f port found ask answer (folders_in mid.known) (folders_in known) (home_is (start_of mid) mid.homes f port found right.homes noted) told ok err right.folders in
+    (record { homes = right.homes; manifests = right.manifests; folders = says.0 }, says.1))))
 
 -- ---- manifests
 
@@ -119,13 +119,13 @@ manifest_says start files port found ask (Ok m) is says = λ some.
     ∙ ap (λ h. manifest_in (page_at port files h) ask) is
 manifest_says start files port found ask (Err stop) is says = tt
 
-pub manifest_learned : {Z : Type 0} {lib mid : Library} {port : List ℕ} {answer : Result (Result (Rc Manifest Z) Wrong) CatStop} {a b c : Held} (ask : Ask) (files : FileCache) (manifests : Manifests) (found : FoundHome)
-    → Learns (Ok tt) SaysNothing (IsRight lib) (IsRight mid) a b → Stays lib mid → home_noted port mid.homes ≡ Some found
+pub manifest_learned : {Z : Type 0} {lib mid : Library} (port : List ℕ) {answer : Result (Result (Rc Manifest Z) Wrong) CatStop} {a b c : Held} (ask : Ask) (files : FileCache) (manifests : Manifests) (found : FoundHome)
+    → Learns {X = Unit {0}} (Ok tt) SaysNothing (IsRight lib) (IsRight mid) a b → Stays lib mid → home_noted port mid.homes ≡ Some found
     → Learns answer (IsManifestFor port found ask) (AreManifests mid.manifests) (AreManifests manifests) b c
     → Learns answer (SaysManifestOf (start_of lib) port ask) (IsRight lib) (IsRight (record mid { files = files; manifests = manifests })) a c
-manifest_learned {lib = lib} {mid = mid} {port = port} {answer = answer} {a = a} {c = c} ask files manifests found looked stays noted read =
-    subst (λ start. Learns answer (SaysManifestOf start port ask) (IsRight lib) (IsRight (record mid { files = files; manifests = manifests })) a c) (start_stays stays)
-    (learns_then looked (learns_so answer (SaysManifestOf (start_of mid) port ask) (λ f. IsRight mid f × SaysNothing f tt) (IsRight (record mid { files = files; manifests = manifests })) refl (λ f both. both.0.manifests)
-      (λ f both after says.
-        let right = both.0 in
-        (record { homes = right.homes; manifests = after; folders = right.folders }, manifest_says (start_of mid) f port found ask answer (home_is (start_of mid) mid.homes f port found right.homes noted) says)) read))
+manifest_learned {lib = lib} {mid = mid} port {answer = answer} {a = a} {c = c} ask files manifests found looked stays noted read =
+    subst (λ start. Learns answer (SaysManifestOf start port ask) (IsRight lib) (IsRight (record mid { files = files; manifests = manifests })) a c) (start_stays lib mid stays)
+    (learns_then looked (learns_so answer (SaysManifestOf (start_of mid) port ask) (λ f. IsRight mid f × SaysNothing {X = Unit {0}} f tt) (IsRight (record mid { files = files; manifests = manifests })) refl (λ f both. both.0.manifests)
+    (λ f both after says.
+    let right = both.0 in
+    (record { homes = right.homes; manifests = after; folders = right.folders }, manifest_says (start_of mid) f port found ask answer (home_is (start_of mid) mid.homes f port found right.homes noted) says)) read))

@@ -8,18 +8,18 @@ use Rattle.vk_spec.specs.Lists.{NoRepeats}
 use Rattle.vk_spec.specs.Versions.{Version, Ask, ask_of, same_ask}
 use Rattle.vk_spec.specs.Manifests.{Manifest}
 use Rattle.vk_spec.specs.Pages.{row_in, version_in, manifest_in}
+use Rattle.vk_spec.specs.Pages.{Row as PageRow}
 use Rattle.vk_spec.proofs.ListLemmas.{contains_first, contains_later}
-use Rattle.vk_spec.proofs.AskLemmas.{asks_equal, ask_itself}
+use Rattle.vk_spec.proofs.VersionLemmas.{asks_equal, ask_itself}
 use Rattle.vk_expr.specs.Trees.{Tree}
 use Rattle.vk_registry.specs.Tables.{Row, ask_in, asks_of, IsRowAt, HasNoRow}
-use Rattle.vk_registry.proofs.TableLemmas.{one_row}
 use Rattle.vk_pages.specs.Homes.{Home, in_overlay, in_registry}
 use Rattle.vk_pages.specs.Pages.{row_folder, row_manifest, page_row, page_at}
 use Rattle.vk_world.specs.KnownVersions.{same_version}
 use Rattle.vk_world.specs.PairLaws.{version_decides}
 use Rattle.vk_world.specs.VersionFolders.{version_folder}
 use Rattle.vk_world.specs.HomeNotes.{FoundHome}
-use Rattle.vk_world.specs.Listed.{own_listed, table_listed, listed_at, listed_in, row_meant}
+use Rattle.vk_world.specs.Listed.{own_listed, row_listed, table_listed, listed_at, listed_in, row_meant}
 use Rattle.vk_world.specs.Answered.{given_in}
 
 some_is : {X : Type 0} {x y : X} → Some x ≡ Some y → x ≡ y
@@ -44,24 +44,24 @@ given_on_page port files (Err wrong) = refl
 given_on_page port files (Ok (in_overlay folder v m)) = refl
 given_on_page port files (Ok (in_registry given registry rows)) = refl
 
-pub version_on_page : (port : List ℕ) (files : Files) (found : FoundHome) (ask : Ask) → version_in (page_at port files found) ask ≡ option_map (λ l. l.0) (listed_in found ask)
+own_row : (folder : Path) (v : Version) (m : Manifest Tree) (b : Bool) → option_map (λ (r : PageRow Tree). r.version) (cond b (Some (record { version = v; manifest = Ok m })) None) ≡ option_map (λ (l : Version × Path). l.0) (if b then Some (v, folder) else None)
+own_row folder v m true = refl
+own_row folder v m false = refl
+
+pub version_on_page : (port : List ℕ) (files : Files) (found : FoundHome) (ask : Ask) → version_in (page_at port files found) ask ≡ option_map (λ (l : Version × Path). l.0) (listed_in found ask)
 version_on_page port files (Err wrong) ask = refl
-version_on_page port files (Ok (in_overlay folder v m)) ask = by (same_ask (ask_of v) ask)
-  where
-    by : (b : Bool) → option_map (λ r. r.version) (cond b (Some (record { version = v; manifest = Ok m })) None) ≡ option_map (λ l. l.0) (if b then Some (v, folder) else None)
-    by true = refl
-    by false = refl
+version_on_page port files (Ok (in_overlay folder v m)) ask = own_row folder v m (same_ask (ask_of v) ask)
 version_on_page port files (Ok (in_registry given registry rows)) ask =
-    ap (option_map (λ r. r.version)) (find_by (page_row port registry files) (λ r. same_ask (ask_of r.version) ask) rows)
+    ap (option_map (λ (r : PageRow Tree). r.version)) (find_by (page_row port registry files) (λ r. same_ask (ask_of r.version) ask) rows)
     ∙ twice (page_row port registry files) (λ r. r.version) (row_meant rows ask)
-    ∙ sym (twice (λ r. (r.version, row_folder registry r)) (λ l. l.0) (row_meant rows ask))
+    ∙ sym (twice (row_listed registry) (λ l. l.0) (row_meant rows ask))
+
+own_manifest : (folder : Path) (v : Version) (m : Manifest Tree) (b : Bool) → IsSome {T = Version × Path} (if b then Some (v, folder) else None) → Some (Ok m) ≡ option_map (λ (r : PageRow Tree). r.manifest) (cond b (Some (record { version = v; manifest = Ok m })) None)
+own_manifest folder v m true some = refl
+own_manifest folder v m false some = (cc)
 
 pub manifest_on_overlay : (port : List ℕ) (files : Files) (folder : Path) (v : Version) (m : Manifest Tree) (ask : Ask) → IsSome (own_listed folder v ask) → Some (Ok m) ≡ manifest_in (page_at port files (Ok (in_overlay folder v m))) ask
-manifest_on_overlay port files folder v m ask = by (same_ask (ask_of v) ask)
-  where
-    by : (b : Bool) → IsSome (if b then Some (v, folder) else None) → Some (Ok m) ≡ option_map (λ r. r.manifest) (cond b (Some (record { version = v; manifest = Ok m })) None)
-    by true some = refl
-    by false some = (cc)
+manifest_on_overlay port files folder v m ask = own_manifest folder v m (same_ask (ask_of v) ask)
 
 pub manifest_on_table : (port : List ℕ) (registry : Path) (files : Files) (rows : List Row) (ask : Ask) → option_map (λ r. r.manifest) (row_in (map (page_row port registry files) rows) ask) ≡ option_map (λ r. row_manifest port registry r files) (row_meant rows ask)
 manifest_on_table port registry files rows ask =
@@ -71,26 +71,32 @@ manifest_on_table port registry files rows ask =
 pub some_listed : (registry : Path) (rows : List Row) (ask : Ask) → IsSome (table_listed registry rows ask) → IsSome (row_meant rows ask)
 some_listed registry rows ask = by (row_meant rows ask)
   where
-    by : (o : Option Row) → IsSome (option_map (λ r. (r.version, row_folder registry r)) o) → IsSome o
+    by : (o : Option Row) → IsSome (option_map (row_listed registry) o) → IsSome o
     by None some = (cc)
     by (Some r) some = (cc)
 
 -- ---- rows
+
+-- the ask of a row at a place is among the rows' asks
+ask_among : (rows : List Row) (ask : Ask) (place : ℕ) → IsRowAt rows ask place → Contains (asks_of rows) ask
+ask_among [] ask place at = let no : None ≡ Some at.row = at.stands in (cc)
+ask_among (r ∷ rows) ask zero at =
+    let is : r ≡ at.row = some_is at.stands in
+    subst (Contains (asks_of (r ∷ rows))) (ap ask_in is ∙ at.asked) (contains_first (ask_in r) (asks_of rows))
+ask_among (r ∷ rows) ask (suc place) at = contains_later (ask_in r) ask (asks_of rows) (ask_among rows ask place (record { row = at.row; stands = at.stands; asked = at.asked }))
 
 -- the row at a place that has an ask is the one that the ask means
 pub row_is_meant : (rows : List Row) (ask : Ask) (place : ℕ) → NoRepeats (asks_of rows) → IsRowAt rows ask place → slice_get rows place ≡ row_meant rows ask
 row_is_meant [] ask place distinct at = let no : None ≡ Some at.row = at.stands in (cc)
 row_is_meant (r ∷ rows) ask zero distinct at =
     let is : r ≡ at.row = some_is at.stands in
-    let same : same_ask (ask_of r.version) ask ≡ true = rw (is, at.asked) (ask_itself ask) in
+    let same : same_ask (ask_of r.version) ask ≡ true = subst (λ a. same_ask a ask ≡ true) (sym (ap ask_in is ∙ at.asked)) (ask_itself ask) in
     sym (ap (λ b. cond b (Some r) (row_meant rows ask)) same)
 row_is_meant (r ∷ rows) ask (suc place) distinct at =
     by (same_ask (ask_of r.version) ask) refl (row_is_meant rows ask place distinct.1 (record { row = at.row; stands = at.stands; asked = at.asked }))
   where
     by : (b : Bool) → same_ask (ask_of r.version) ask ≡ b → slice_get rows place ≡ row_meant rows ask → slice_get rows place ≡ cond b (Some r) (row_meant rows ask)
-    by true e rest =
-        let clash : zero ≡ suc place = one_row (r ∷ rows) ask zero (suc place) distinct (record { row = r; stands = refl; asked = asks_equal (ask_of r.version) ask e }) at in
-        (cc)
+    by true e rest = absurd (distinct.0 (subst (Contains (asks_of rows)) (sym (asks_equal (ask_of r.version) ask e)) (ask_among rows ask place (record { row = at.row; stands = at.stands; asked = at.asked }))))
     by false e rest = rest
 
 -- where no row has an ask, none is meant
@@ -113,33 +119,35 @@ own_folder folder w l true e =
     subst (λ x. (if same_version x.0 w then Some folder else None) ≡ Some x.1) is (ap (λ b. if b then Some folder else None) (own_version w))
 own_folder folder w l false e = (cc)
 
-listed_of : Path → Row → Version × Path
-listed_of registry r = (r.version, row_folder registry r)
-
 -- what an ask means has its text and port-version
 has_ask : (registry : Path) (rows : List Row) (ask : Ask) (l : Version × Path) → table_listed registry rows ask ≡ Some l → same_ask (ask_of l.0) ask ≡ true
 has_ask registry [] ask l e = (cc)
-has_ask registry (r ∷ rows) ask l e = by (same_ask (ask_of r.version) ask) refl e
+has_ask registry (r ∷ rows) ask l e = by (same_ask (ask_of r.version) ask) refl (has_ask registry rows ask l) e
   where
-    by : (b : Bool) → same_ask (ask_of r.version) ask ≡ b → option_map (λ x. (x.version, row_folder registry x)) (cond b (Some r) (row_meant rows ask)) ≡ Some l → same_ask (ask_of l.0) ask ≡ true
-    by true same is = let one : (r.version, row_folder registry r) ≡ l = some_is is in subst (λ x. same_ask (ask_of x.0) ask ≡ true) one same
-    by false same is = has_ask registry rows ask l is
+    by : (b : Bool) → same_ask (ask_of r.version) ask ≡ b → (table_listed registry rows ask ≡ Some l → same_ask (ask_of l.0) ask ≡ true) → option_map (row_listed registry) (cond b (Some r) (row_meant rows ask)) ≡ Some l → same_ask (ask_of l.0) ask ≡ true
+    by true same rest is = let one : row_listed registry r ≡ l = some_is is in subst (λ x. same_ask (ask_of x.0) ask ≡ true) one same
+    by false same rest is = rest is
+
+later_folder : (registry : Path) (r : Row) (rows : List Row) (ask : Ask) (l : Version × Path) (b : Bool) → same_version l.0 r.version ≡ b → same_ask (ask_of r.version) ask ≡ false → table_listed registry rows ask ≡ Some l
+    → option_map (row_folder registry) (find (λ q. same_version l.0 q.version) rows) ≡ Some l.1 → option_map (row_folder registry) (cond b (Some r) (find (λ q. same_version l.0 q.version) rows)) ≡ Some l.1
+later_folder registry r rows ask l true same other is rest =
+    let one : l.0 ≡ r.version = (version_decides l.0 r.version).0 same in
+    absurd (true≢false (sym (has_ask registry rows ask l is) ∙ ap (λ v. same_ask (ask_of v) ask) one ∙ other))
+later_folder registry r rows ask l false same other is rest = rest
+
+first_folder : (registry : Path) (r : Row) (rows : List Row) → option_map (row_folder registry) (find (λ q. same_version r.version q.version) (r ∷ rows)) ≡ Some (row_folder registry r)
+first_folder registry r rows = ap (λ b. option_map (row_folder registry) (cond b (Some r) (find (λ q. same_version r.version q.version) rows))) (own_version r.version)
 
 table_folder : (registry : Path) (rows : List Row) (ask : Ask) (l : Version × Path) → table_listed registry rows ask ≡ Some l → option_map (row_folder registry) (find (λ r. same_version l.0 r.version) rows) ≡ Some l.1
 table_folder registry [] ask l e = (cc)
-table_folder registry (r ∷ rows) ask l e = by (same_ask (ask_of r.version) ask) refl e
+table_folder registry (r ∷ rows) ask l e = by (same_ask (ask_of r.version) ask) refl (table_folder registry rows ask l) e
   where
-    later : (b : Bool) → same_version l.0 r.version ≡ b → same_ask (ask_of r.version) ask ≡ false → table_listed registry rows ask ≡ Some l → option_map (row_folder registry) (cond b (Some r) (find (λ q. same_version l.0 q.version) rows)) ≡ Some l.1
-    later true same other is =
-        let one : l.0 ≡ r.version = (version_decides l.0 r.version).0 same in
-        absurd (true≢false (sym (has_ask registry rows ask l is) ∙ ap (λ v. same_ask (ask_of v) ask) one ∙ other))
-    later false same other is = table_folder registry rows ask l is
-
-    by : (b : Bool) → same_ask (ask_of r.version) ask ≡ b → option_map (λ x. (x.version, row_folder registry x)) (cond b (Some r) (row_meant rows ask)) ≡ Some l → option_map (row_folder registry) (find (λ q. same_version l.0 q.version) (r ∷ rows)) ≡ Some l.1
-    by true same is =
-        let one : (r.version, row_folder registry r) ≡ l = some_is is in
-        subst (λ x. option_map (row_folder registry) (find (λ q. same_version x.0 q.version) (r ∷ rows)) ≡ Some x.1) one (ap (λ b. option_map (row_folder registry) (cond b (Some r) (find (λ q. same_version r.version q.version) rows))) (own_version r.version))
-    by false same is = later (same_version l.0 r.version) refl same is
+    by : (b : Bool) → same_ask (ask_of r.version) ask ≡ b → (table_listed registry rows ask ≡ Some l → option_map (row_folder registry) (find (λ q. same_version l.0 q.version) rows) ≡ Some l.1) → option_map (row_listed registry) (cond b (Some r) (row_meant rows ask)) ≡ Some l
+        → option_map (row_folder registry) (find (λ q. same_version l.0 q.version) (r ∷ rows)) ≡ Some l.1
+    by true same rest is =
+        let one : row_listed registry r ≡ l = some_is is in
+        subst (λ (x : Version × Path). option_map (row_folder registry) (find (λ q. same_version x.0 q.version) (r ∷ rows)) ≡ Some x.1) one (first_folder registry r rows)
+    by false same rest is = later_folder registry r rows ask l (same_version l.0 r.version) refl same is (rest is)
 
 -- the version that an ask means stands in the folder beside it
 pub folder_of_listed : (home : Home) (ask : Ask) (l : Version × Path) → listed_at home ask ≡ Some l → version_folder home l.0 ≡ Some l.1

@@ -20,7 +20,7 @@ use Rattle.vk_pages.specs.HomeViews.{layout_view}
 use Rattle.vk_pages.specs.Pages.{page_of}
 use Rattle.vk_world.specs.Learning.{Learns}
 use Rattle.vk_world.specs.Libraries.{start_of, IsRight, Stays}
-use Rattle.vk_world.specs.Worlds.{paths_in, asked_since, log_before, origin_on, origin_of, pages_in, world_state, IsSoundOn, IsSound, told_with, IsReadSince}
+use Rattle.vk_world.specs.Worlds.{paths_in, asked_since, log_before, origin_on, origin_of, pages_in, learned_view, world_state, IsSoundOn, IsSound, told_with, IsReadSince}
 use Rattle.vk_world.specs.declared.libraries.Library.{Library}
 
 -- ---- lists
@@ -34,6 +34,10 @@ drop_all : {X : Type 0} (xs : List X) → drop (length xs) xs ≡ []
 drop_all [] = refl
 drop_all (x ∷ xs) = drop_all xs
 
+length_paths : (kept : Kept) → length (paths_of kept) ≡ length kept
+length_paths [] = refl
+length_paths (e ∷ es) = ap suc (length_paths es)
+
 -- what stands before the paths that a log ends with
 before_is : (log before asked : List Path) → log ≡ before ++ asked → log_before asked log ≡ before
 before_is log before asked e =
@@ -42,44 +46,44 @@ before_is log before asked e =
 
 -- ---- what was kept since
 
-paths_more : {failed : Bool} {before after : Library} {s s' : State} (r : ReadOnce failed (held before.files s) (held after.files s')) → paths_in after ≡ paths_in before ++ paths_of r.more
-paths_more {before = before} r = ap paths_of r.kept ∙ map-append (λ e. e.0) (kept_of before.files) r.more
+paths_more : {failed : Bool} (before after : Library) {s s' : State} (r : ReadOnce failed (held before.files s) (held after.files s')) → paths_in (learned_view after) ≡ paths_in (learned_view before) ++ paths_of r.more
+paths_more before after r = ap paths_of r.kept ∙ map-append (λ e. e.0) (kept_of before.files) r.more
 
-since_more : {failed : Bool} {before after : Library} {s s' : State} → before.opened ≤ length (paths_in before) → Stays before after → (r : ReadOnce failed (held before.files s) (held after.files s')) → asked_since after ≡ asked_since before ++ paths_of r.more
-since_more {before = before} {after = after} within stays r =
-    ap (λ n. drop n (paths_in after)) stays.opened ∙ ap (drop before.opened) (paths_more {before = before} {after = after} r) ∙ drop_front before.opened (paths_in before) (paths_of r.more) within
+since_more : {failed : Bool} (before after : Library) {s s' : State} → before.opened ≤ length (paths_in (learned_view before)) → Stays before after → (r : ReadOnce failed (held before.files s) (held after.files s')) → asked_since (learned_view after) ≡ asked_since (learned_view before) ++ paths_of r.more
+since_more before after within stays r =
+    ap (λ n. drop n (paths_in (learned_view after))) stays.opened ∙ ap (drop before.opened) (paths_more before after r) ∙ drop_front before.opened (paths_in (learned_view before)) (paths_of r.more) within
 
-within_more : {failed : Bool} {before after : Library} {s s' : State} → before.opened ≤ length (paths_in before) → Stays before after → (r : ReadOnce failed (held before.files s) (held after.files s')) → after.opened ≤ length (paths_in after)
-within_more {before = before} {after = after} within stays r =
-    rw (stays.opened) (omega (arith, within, ap length (paths_more {before = before} {after = after} r), length-append (paths_in before) (paths_of r.more)))
+within_more : {failed : Bool} (before after : Library) {s s' : State} → before.opened ≤ length (paths_in (learned_view before)) → Stays before after → (r : ReadOnce failed (held before.files s) (held after.files s')) → after.opened ≤ length (paths_in (learned_view after))
+within_more before after within stays r =
+    rw (stays.opened) (omega (arith, within, ap length (paths_more before after r), length-append (paths_in (learned_view before)) (paths_of r.more)))
 
-start_stays : {before after : Library} → Stays before after → start_of after ≡ start_of before
-start_stays s = ap layout_view s.layout
+start_stays : (before after : Library) → Stays before after → start_of after ≡ start_of before
+start_stays before after s = ap layout_view s.layout
 
 -- ---- it stays sound
 
-sound_on : {X : Type 0} {answer : Result X CatStop} {Says : Files → X → Type 0} {before after : Library} {s s' : State} → before.opened ≤ length (paths_in before) → Stays before after
+sound_on : {X : Type 0} {answer : Result X CatStop} {Says : Files → X → Type 0} (before after : Library) {s s' : State} → before.opened ≤ length (paths_in (learned_view before)) → Stays before after
     → (l : Learns answer Says (IsRight before) (IsRight after) (held before.files s) (held after.files s')) → (t : Told)
     → IsOf t.files l.once.more → (IsOf t.files (kept_of before.files) → IsRight before t.files → IsRight after t.files × IfOk answer (Says t.files))
     → IsSoundOn before t → IsSoundOn after (record { files = t.files; log = t.log ++ paths_of l.once.more })
-sound_on {before = before} {after = after} within stays l t more content sound = record {
+sound_on before after within stays l t more content sound = record {
   files = subst (IsOf t.files) (sym l.once.kept) (right_more (IsSeen t.files) (kept_of before.files) l.once.more sound.files more);
   right = (content sound.files sound.right).0;
   before = sound.before;
-  log = ap (λ log. log ++ paths_of l.once.more) sound.log ∙ append_assoc sound.before (asked_since before) (paths_of l.once.more) ∙ ap (λ asked. sound.before ++ asked) (sym (since_more {before = before} {after = after} within stays l.once));
+  log = ap (λ log. log ++ paths_of l.once.more) sound.log ∙ append_assoc sound.before (asked_since (learned_view before)) (paths_of l.once.more) ∙ ap (λ asked. sound.before ++ asked) (sym (since_more before after within stays l.once));
 }
 
-pub still_sound : {X : Type 0} {answer : Result X CatStop} {Says : Files → X → Type 0} {before after : Library} {s s' : State} → IsSound s before → Stays before after
+pub still_sound : {X : Type 0} {answer : Result X CatStop} {Says : Files → X → Type 0} (before after : Library) {s s' : State} → IsSound s before → Stays before after
     → Learns answer Says (IsRight before) (IsRight after) (held before.files s) (held after.files s') → IsSound s' after
-still_sound {answer = answer} {Says = Says} {before = before} {after = after} {s = s} {s' = s'} sound stays l = record {
-  opened = within_more {before = before} {after = after} sound.opened stays l.once;
+still_sound {answer = answer} {Says = Says} before after {s = s} {s' = s'} sound stays l = record {
+  opened = within_more before after sound.opened stays l.once;
   told = subst (λ o. IfSome o (IsSoundOn after)) (sym l.once.looks.told) (by s.told l.once.right l.content sound.told);
 }
   where
     by : (o : Option Told) → IfSome o (λ t. IsOf t.files l.once.more) → IfSome o (λ t. IsOf t.files (kept_of before.files) → IsRight before t.files → IsRight after t.files × IfOk answer (Says t.files)) → IfSome o (IsSoundOn before)
         → IfSome (with_asked (paths_of l.once.more) o) (IsSoundOn after)
     by None more content old = tt
-    by (Some t) more content old = sound_on {before = before} {after = after} sound.opened stays l t more content old
+    by (Some t) more content old = sound_on before after sound.opened stays l t more content old
 
 -- ---- it only asked
 
@@ -92,25 +96,25 @@ pages_stay start asked None = refl
 pages_stay start asked (Some t) = refl
 
 -- the log of the origin stays
-log_stays : (before after : Library) (o p : Option Told) (more : List Path) → p ≡ with_asked more o → IfSome o (IsSoundOn before) → IfSome p (IsSoundOn after) → asked_since after ≡ asked_since before ++ more
-    → option_map (λ t. log_before (asked_since after) t.log) p ≡ option_map (λ t. log_before (asked_since before) t.log) o
-log_stays before after None p more e one two since = ap (option_map (λ t. log_before (asked_since after) t.log)) e
+log_stays : (before after : Library) (o p : Option Told) (more : List Path) → p ≡ with_asked more o → IfSome o (IsSoundOn before) → IfSome p (IsSoundOn after) → asked_since (learned_view after) ≡ asked_since (learned_view before) ++ more
+    → option_map (λ t. log_before (asked_since (learned_view after)) t.log) p ≡ option_map (λ t. log_before (asked_since (learned_view before)) t.log) o
+log_stays before after None p more e one two since = ap (option_map (λ t. log_before (asked_since (learned_view after)) t.log)) e
 log_stays before after (Some t) p more e one two since =
-    let log : t.log ++ more ≡ one.before ++ asked_since after = ap (λ l. l ++ more) one.log ∙ append_assoc one.before (asked_since before) more ∙ ap (λ asked. one.before ++ asked) (sym since) in
-    ap (option_map (λ t. log_before (asked_since after) t.log)) e ∙ ap Some (before_is (t.log ++ more) one.before (asked_since after) log ∙ sym (before_is t.log one.before (asked_since before) one.log))
+    let log : t.log ++ more ≡ one.before ++ asked_since (learned_view after) = ap (λ l. l ++ more) one.log ∙ append_assoc one.before (asked_since (learned_view before)) more ∙ ap (λ asked. one.before ++ asked) (sym since) in
+    ap (option_map (λ t. log_before (asked_since (learned_view after)) t.log)) e ∙ ap Some (before_is (t.log ++ more) one.before (asked_since (learned_view after)) log ∙ sym (before_is t.log one.before (asked_since (learned_view before)) one.log))
 
 same_failed : {X A : Type 0} (view : X → A) (answer : Result X CatStop) → is_failed (seen_by view answer) ≡ cat_failed answer
 same_failed view (Ok x) = refl
 same_failed view (Err e) = refl
 
-only_asked : {X : Type 0} {answer : Result X CatStop} {Says : Files → X → Type 0} {before after : Library} {s s' : State} → IsSound s before → Stays before after
-    → Learns answer Says (IsRight before) (IsRight after) (held before.files s) (held after.files s') → OnlyAsked (cat_failed answer) (world_state s before) (world_state s' after)
-only_asked {before = before} {after = after} {s = s} {s' = s'} sound stays l =
+only_asked : {X : Type 0} {answer : Result X CatStop} {Says : Files → X → Type 0} (before after : Library) {s s' : State} → IsSound s before → Stays before after
+    → Learns answer Says (IsRight before) (IsRight after) (held before.files s) (held after.files s') → OnlyAsked (cat_failed answer) (world_state s (learned_view before)) (world_state s' (learned_view after))
+only_asked before after {s = s} {s' = s'} sound stays l =
     let looks = l.once.looks in
-    let since = since_more {before = before} {after = after} sound.opened stays l.once in
-    let later = still_sound {before = before} {after = after} sound stays l in
+    let since = since_more before after sound.opened stays l.once in
+    let later = still_sound before after sound stays l in
     record {
-      pages = ap (λ start. option_map (λ t. page_of start t.files) s'.told) (start_stays stays) ∙ ap (option_map (λ t. page_of (start_of before) t.files)) looks.told ∙ pages_stay (start_of before) (paths_of l.once.more) s.told;
+      pages = ap (λ start. option_map (λ t. page_of start t.files) s'.told) (start_stays before after stays) ∙ ap (option_map (λ t. page_of (start_of before) t.files)) looks.told ∙ pages_stay (start_of before) (paths_of l.once.more) s.told;
       origin = λ i. record {
         files = (ap (option_map (λ t. t.files)) looks.told ∙ files_stay (paths_of l.once.more) s.told) i;
         log = log_stays before after s.told s'.told (paths_of l.once.more) looks.told sound.told later.told since i;
@@ -124,14 +128,14 @@ only_asked {before = before} {after = after} {s = s} {s' = s'} sound stays l =
 
 -- ---- its answers are what the pages say
 
-pub asks_learned : {X A : Type 0} {answer : Result X CatStop} {Says : Files → X → Type 0} {before after : Library} {s s' : State} (view : X → A) (port : List ℕ) (PageSays : Page Tree → A → Type 0)
+pub asks_learned : {X A : Type 0} {answer : Result X CatStop} {Says : Files → X → Type 0} (before after : Library) {s s' : State} (view : X → A) (port : List ℕ) (PageSays : Page Tree → A → Type 0)
     → ((start : Start) (files : Files) → ArePages (page_of start files)) → IsSound s before → Stays before after
     → ((t : Told) → s.told ≡ Some t → (x : X) → Says t.files x → PageSays (page_of (start_of before) t.files port) (view x))
-    → Learns answer Says (IsRight before) (IsRight after) (held before.files s) (held after.files s') → Asks port PageSays (seen_by view answer) (world_state s before) (world_state s' after)
-asks_learned {X} {answer = answer} {Says = Says} {before = before} {after = after} {s = s} {s' = s'} view port PageSays pages sound stays page_says l = record {
+    → Learns answer Says (IsRight before) (IsRight after) (held before.files s) (held after.files s') → Asks port PageSays (seen_by view answer) (world_state s (learned_view before)) (world_state s' (learned_view after))
+asks_learned {X} {answer = answer} {Says = Says} before after {s = s} {s' = s'} view port PageSays pages sound stays page_says l = record {
   told = told answer s.told refl l.content sound.told;
   kept = kept s.told;
-  only = subst (λ failed. OnlyAsked failed (world_state s before) (world_state s' after)) (sym (same_failed view answer)) (only_asked {before = before} {after = after} sound stays l);
+  only = subst (λ failed. OnlyAsked failed (world_state s (learned_view before)) (world_state s' (learned_view after))) (sym (same_failed view answer)) (only_asked before after sound stays l);
 }
   where
     kept : (o : Option Told) → IfSome (option_map (λ t. page_of (start_of before) t.files) o) ArePages
@@ -145,7 +149,7 @@ asks_learned {X} {answer = answer} {Says = Says} {before = before} {after = afte
     told (Ok x) (Some t) is content old = page_says t is x (content old.files old.right).1
 
 -- what holds on a port's page holds of the page of the files
-pub on_page : (port : List ℕ) (P : Page Tree → Type 0) (lib : Library) (s : State) (t : Told) → s.told ≡ Some t → OnPage port P (world_state s lib) → P (page_of (start_of lib) t.files port)
+pub on_page : (port : List ℕ) (P : Page Tree → Type 0) (lib : Library) (s : State) (t : Told) → s.told ≡ Some t → OnPage port P (world_state s (learned_view lib)) → P (page_of (start_of lib) t.files port)
 on_page port P lib s t is holds = subst (λ (o : Option Told). IfSome (option_map (λ u. page_of (start_of lib) u.files) o) (λ p. P (p port))) is holds
 
 -- ---- the beginning and the end
@@ -154,13 +158,31 @@ on_page port P lib s t is holds = subst (λ (o : Option Told). IfSome (option_ma
 pub sound_on_start : (lib : Library) (s : State) → lib.opened ≡ length (kept_of lib.files) → IfSome s.told (λ t. IsOf t.files (kept_of lib.files)) → ((files : Files) → IsRight lib files) → IsSound s lib
 sound_on_start lib s opened files right = record { opened = rw (opened, length_paths (kept_of lib.files)) (omega arith); told = by s.told files }
   where
-    length_paths : (kept : Kept) → length (paths_of kept) ≡ length kept
-    length_paths [] = refl
-    length_paths (e ∷ es) = ap suc (length_paths es)
-
-    nothing : asked_since lib ≡ []
-    nothing = ap (λ n. drop n (paths_in lib)) (opened ∙ sym (length_paths (kept_of lib.files))) ∙ drop_all (paths_in lib)
+    nothing : asked_since (learned_view lib) ≡ []
+    nothing = ap (λ n. drop n (paths_in (learned_view lib))) (opened ∙ sym (length_paths (kept_of lib.files))) ∙ drop_all (paths_in (learned_view lib))
 
     by : (o : Option Told) → IfSome o (λ t. IsOf t.files (kept_of lib.files)) → IfSome o (IsSoundOn lib)
     by None of = tt
     by (Some t) of = record { files = of; right = right t.files; before = t.log; log = sym (append-nil t.log) ∙ ap (λ asked. t.log ++ asked) (sym nothing) }
+
+-- what the origin told, and what was looked at since, is what the tree tells
+told_since : (lib : Library) (o : Option Told) → IfSome o (IsSoundOn lib) → o ≡ with_asked (asked_since (learned_view lib)) (told_with (option_map (λ t. t.files) o) (option_map (λ t. log_before (asked_since (learned_view lib)) t.log) o))
+told_since lib None sound = refl
+told_since lib (Some t) sound =
+    let asked = asked_since (learned_view lib) in
+    let before = before_is t.log sound.before asked sound.log in
+    ap (λ log. Some (record { files = t.files; log = log })) (sound.log ∙ ap (λ l. l ++ asked) (sym before))
+
+pub read_since : (lib : Library) (s : State) → IsSound s lib → IsReadSince (world_state s (learned_view lib)).origin (asked_since (learned_view lib)) s
+read_since lib s sound = record { told = told_since lib s.told sound.told; changes = refl }
+
+-- as a world begins, its origin is what the tree tells
+origin_log : (lib : Library) (o : Option Told) → asked_since (learned_view lib) ≡ [] → option_map (λ t. log_before (asked_since (learned_view lib)) t.log) o ≡ option_map (λ t. t.log) o
+origin_log lib None nothing = refl
+origin_log lib (Some t) nothing = ap Some (before_is t.log t.log (asked_since (learned_view lib)) (sym (append-nil t.log) ∙ ap (λ asked. t.log ++ asked) (sym nothing)))
+
+pub origin_is : (lib : Library) (s : State) → lib.opened ≡ length (kept_of lib.files) → (world_state s (learned_view lib)).origin ≡ origin_on s
+origin_is lib s opened = λ i. record { files = option_map (λ t. t.files) s.told; log = origin_log lib s.told nothing i; changes = s.changes }
+  where
+    nothing : asked_since (learned_view lib) ≡ []
+    nothing = ap (λ n. drop n (paths_in (learned_view lib))) (opened ∙ sym (length_paths (kept_of lib.files))) ∙ drop_all (paths_in (learned_view lib))

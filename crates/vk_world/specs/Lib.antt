@@ -4,6 +4,7 @@ pub mod PairLaws
 pub mod HomeNotes
 pub mod ManifestNotes
 pub mod Listed
+pub mod ListedViews
 pub mod Answered
 pub mod ManifestAnswers
 pub mod VersionFolders

@@ -29,9 +29,13 @@ row_meant rows ask = find (λ r. same_ask (ask_of r.version) ask) rows
 abbrev pub own_listed : Path → Version → Ask → Option (Version × Path)
 own_listed folder v ask = if same_ask (ask_of v) ask then Some (v, folder) else None
 
+-- a row's version, with its folder
+abbrev pub row_listed : Path → Row → Version × Path
+row_listed registry r = (r.version, row_folder registry r)
+
 -- the version of a registry's table that an ask means, with its folder
 abbrev pub table_listed : Path → List Row → Ask → Option (Version × Path)
-table_listed registry rows ask = option_map (λ r. (r.version, row_folder registry r)) (row_meant rows ask)
+table_listed registry rows ask = option_map (row_listed registry) (row_meant rows ask)
 
 -- the same at a home
 abbrev pub listed_at : Home → Ask → Option (Version × Path)

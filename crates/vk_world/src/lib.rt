@@ -14,3 +14,6 @@ mod settling;
 mod worlds;
 
 pub use worlds::World;
+
+#[cfg(test)]
+mod tests;

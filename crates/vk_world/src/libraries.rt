@@ -72,19 +72,15 @@ impl Library {
     }
 
     // Looks for the home of a port.
-    fn look<T: Tree>(
-        &mut self,
-        alloc: Global,
-        tree: &mut T,
-        port: &PortName,
-    ) -> Result<(), CatStop>
+    fn look<T: Tree>(&mut self, alloc: Global, tree: &mut T, port: &PortName) -> Result<(), CatStop>
         ensures learns { Learns result SaysNothing (IsRight self.old) (IsRight self.new) (held self.old.files (T.state tree.old)) (held self.new.files (T.state tree.new)) }
         ensures there { OnOk result (IsSome (home_noted port.now self.new.homes)) }
         ensures stays { Stays self.old self.new }
         ensures known { self.new.known ≡ self.old.known }
         ensures manifests { self.new.manifests ≡ self.old.manifests }
     {
-        self.homes.look(alloc, &self.layout, &mut self.files, tree, port)
+        self.homes
+            .look(alloc, &self.layout, &mut self.files, tree, port)
     }
 
     /// What is given for a port, or what is wrong.

@@ -1,13 +1,13 @@
 //! What the home of a port has.
-ghost use Rattle.std.specs.Prelude.{◌≡◌, Ok, IfOk, false, option_map};
-ghost use Rattle.std.specs.Option.{option_copied};
+ghost use Rattle.std.specs.Prelude.{◌≡◌, Ok, IfOk, false, option_map, slice_get};
+ghost use Rattle.vk_registry.specs.Tables.{IsTable};
 ghost use Rattle.vk_registry.specs.TableViews.{row_view};
 ghost use Rattle.vk_model.specs.Views.{manifest_view};
 ghost use Rattle.vk_version.specs.AskViews.{ask_view};
 ghost use Rattle.vk_catalogue.specs.Views.{cat_failed, given_view, manifest_said};
-ghost use Rattle.vk_pages.specs.Pages.{row_folder};
 ghost use Rattle.vk_pages.specs.HomeViews.{home_view};
-ghost use Rattle.vk_world.specs.Listed.{agreed, folder_at, given_at, listed_at, own_listed, row_meant, table_listed};
+ghost use Rattle.vk_world.specs.Listed.{agreed, folder_at, given_at, listed_at, own_listed, row_listed, row_meant, table_listed};
+ghost use Rattle.vk_world.specs.ListedViews.{listed_view};
 
 use crate::settling::settle;
 use std::alloc::{AllocError, Global};
@@ -48,19 +48,27 @@ pub fn folder_at(home: &Home) -> &TreePath
     }
 }
 
+// The row at a place.
+fn row_at(table: &Table, place: usize) -> Option<&Row>
+    ensures row { option_map (λ r. row_view r.now) result ≡ slice_get table.now place }
+    ensures table { IsTable table.now }
+{
+    table.rows().get(place)
+}
+
 /// The row of a table that an ask means; `None` exactly where there is none.
 pub fn row_meant<'a>(table: &'a Table, ask: &Ask) -> Option<&'a Row>
-    ensures { option_map row_view (option_copied result) ≡ row_meant table.now (ask_view ask.now) }
+    ensures { option_map (λ r. row_view r.now) result ≡ row_meant table.now (ask_view ask.now) }
 {
     match find(table, ask) {
-        Some(place) => table.rows().get(place),
+        Some(place) => row_at(table, place),
         None => None,
     }
 }
 
 // A row's version, and its folder.
 fn listed_row(alloc: Global, registry: &TreePath, row: &Row) -> Result<Listed, CatStop>
-    ensures told { IfOk result (λ l. (l.version, l.folder) ≡ ((row_view row.now).version, row_folder registry.now (row_view row.now))) }
+    ensures told { IfOk result (λ l. listed_view l ≡ row_listed registry.now (row_view row.now)) }
     ensures calm { cat_failed result ≡ false }
 {
     Ok(Listed {
@@ -70,12 +78,8 @@ fn listed_row(alloc: Global, registry: &TreePath, row: &Row) -> Result<Listed, C
 }
 
 // An overlay's version, if it is what an ask means, and its folder.
-fn own_version(
-    folder: &TreePath,
-    version: &Version,
-    ask: &Ask,
-) -> Result<Option<Listed>, CatStop>
-    ensures told { IfOk result (λ o. option_map (λ l. (l.version, l.folder)) o ≡ own_listed folder.now version.now (ask_view ask.now)) }
+fn own_version(folder: &TreePath, version: &Version, ask: &Ask) -> Result<Option<Listed>, CatStop>
+    ensures told { IfOk result (λ o. option_map listed_view o ≡ own_listed folder.now version.now (ask_view ask.now)) }
     ensures calm { cat_failed result ≡ false }
 {
     if version.ask() != ask {
@@ -94,7 +98,7 @@ fn table_version(
     table: &Table,
     ask: &Ask,
 ) -> Result<Option<Listed>, CatStop>
-    ensures told { IfOk result (λ o. option_map (λ l. (l.version, l.folder)) o ≡ table_listed registry.now table.now (ask_view ask.now)) }
+    ensures told { IfOk result (λ o. option_map listed_view o ≡ table_listed registry.now table.now (ask_view ask.now)) }
     ensures calm { cat_failed result ≡ false }
 {
     match row_meant(table, ask) {
@@ -105,12 +109,14 @@ fn table_version(
 
 /// The version that an ask means at a home, and its folder; `None` exactly where there is none.
 pub fn listed_at(alloc: Global, home: &Home, ask: &Ask) -> Result<Option<Listed>, CatStop>
-    ensures told { IfOk result (λ o. option_map (λ l. (l.version, l.folder)) o ≡ listed_at (home_view home.now) (ask_view ask.now)) }
+    ensures told { IfOk result (λ o. option_map listed_view o ≡ listed_at (home_view home.now) (ask_view ask.now)) }
     ensures calm { cat_failed result ≡ false }
 {
     match home {
         Home::Overlay {
-            folder, version, ..
+            folder,
+            version,
+            ..
         } => own_version(folder, version, ask),
         Home::Registry { folder, table, .. } => table_version(alloc, folder, table, ask),
     }

@@ -28,7 +28,7 @@ pub struct Manifests {
 }
 
 // The port's manifest at a path, to be shared.
-#[tactic(auto, using(crate::proofs::LearnLemmas::reads_last, vk_files::proofs::ReadMore::reads_lacking))]
+#[tactic(auto, using(crate::proofs::LearnLemmas::reads_last, crate::proofs::LearnLemmas::reads_lacking))]
 fn shared_manifest<T: Tree>(
     alloc: Global,
     files: &mut FileCache,

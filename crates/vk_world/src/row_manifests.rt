@@ -1,10 +1,11 @@
 //! The manifest of a version, which is read where it stands.
-ghost use Rattle.std.specs.Prelude.{◌≡◌};
+ghost use Rattle.std.specs.Prelude.{◌≡◌, Ok};
 ghost use Rattle.vk_registry.specs.TableViews.{row_view};
 ghost use Rattle.vk_version.specs.AskViews.{ask_view};
 ghost use Rattle.vk_catalogue.specs.Views.{manifest_said};
 ghost use Rattle.vk_files.specs.Views.{held};
 ghost use Rattle.vk_pages.specs.Pages.{row_manifest};
+ghost use Rattle.vk_pages.specs.HomeViews.{home_view};
 ghost use Rattle.vk_world.specs.Learning.{Learns, Means};
 ghost use Rattle.vk_world.specs.HomeNotes.{found_home};
 ghost use Rattle.vk_world.specs.ManifestNotes.{AreManifests};
@@ -61,6 +62,26 @@ fn table_manifest<T: Tree>(
     }
 }
 
+// The manifest of the version that an ask means at a home.
+fn home_manifest<T: Tree>(
+    alloc: Global,
+    files: &mut FileCache,
+    manifests: &mut Manifests,
+    tree: &mut T,
+    port: &PortName,
+    home: &Home,
+    ask: &Ask,
+) -> Result<Result<Rc<Manifest>, Wrong>, CatStop>
+    ensures { Learns result (IsManifestFor port.now (Ok (home_view home.now)) (ask_view ask.now)) (AreManifests manifests.old) (AreManifests manifests.new) (held files.old (T.state tree.old)) (held files.new (T.state tree.new)) }
+{
+    match home {
+        Home::Overlay { manifest, .. } => Ok(Ok(manifest.clone()?)),
+        Home::Registry { folder, table, .. } => {
+            table_manifest(alloc, files, manifests, tree, port, folder, table, ask)
+        }
+    }
+}
+
 /// The manifest of the version that an ask means, by what was found for the port. Where no version
 /// is meant, nothing is promised.
 pub fn manifest_for<T: Tree>(
@@ -75,10 +96,7 @@ pub fn manifest_for<T: Tree>(
     ensures { Learns result (IsManifestFor port.now (found_home found.now) (ask_view ask.now)) (AreManifests manifests.old) (AreManifests manifests.new) (held files.old (T.state tree.old)) (held files.new (T.state tree.new)) }
 {
     match found {
-        Ok(Home::Overlay { manifest, .. }) => Ok(Ok(manifest.clone()?)),
-        Ok(Home::Registry { folder, table, .. }) => {
-            table_manifest(alloc, files, manifests, tree, port, folder, table, ask)
-        }
+        Ok(home) => home_manifest(alloc, files, manifests, tree, port, home, ask),
         Err(_) => Ok(Err(Wrong::NoRegistry)),
     }
 }

@@ -8,8 +8,8 @@ ghost use Rattle.vk_catalogue.specs.Views.{given_answer, version_answer, manifes
 ghost use Rattle.vk_files.specs.Kept.{IsOf};
 ghost use Rattle.vk_opening.specs.Views.{start_view, opened_files};
 ghost use Rattle.vk_world.specs.Answered.{pairs_given, pairs_listed};
-ghost use Rattle.vk_world.specs.Libraries.{start_of, StandsAt};
-ghost use Rattle.vk_world.specs.Worlds.{world_state, origin_on, known_in, paths_in, asked_since, IsReadSince};
+ghost use Rattle.vk_world.specs.Libraries.{StandsAt};
+ghost use Rattle.vk_world.specs.Worlds.{world_state, origin_on, start_in, known_in, paths_in, asked_since, IsReadSince};
 
 use crate::libraries::Library;
 use std::alloc::Global;
@@ -32,12 +32,15 @@ pub struct World<T: Tree> {
 }
 
 impl<T: Tree> Model for World<T> {
-    ghost use Rattle.vk_world.specs.declared.libraries.Library.{Library};
-    ghost use Rattle.vk_world.specs.Worlds.{IsSound};
+    ghost use Rattle.vk_world.specs.Worlds.{Learned, learned_view, IsSound};
+    ghost use Rattle.vk_expr.specs.contracts.exprs.Expr as expr;
+    ghost use Rattle.std.specs.Coded.{codes};
 
-    ghost Value = { T × Library };
+    ghost Value = { T × Learned };
 
-    ghost view = { λ w. (w.tree, w.library) };
+    ghost coded = { Prim.hlevel (codes, expr.the_row.coded) };
+
+    ghost view = { λ w. (w.tree, learned_view w.library) };
 
     ghost invariant = { λ w. IsSound (T.state w.tree) w.library };
 }
@@ -47,7 +50,7 @@ impl<T: Tree> World<T> {
     pub fn on(alloc: Global, start: Start, tree: T) -> World<T>
         requires { IfSome (T.state tree).told (λ t. IsOf t.files (opened_files start)) }
         ensures tree { result.0 ≡ tree }
-        ensures start { start_of result.1 ≡ start_view start }
+        ensures start { start_in result.1 ≡ start_view start }
         ensures origin { (world_state (T.state result.0) result.1).origin ≡ origin_on (T.state tree) }
         ensures known { known_in result.1 ≡ [] }
     {
@@ -77,7 +80,7 @@ impl<T: Tree> World<T> {
     /// answered. Takes no memory.
     pub fn folder(&self, port: &PortName, version: &Version) -> Option<&TreePath>
         ensures none { (result ≡ None) ↔ (Contains (known_in self.now.1) (port.now, version.now) → ⊥) }
-        ensures stands { IfSome result (λ folder. IfSome (T.state self.now.0).told (λ t. StandsAt (start_of self.now.1) port.now version.now folder.now t.files)) }
+        ensures stands { IfSome result (λ folder. IfSome (T.state self.now.0).told (λ t. StandsAt (start_in self.now.1) port.now version.now folder.now t.files)) }
     {
         self.library.known.get(port, version)
     }
@@ -88,7 +91,7 @@ impl<T: Tree> Catalogue for World<T> {
 
     fn given(&mut self, port: &PortName) -> Result<Result<Given, Wrong>, CatStop>
         ensures asks { Asks port.now SaysGiven (given_answer result) (world_state (T.state self.old.0) self.old.1) (world_state (T.state self.new.0) self.new.1) }
-        ensures start { start_of self.new.1 ≡ start_of self.old.1 }
+        ensures start { start_in self.new.1 ≡ start_in self.old.1 }
         ensures known { known_in self.new.1 ≡ pairs_given port.now (given_answer result) (known_in self.old.1) }
     {
         self.library.given(self.alloc, &mut self.tree, port)
@@ -97,7 +100,7 @@ impl<T: Tree> Catalogue for World<T> {
     fn version(&mut self, port: &PortName, ask: &Ask) -> Result<Option<Version>, CatStop>
         requires { OnPage port.now CanAskVersion (world_state (T.state self.old.0) self.old.1) }
         ensures asks { Asks port.now (SaysVersion (ask_view ask.now)) (version_answer result) (world_state (T.state self.old.0) self.old.1) (world_state (T.state self.new.0) self.new.1) }
-        ensures start { start_of self.new.1 ≡ start_of self.old.1 }
+        ensures start { start_in self.new.1 ≡ start_in self.old.1 }
         ensures known { known_in self.new.1 ≡ pairs_listed port.now (version_answer result) (known_in self.old.1) }
     {
         self.library.version(self.alloc, &mut self.tree, port, ask)
@@ -110,7 +113,7 @@ impl<T: Tree> Catalogue for World<T> {
     ) -> Result<Result<Rc<Manifest>, Wrong>, CatStop>
         requires { OnPage port.now (CanAskManifest (ask_view ask.now)) (world_state (T.state self.old.0) self.old.1) }
         ensures asks { Asks port.now (SaysManifest (ask_view ask.now)) (manifest_answer result) (world_state (T.state self.old.0) self.old.1) (world_state (T.state self.new.0) self.new.1) }
-        ensures start { start_of self.new.1 ≡ start_of self.old.1 }
+        ensures start { start_in self.new.1 ≡ start_in self.old.1 }
         ensures known { known_in self.new.1 ≡ known_in self.old.1 }
     {
         self.library.manifest(self.alloc, &mut self.tree, port, ask)

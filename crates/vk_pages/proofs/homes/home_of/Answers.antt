@@ -1,4 +1,3 @@
-use Rattle.std.proofs.Common.{sym}
 use Rattle.vk_files.proofs.NotingLemmas.{noting_none, noting_then}
 use Rattle.vk_pages.specs.BaselineNotes.{AreBaselines}
 use Rattle.vk_pages.specs.Homes.{home_by}

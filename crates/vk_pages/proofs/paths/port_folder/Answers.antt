@@ -1,4 +1,3 @@
-use Rattle.std.proofs.Common.{ap}
 use Rattle.vk_base.specs.Names.{port_rule}
 use Rattle.vk_base.proofs.NameLemmas.{rule_from_no_fault}
 use Rattle.vk_pages.proofs.PartLemmas.{name_is_part}

@@ -1,11 +1,10 @@
 use Rattle.std.proofs.Common.{refl}
 use Rattle.std.specs.Prelude.{Ok}
 use Rattle.std.proofs.lemmas.Result.{err_from_is_err_and}
-use Rattle.vk_spec.specs.Reading.{◌>>=◌}
 use Rattle.vk_catalogue.specs.Views.{wrong_view, given_view}
 use Rattle.vk_files.proofs.NotingLemmas.{noting_none, noting_pure, noting_then, noting_stopped}
 use Rattle.vk_pages.specs.BaselineNotes.{AreBaselines}
-use Rattle.vk_pages.specs.Homes.{in_registry, table_in, served_home}
+use Rattle.vk_pages.specs.Homes.{in_registry, home_with, served_home}
 use Rattle.vk_pages.specs.HomeViews.{home_view, served_view}
 use Rattle.vk_pages.specs.NoteViews.{notes_of}
 use Rattle.vk_pages.proofs.registries.served_home.Goals as goal
@@ -15,7 +14,7 @@ unfolding served_home
 returns-in_err-given g c = λ start is.
     let s = served_view c.args.served in
     let p = err_from_is_err_and c.from_residual.result c.from_residual.ensures.1 in
-    rw (p.1, p.2) (noting_stopped home_view (λ given f. table_in s c.args.port.now f >>= λ rows. Ok (in_registry given s.folder rows)) (c.in_err-given.ensures start is))
+    rw (p.1, p.2) (noting_stopped home_view (λ given f. home_with given s c.args.port.now f) (c.in_err-given.ensures start is))
 
 pub returns-in_err-table : goal.returns-in_err-table
 unfolding served_home
@@ -23,14 +22,14 @@ returns-in_err-table g c = λ start is.
     let s = served_view c.args.served in
     let known = AreBaselines start (notes_of c.given_by.new.baselines) in
     let p = err_from_is_err_and c.from_residual-in_err-table.result c.from_residual-in_err-table.ensures.1 in
-    rw (p.1, p.2) (noting_then (λ given f. table_in s c.args.port.now f >>= λ rows. Ok (in_registry given s.folder rows)) (c.in_ok-given.ensures start is)
-        (noting_stopped home_view (λ rows f. Ok (in_registry (given_view c.in_ok-given.given) s.folder rows)) (noting_none known c.in_err-table.ensures)))
+    rw (p.1, p.2) (noting_then (λ given f. home_with given s c.args.port.now f) (c.in_ok-given.ensures start is)
+    (noting_stopped home_view (λ rows f. Ok (in_registry (given_view c.in_ok-given.given) s.folder rows)) (noting_none known c.in_err-table.ensures)))
 
 pub returns : goal.returns
 unfolding served_home
 returns g c = λ start is.
     let s = served_view c.args.served in
     let known = AreBaselines start (notes_of c.given_by.new.baselines) in
-    noting_then (λ given f. table_in s c.args.port.now f >>= λ rows. Ok (in_registry given s.folder rows)) (c.in_ok-given.ensures start is)
-        (noting_then (λ rows f. Ok (in_registry (given_view c.in_ok-given.given) s.folder rows)) (noting_none known c.in_ok-table.ensures)
-            (noting_pure wrong_view home_view _ (λ f. Ok (in_registry (given_view c.in_ok-given.given) s.folder c.in_ok-table.table)) known known _ refl (λ f old right. (right, refl))))
+    noting_then (λ given f. home_with given s c.args.port.now f) (c.in_ok-given.ensures start is)
+    (noting_then (λ rows f. Ok (in_registry (given_view c.in_ok-given.given) s.folder rows)) (noting_none known c.in_ok-table.ensures)
+    (noting_pure wrong_view home_view _ (λ f. Ok (in_registry (given_view c.in_ok-given.given) s.folder c.in_ok-table.table)) known known _ refl (λ f old right. (right, refl))))

@@ -1,0 +1,26 @@
+//! What the pages of ports keep, and where a port comes from.
+ghost use Rattle.std.specs.Prelude.{◌≡◌, List, ℕ, Ok, Some, None};
+ghost use Rattle.vk_spec.specs.Files.{Files};
+ghost use Rattle.vk_spec.specs.Pages.{override};
+ghost use Rattle.vk_spec.specs.Versions as versions;
+ghost use Rattle.vk_spec.specs.Catalogues.{ArePages};
+ghost use Rattle.vk_opening.specs.Starts as plain;
+ghost use Rattle.vk_pages.specs.Homes.{Served, overlay_for, home_in, served_for, override_for, home_with, home_of};
+ghost use Rattle.vk_pages.specs.Pages.{page_of};
+
+/// Every page is one that a catalogue may tell: no two rows are asked for alike, an overlay has its
+/// own version alone, and what is wrong can be wrong there.
+pub fn page_rule()
+    ensures { (start : plain.Start) (files : Files) → ArePages (page_of start files) }
+{}
+
+/// A port comes from the first overlay that has it, whatever registries and overrides say.
+pub fn overlay_rule()
+    ensures { (start : plain.Start) (port : List ℕ) (files : Files) (overlay : plain.Overlay) → overlay_for start.overlays port files ≡ Some overlay → home_of start port files ≡ home_in overlay port files }
+{}
+
+/// What the root manifest sets for a port of a registry is given, whatever the registry's baseline
+/// file holds; its table is still needed.
+pub fn override_rule()
+    ensures { (start : plain.Start) (port : List ℕ) (files : Files) (served : Served) (ask : versions.Ask) → overlay_for start.overlays port files ≡ None → served_for start port ≡ Ok served → override_for start.overrides port ≡ Some ask → home_of start port files ≡ home_with (override ask) served port files }
+{}
