@@ -68,7 +68,7 @@ impl Project {
         let mut err = MemSink::new(alloc, self.room.err)?;
         let tree = self.files.take_tree(alloc)?;
         let ran = run(alloc, words, tree, &mut out, &mut err);
-        self.files.put_tree(ran.tree);
+        self.files.tree = ran.tree;
         Ok(End {
             status: ran.status,
             out: token(alloc, out.bytes())?,

@@ -1,7 +1,7 @@
 //! A row's words, and what they stand for.
 ghost use Rattle.std.specs.Prelude.{◌≡◌, IfOk};
 ghost use Rattle.std.specs.List.{before_first, after_first};
-ghost use Rattle.vk_table.specs.Wording.{is_blank, place_text, ReadsBytes};
+ghost use Rattle.vk_table.specs.Wording.{is_blank, place_text, ReadsBytes, ReadsNumber};
 
 use crate::stops::Stop;
 use std::alloc::Global;
@@ -44,12 +44,16 @@ pub fn path_of(alloc: Global, word: &str) -> Result<TreePath, Stop> {
     }
 }
 
-/// The number that a word is. `Row` where it is none of this type.
+/// The number that a word is. `Row` exactly where it is none of this type.
 pub fn number_of<N: FromStr>(word: &str) -> Result<N, Stop>
 where
     N::Err: Drop,
+    ensures { ReadsNumber (N.from_str_gives word.now) result }
 {
-    word.parse().map_err(|_| Stop::Row)
+    match word.parse() {
+        Ok(number) => Ok(number),
+        Err(_) => Err(Stop::Row),
+    }
 }
 
 /// How a place in a document is told: its token, and `-` for the whole document.

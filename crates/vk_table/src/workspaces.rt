@@ -1,6 +1,4 @@
 //! Files in memory that rows put.
-ghost use Rattle.std.specs.Prelude.{◌≡◌};
-
 use crate::stops::Stop;
 use crate::wording::{bytes_of, cut, number_of, path_of};
 use std::alloc::Global;
@@ -19,7 +17,8 @@ struct File {
 #[derive(Drop)]
 pub struct Workspace {
     common: Vec<File>,
-    tree: MemTree,
+    /// The tree that rows put files into.
+    pub tree: MemTree,
 }
 
 fn put(tree: &mut MemTree, file: &File) -> Result<(), Stop> {
@@ -71,21 +70,9 @@ impl Workspace {
         Ok(())
     }
 
-    /// The tree, lent.
-    pub fn tree(&self) -> &MemTree
-        ensures { result.now ≡ self.now.tree }
-    {
-        &self.tree
-    }
-
     /// The tree, in whose place an empty one stands until it is put back.
     pub fn take_tree(&mut self, alloc: Global) -> Result<MemTree, Memory> {
         Ok(mem::replace(&mut self.tree, MemTree::new(alloc)?))
-    }
-
-    /// Puts a tree in the place of the one that is here.
-    pub fn put_tree(&mut self, tree: MemTree) {
-        self.tree = tree;
     }
 
     /// Does what a row says of the files:

@@ -19,7 +19,7 @@ pub fn paths_line(alloc: Global, paths: &List<TreePath>) -> Result<Text, Memory>
         return Ok(Text::from_str(alloc, "none")?);
     }
     let mut line = Text::new(alloc);
-    for path in paths {
+    for path in paths.iter() {
         if !line.is_empty() {
             line.push_str(" ")?;
         }

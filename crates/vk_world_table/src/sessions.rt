@@ -33,7 +33,7 @@ enum Opening {
 
 // Opens a project on a tree.
 #[tactic(auto, using(vk_opening::proofs::OpenLemmas::start_right))]
-fn opening(alloc: Global, mut tree: MemTree, project: &Project) -> Result<Opening, Memory> {
+fn open_on(alloc: Global, mut tree: MemTree, project: &Project) -> Result<Opening, Memory> {
     match open(alloc, &mut tree, project) {
         Ok(Opened::Ready { setting, start }) => {
             let told = ready_line(alloc, &setting, &start)?;
@@ -91,20 +91,20 @@ impl Session {
     // Ends the world: its tree is the one that rows put files into.
     fn close(&mut self) {
         if let Some(world) = self.world.take() {
-            self.files.put_tree(world.into_tree());
+            self.files.tree = world.into_tree();
         }
     }
 
     fn open(&mut self, alloc: Global, row: &str) -> Result<Text, Halt> {
         let project = project_of(alloc, row)?;
         let tree = self.files.take_tree(alloc)?;
-        match opening(alloc, tree, &project)? {
+        match open_on(alloc, tree, &project)? {
             Opening::World(told, world) => {
                 self.world = Some(world);
                 Ok(told)
             }
             Opening::Tree(told, tree) => {
-                self.files.put_tree(tree);
+                self.files.tree = tree;
                 told
             }
         }
@@ -118,7 +118,7 @@ impl Session {
     }
 
     fn log(&mut self, alloc: Global) -> Result<Text, Halt> {
-        Ok(paths_line(alloc, self.files.tree().logged())?)
+        Ok(paths_line(alloc, self.files.tree.logged())?)
     }
 
     // What a row that isn't asked of the world does.

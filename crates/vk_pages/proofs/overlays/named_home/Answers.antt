@@ -1,7 +1,7 @@
 use Rattle.std.proofs.lemmas.Result.{err_from_is_err_and}
 use Rattle.vk_catalogue.specs.Views.{wrong_view}
 use Rattle.vk_files.specs.StopViews.{refusal_in}
-use Rattle.vk_files.proofs.ReadLemmas.{fails_on}
+use Rattle.vk_spec.proofs.ReadingLemmas.{fails_on}
 use Rattle.vk_model.specs.Views.{manifest_view}
 use Rattle.vk_pages.specs.Homes.{named_home, overlay_home}
 use Rattle.vk_pages.proofs.overlays.named_home.Goals as goal

@@ -4,7 +4,7 @@ use Rattle.std.proofs.lemmas.Result.{err_from_is_err_and}
 use Rattle.vk_catalogue.specs.Views.{wrong_view}
 use Rattle.vk_files.specs.StopViews.{refusal_in}
 use Rattle.vk_files.proofs.NotingLemmas.{noting_pure, noting_then}
-use Rattle.vk_files.proofs.ReadLemmas.{fails_on}
+use Rattle.vk_spec.proofs.ReadingLemmas.{fails_on}
 use Rattle.vk_pages.specs.BaselineNotes.{AreBaselines}
 use Rattle.vk_pages.specs.Homes.{override_for, served_for, served_home, registry_home}
 use Rattle.vk_pages.specs.HomeViews.{home_view, layout_view, served_view}
