@@ -7,24 +7,12 @@ mod projects;
 mod rows;
 
 use projects::Project;
-use rows::Reply;
 use std::io;
+use vk_table::answer_lines;
 
 fn main(rt: HostRuntime) -> io::Result<()> {
-    let alloc = rt.alloc();
-    let Ok(mut project) = Project::new(alloc) else {
+    let Ok(mut project) = Project::new(rt.alloc()) else {
         return println!(rt; "no memory");
     };
-    for line in rt.lines(alloc) {
-        let row = line?;
-        match rows::answer(alloc, &mut project, row.as_str()) {
-            Ok(Reply::Done) => {}
-            Ok(Reply::Title) => println!(rt; "{row}")?,
-            Ok(Reply::Ended(end)) => {
-                println!(rt; "{row}: {} \"{}\" \"{}\"", end.status, end.out, end.err)?
-            }
-            Err(stop) => println!(rt; "{row}: {}", stop.word())?,
-        }
-    }
-    Ok(())
+    answer_lines(&rt, &mut project)
 }

@@ -4,15 +4,10 @@
 mod lines;
 mod rows;
 
+use rows::Manifests;
 use std::io;
+use vk_table::answer_lines;
 
 fn main(rt: HostRuntime) -> io::Result<()> {
-    for line in rt.lines(rt.alloc()) {
-        let row = line?;
-        match rows::answer(rt.alloc(), row.as_str()) {
-            Ok(answer) => println!(rt; "{row}: {answer}")?,
-            Err(stop) => println!(rt; "{row}: {}", stop.word())?,
-        }
-    }
-    Ok(())
+    answer_lines(&rt, &mut Manifests)
 }

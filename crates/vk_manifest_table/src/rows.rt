@@ -7,67 +7,18 @@
 //! Bytes, texts and places are tokens.
 
 use crate::lines::line;
-use std::alloc::{AllocError, Global};
-use vk_base::{FeatureName, Memory, NameFault, PortName, Text, read_token, token};
+use std::alloc::Global;
+use vk_base::{FeatureName, NameFault, PortName, Text};
 use vk_json::{FileFault, Why};
 use vk_manifest::read_manifest;
+use vk_table::{Answering, Reply, Stop, bytes_of, cut, place_of, text_of};
 
-/// Why a row isn't answered.
+/// Answers rows about manifests, names and the words of faults.
 #[derive(Drop)]
-pub enum Stop {
-    /// It is of no form.
-    Row,
-    /// Want of memory.
-    Memory,
-}
-
-impl Stop {
-    /// The stop in words.
-    pub fn word(&self) -> &'static str {
-        match self {
-            Stop::Row => "no row",
-            Stop::Memory => "no memory",
-        }
-    }
-}
-
-impl From<Memory> for Stop {
-    fn from(_: Memory) -> Self {
-        Stop::Memory
-    }
-}
-
-impl From<AllocError> for Stop {
-    fn from(_: AllocError) -> Self {
-        Stop::Memory
-    }
-}
+pub struct Manifests;
 
 // As many bytes as a manifest may have.
 const MOST_BYTES: usize = 16_777_216;
-
-/// A row's first word, and what stands after it.
-fn cut(row: &str) -> (&str, &str) {
-    row.split_once(' ').unwrap_or((row, ""))
-}
-
-fn bytes_of(alloc: Global, word: &str) -> Result<Vec<u8>, Stop> {
-    match read_token(alloc, word)? {
-        Some(bytes) => Ok(bytes.into_vec()),
-        None => Err(Stop::Row),
-    }
-}
-
-fn text_of(alloc: Global, word: &str) -> Result<String, Stop> {
-    String::from_utf8(bytes_of(alloc, word)?).map_err(|_| Stop::Row)
-}
-
-fn place_of(alloc: Global, place: &Text) -> Result<Text, Memory> {
-    if place.is_empty() {
-        return Ok(Text::from_str(alloc, "-")?);
-    }
-    token(alloc, place.as_bytes())
-}
 
 fn wrong(alloc: Global, place: &Text, why: Why) -> Result<Text, Stop> {
     let place = place_of(alloc, place)?;
@@ -119,8 +70,7 @@ fn port_name(alloc: Global, text: &str) -> Result<Text, Stop> {
     }
 }
 
-/// The answer to a row.
-pub fn answer(alloc: Global, row: &str) -> Result<Text, Stop> {
+fn answer(alloc: Global, row: &str) -> Result<Text, Stop> {
     let (question, rest) = cut(row);
     match question {
         "root" => manifest(alloc, rest, true),
@@ -129,5 +79,11 @@ pub fn answer(alloc: Global, row: &str) -> Result<Text, Stop> {
         "feature" => feature(alloc, rest),
         "port-name" => port_name(alloc, rest),
         _ => Err(Stop::Row),
+    }
+}
+
+impl Answering for Manifests {
+    fn answer(&mut self, alloc: Global, row: &str) -> Result<Reply, Stop> {
+        Ok(Reply::Told(answer(alloc, row)?))
     }
 }

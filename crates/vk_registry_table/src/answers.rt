@@ -3,59 +3,21 @@ ghost use Rattle.std.specs.Prelude.{◌≡◌, IfOk, string_bytes};
 ghost use Rattle.vk_config.specs.Views.{embedded_view};
 ghost use Rattle.vk_registry_table.specs.Told.{told_embedded, told_place};
 
-use std::alloc::{AllocError, AllocFailed, Global};
-use vk_base::{Memory, Text};
+use std::alloc::Global;
+use vk_base::Text;
 use vk_config::Embedded;
 use vk_json::FileFault;
 use vk_registry::{Baseline, Table};
+use vk_table::{Stop, place_of};
 use vk_version::Ask;
-
-/// Why a row isn't answered.
-#[derive(Drop)]
-pub enum Stop {
-    /// It is of no form.
-    Row,
-    /// Want of memory.
-    Memory,
-}
-
-impl Stop {
-    /// The stop in words.
-    pub fn word(&self) -> &'static str {
-        match self {
-            Stop::Row => "no row",
-            Stop::Memory => "no memory",
-        }
-    }
-}
-
-impl From<Memory> for Stop {
-    fn from(_: Memory) -> Self {
-        Stop::Memory
-    }
-}
-
-impl From<AllocError> for Stop {
-    fn from(_: AllocError) -> Self {
-        Stop::Memory
-    }
-}
-
-impl<T: Drop> From<AllocFailed<T>> for Stop {
-    fn from(_: AllocFailed<T>) -> Self {
-        Stop::Memory
-    }
-}
 
 /// A fault, as its place and its word; the whole document's place is `-`.
 pub fn of_fault(alloc: Global, fault: FileFault) -> Result<String, Stop> {
     let FileFault::Wrong { place, why } = fault else {
         return Err(Stop::Memory);
     };
+    let place = place_of(alloc, &place)?;
     let word = why.word(alloc)?;
-    if place.is_empty() {
-        return Ok(format!(in alloc; "- {word}")?);
-    }
     Ok(format!(in alloc; "{place} {word}")?)
 }
 

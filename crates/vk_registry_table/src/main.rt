@@ -5,16 +5,10 @@
 mod answers;
 mod rows;
 
+use rows::Registries;
 use std::io;
+use vk_table::answer_lines;
 
 fn main(rt: HostRuntime) -> io::Result<()> {
-    let alloc = rt.alloc();
-    for line in rt.lines(alloc) {
-        let row = line?;
-        match rows::answer(alloc, row.as_str()) {
-            Ok(answer) => println!(rt; "{row}: {answer}")?,
-            Err(stop) => println!(rt; "{row}: {}", stop.word())?,
-        }
-    }
-    Ok(())
+    answer_lines(&rt, &mut Registries)
 }

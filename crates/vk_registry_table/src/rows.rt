@@ -5,28 +5,17 @@
 //! - `table FILE`, `find TEXT N FILE`: the rows, or the place of the row with this text and
 //!   port-version.
 
-use crate::answers::{Stop, of_ask, of_baseline, of_embedded, of_fault, of_place, of_table};
+use crate::answers::{of_ask, of_baseline, of_embedded, of_fault, of_place, of_table};
 use std::alloc::Global;
-use vk_base::{List, PortName, Text, read_token};
+use vk_base::{PortName, Text};
 use vk_config::{embedded, read_config, registry_of};
 use vk_registry::{baseline_of, find, read_baseline, read_table};
+use vk_table::{Answering, Reply, Stop, bytes_of, cut, number_of, text_of};
 use vk_version::Ask;
 
-/// A row's first word, and what stands after it.
-fn cut(row: &str) -> (&str, &str) {
-    row.split_once(' ').unwrap_or((row, ""))
-}
-
-fn bytes_of(alloc: Global, word: &str) -> Result<List<u8>, Stop> {
-    read_token(alloc, word)?.ok_or(Stop::Row)
-}
-
-fn text_of(alloc: Global, word: &str) -> Result<Text, Stop> {
-    match String::from_utf8(bytes_of(alloc, word)?.into_vec()) {
-        Ok(text) => Ok(Text::from_string(text)),
-        Err(_) => Err(Stop::Row),
-    }
-}
+/// Answers rows about configurations, baseline files and versions files.
+#[derive(Drop)]
+pub struct Registries;
 
 fn port_of(alloc: Global, word: &str) -> Result<PortName, Stop> {
     PortName::read(alloc, word).map_err(|_| Stop::Row)
@@ -35,7 +24,7 @@ fn port_of(alloc: Global, word: &str) -> Result<PortName, Stop> {
 fn ask_of(alloc: Global, text: &str, number: &str) -> Result<Ask, Stop> {
     Ok(Ask {
         text: text_of(alloc, text)?,
-        port: number.parse().map_err(|_| Stop::Row)?,
+        port: number_of(number)?,
     })
 }
 
@@ -106,8 +95,7 @@ fn found(alloc: Global, rest: &str) -> Result<String, Stop> {
     }
 }
 
-/// The answer to a row.
-pub fn answer(alloc: Global, row: &str) -> Result<String, Stop> {
+fn answer(alloc: Global, row: &str) -> Result<String, Stop> {
     let (question, rest) = cut(row);
     match question {
         "config" => config(alloc, rest),
@@ -118,5 +106,11 @@ pub fn answer(alloc: Global, row: &str) -> Result<String, Stop> {
         "table" => table(alloc, rest),
         "find" => found(alloc, rest),
         _ => Err(Stop::Row),
+    }
+}
+
+impl Answering for Registries {
+    fn answer(&mut self, alloc: Global, row: &str) -> Result<Reply, Stop> {
+        Ok(Reply::Told(Text::from_string(answer(alloc, row)?)))
     }
 }

@@ -1,17 +1,23 @@
-use percent_encoding::percent_decode_str;
-use std::alloc::{AllocError, Global};
+use std::alloc::Global;
 use std::cmp::Ordering;
+use vk_base::Text;
+use vk_table::{Answering, Reply, Stop, cut, number_of, text_of};
 use vk_version::{Scheme, Version, VersionFault, order, read, read_ask};
 
-/// Why a row has no other answer.
-enum Stop {
+/// Answers rows about versions.
+#[derive(Drop)]
+pub struct Versions;
+
+// Why a row has no version.
+enum Refusal {
     Fault(VersionFault),
-    Form,
+    Stop(Stop),
 }
 
-/// A row's first word, and what stands after it.
-fn cut(row: &str) -> (&str, &str) {
-    row.split_once(' ').unwrap_or((row, ""))
+impl From<Stop> for Refusal {
+    fn from(stop: Stop) -> Self {
+        Refusal::Stop(stop)
+    }
 }
 
 fn scheme_of(word: &str) -> Result<Scheme, Stop> {
@@ -20,32 +26,23 @@ fn scheme_of(word: &str) -> Result<Scheme, Stop> {
         "semver" => Ok(Scheme::Semver),
         "date" => Ok(Scheme::Date),
         "string" => Ok(Scheme::Text),
-        _ => Err(Stop::Form),
+        _ => Err(Stop::Row),
     }
-}
-
-/// The text that a word with escapes stands for.
-fn decoded(alloc: Global, word: &str) -> Result<String, Stop> {
-    let mut bytes = Vec::new(alloc);
-    if percent_decode_str(word).append_to(&mut bytes).is_err() {
-        return Err(Stop::Fault(VersionFault::Memory));
-    }
-    String::from_utf8(bytes).map_err(|_| Stop::Form)
 }
 
 /// The version that a scheme, a text and a port-version give, and what stands after them.
-fn version<'a>(alloc: Global, row: &'a str) -> Result<(Version, &'a str), Stop> {
+fn version<'a>(alloc: Global, row: &'a str) -> Result<(Version, &'a str), Refusal> {
     let (scheme, row) = cut(row);
     let (text, row) = cut(row);
     let (port, row) = cut(row);
     let scheme = scheme_of(scheme)?;
-    let text = decoded(alloc, text)?;
-    let port = port.parse().map_err(|_| Stop::Form)?;
-    let version = read(alloc, scheme, text.as_str(), port).map_err(Stop::Fault)?;
+    let text = text_of(alloc, text)?;
+    let port = number_of(port)?;
+    let version = read(alloc, scheme, text.as_str(), port).map_err(Refusal::Fault)?;
     Ok((version, row))
 }
 
-fn compared(alloc: Global, row: &str) -> Result<&'static str, Stop> {
+fn compared(alloc: Global, row: &str) -> Result<&'static str, Refusal> {
     let (left, row) = version(alloc, row)?;
     let (right, _) = version(alloc, row)?;
     match order(&left, &right) {
@@ -56,36 +53,45 @@ fn compared(alloc: Global, row: &str) -> Result<&'static str, Stop> {
     }
 }
 
-fn stopped(stop: Stop) -> &'static str {
-    match stop {
-        Stop::Form => "no row",
-        Stop::Fault(VersionFault::Shape) => "version",
-        Stop::Fault(VersionFault::Number) => "range",
-        Stop::Fault(VersionFault::Day) => "day",
-        Stop::Fault(VersionFault::Suffix) => "suffix",
-        Stop::Fault(VersionFault::Memory) => "memory",
+fn fault_word(fault: VersionFault) -> Result<&'static str, Stop> {
+    match fault {
+        VersionFault::Shape => Ok("version"),
+        VersionFault::Number => Ok("range"),
+        VersionFault::Day => Ok("day"),
+        VersionFault::Suffix => Ok("suffix"),
+        VersionFault::Memory => Err(Stop::Memory),
     }
 }
 
-fn asked(alloc: Global, row: &str) -> Result<String, AllocError> {
-    let ask = match decoded(alloc, row) {
-        Ok(text) => read_ask(alloc, text.as_str()).map_err(Stop::Fault),
-        Err(stop) => Err(stop),
+// What is told, of a version or of its fault.
+fn told(alloc: Global, answer: Result<&str, Refusal>) -> Result<Text, Stop> {
+    let word = match answer {
+        Ok(word) => word,
+        Err(Refusal::Fault(fault)) => fault_word(fault)?,
+        Err(Refusal::Stop(stop)) => return Err(stop),
     };
-    match ask {
-        Ok(ask) => format!(in alloc; "{} and {}", ask.text, ask.port),
-        Err(stop) => String::from_str(alloc, stopped(stop)),
+    Ok(Text::from_str(alloc, word)?)
+}
+
+fn asked(alloc: Global, row: &str) -> Result<Text, Stop> {
+    match read_ask(alloc, text_of(alloc, row)?.as_str()) {
+        Ok(ask) => Ok(Text::from_string(format!(in alloc; "{} and {}", ask.text, ask.port)?)),
+        Err(fault) => Ok(Text::from_str(alloc, fault_word(fault)?)?),
     }
 }
 
-/// The answer to a row.
-pub fn answer(alloc: Global, row: &str) -> Result<String, AllocError> {
+fn answer(alloc: Global, row: &str) -> Result<Text, Stop> {
     let (question, rest) = cut(row);
-    let answer = match question {
-        "read" => version(alloc, rest).map(|_| "reads"),
-        "order" => compared(alloc, rest),
-        "ask" => return asked(alloc, rest),
-        _ => Err(Stop::Form),
-    };
-    String::from_str(alloc, answer.unwrap_or_else(stopped))
+    match question {
+        "read" => told(alloc, version(alloc, rest).map(|_| "reads")),
+        "order" => told(alloc, compared(alloc, rest)),
+        "ask" => asked(alloc, rest),
+        _ => Err(Stop::Row),
+    }
+}
+
+impl Answering for Versions {
+    fn answer(&mut self, alloc: Global, row: &str) -> Result<Reply, Stop> {
+        Ok(Reply::Told(answer(alloc, row)?))
+    }
 }
