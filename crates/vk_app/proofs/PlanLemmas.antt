@@ -67,8 +67,8 @@ pub items_err : {failed : Bool} (before after : State) (l now : Learned) (ports 
     → IfSome before.told (λ t. Fails (refused_of told) (items_for (start_in l) ports t.files))
 items_err before after l now ports s told only same fails located says =
     two_told before.told (pages_told before l (λ p. Fails (trouble_of s) (items_of ports p)) fails)
-        (files_stay before after l now (λ f. IsLocatedAt s (start_in l) f) only (subst (λ start. IsLocatedStop s start after) same located))
-        (λ t one two. says (start_in l) t.files (items_of ports (page_of (start_in l) t.files)) two one)
+    (files_stay before after l now (λ f. IsLocatedAt s (start_in l) f) only (subst (λ start. IsLocatedStop s start after) same located))
+    (λ t one two. says (start_in l) t.files (items_of ports (page_of (start_in l) t.files)) two one)
 
 -- ---- the report of an opened project
 

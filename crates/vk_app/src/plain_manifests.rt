@@ -59,7 +59,10 @@ pub fn wants_nothing(manifest: &Manifest) -> bool
 }
 
 /// The ports that a root lists, as they stand.
-pub fn listed_ports(alloc: Global, dependencies: List<Dependency>) -> Result<List<PortName>, AllocError>
+pub fn listed_ports(
+    alloc: Global,
+    dependencies: List<Dependency>,
+) -> Result<List<PortName>, AllocError>
     ensures { IfOk result (λ names. names ≡ map (λ d. d.name) (map dependency_view dependencies)) }
 {
     let mut names = List::new(alloc);

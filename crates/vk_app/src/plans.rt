@@ -5,7 +5,6 @@ ghost use Rattle.vk_spec.specs.Reading.{Gives, Fails};
 ghost use Rattle.vk_spec.specs.Catalogues.{OnlyAsked};
 ghost use Rattle.vk_opening.specs.Starts as opening;
 ghost use Rattle.vk_model.specs.Views.{manifest_view};
-
 ghost use Rattle.vk_world.specs.Worlds.{world_state, origin_on, start_in};
 ghost use Rattle.vk_app.specs.PortPlans as plain;
 ghost use Rattle.vk_app.specs.Plans.{project_of, ports_of, refused_for, items_for, or_refused};
@@ -165,7 +164,13 @@ fn planned_from<T: Tree>(
 {
     match opened {
         Opened::Ready { setting, start } => {
-            planned_in(alloc, triplet, folder, setting.root, World::on(alloc, start, tree))
+            planned_in(
+                alloc,
+                triplet,
+                folder,
+                setting.root,
+                World::on(alloc, start, tree),
+            )
         }
         Opened::Refused(early) => Planned {
             report: Err(PlanStop::Refused(Refusal::Early(early))),

@@ -6,7 +6,6 @@ ghost use Rattle.vk_spec.specs.Catalogues.{OnPage, CanAskVersion, CanAskManifest
 ghost use Rattle.vk_version.specs.AskViews.{ask_view};
 ghost use Rattle.vk_model.specs.Views.{manifest_view};
 ghost use Rattle.vk_catalogue.specs.Views.{given_view};
-
 ghost use Rattle.vk_world.specs.Worlds.{world_state, known_in, start_in};
 ghost use Rattle.vk_app.specs.PortPlans as plain;
 ghost use Rattle.vk_app.specs.PortPlans.{given_for, version_for, manifest_for, item_with, item_at, item_of, items_of};
@@ -42,11 +41,7 @@ fn given<T: Tree>(world: &mut World<T>, port: &PortName) -> Result<Given, PortSt
 
 // The version of a port that an ask means.
 #[tactic(auto, using(vk_spec::proofs::AskLemmas::can_ask_manifest, crate::proofs::AskReadingLemmas::asks_one, crate::proofs::KnownLemmas::listed_known))]
-fn version<T: Tree>(
-    world: &mut World<T>,
-    port: &PortName,
-    ask: &Ask,
-) -> Result<Version, PortStop>
+fn version<T: Tree>(world: &mut World<T>, port: &PortName, ask: &Ask) -> Result<Version, PortStop>
     requires { OnPage port.now CanAskVersion (world_state (T.state world.old.0) world.old.1) }
     ensures asks { AsksAs (λ v. v) result (version_for port.now (ask_view ask.now)) (world_state (T.state world.old.0) world.old.1) (world_state (T.state world.new.0) world.new.1) }
     ensures can { OnOk result (OnPage port.now (CanAskManifest (ask_view ask.now)) (world_state (T.state world.new.0) world.new.1)) }
@@ -56,10 +51,7 @@ fn version<T: Tree>(
 {
     match world.version(port, ask)? {
         Some(version) => Ok(version),
-        None => Err(PortStop::Trouble(Trouble::NoVersion(
-            port.clone()?,
-            ask.clone()?,
-        ))),
+        None => Err(PortStop::Trouble(Trouble::NoVersion(port.clone()?, ask.clone()?))),
     }
 }
 

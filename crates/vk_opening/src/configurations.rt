@@ -15,7 +15,6 @@ ghost use Rattle.vk_opening.specs.Projects.{manifest_path, config_path};
 ghost use Rattle.vk_opening.specs.Roots.{or_early, early_at};
 ghost use Rattle.vk_opening.specs.Configurations.{has_configuration, only_of, embedded_in, alone_in, config_by, config_in};
 
-use vk_model::Early;
 use crate::projects::{config_path, manifest_path};
 use crate::readings::{bad_file, read_early, standing};
 use serde_json::Value;
@@ -24,6 +23,7 @@ use vk_base::{List, TreePath};
 use vk_config::{Config, Embedded, read_config};
 use vk_files::{FileCache, FileReader, Standing, Stop};
 use vk_json::{FileFault, member};
+use vk_model::Early;
 use vk_tree::Tree;
 
 // Reads a configuration file.

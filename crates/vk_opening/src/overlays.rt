@@ -7,7 +7,6 @@ ghost use Rattle.vk_model.specs.EarlyViews.{early_view};
 ghost use Rattle.vk_opening.specs.Overlays.{port_at, overlay_by, overlay_at, overlays_at};
 ghost use Rattle.vk_opening.specs.Views.{overlay_view};
 
-use vk_model::Early;
 use crate::projects::manifest_path;
 use crate::readings::{read_early, standing};
 use crate::roots::PortFile;
@@ -16,6 +15,7 @@ use std::alloc::Global;
 use std::rc::Rc;
 use vk_base::{List, TreePath};
 use vk_files::{FileCache, Standing, Stop};
+use vk_model::Early;
 use vk_tree::Tree;
 
 // A folder that is a port, with its manifest.

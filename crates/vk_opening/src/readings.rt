@@ -8,12 +8,12 @@ ghost use Rattle.vk_files.specs.Readings.{ReadsAs, bad_view, standing_at};
 ghost use Rattle.vk_opening.specs.Roots.{line_of, early_at, line_at};
 ghost use Rattle.vk_model.specs.EarlyViews.{early_view};
 
-use vk_model::Early;
 use std::alloc::Global;
 use vk_base::TreePath;
 use vk_files as files;
 use vk_files::{BadFile, FileCache, FileReader, Standing, Stop};
 use vk_json::FileFault;
+use vk_model::Early;
 use vk_tree::Tree;
 
 /// The fault of a file, with the file.

@@ -15,13 +15,13 @@ ghost use Rattle.vk_model.specs.EarlyViews.{early_view};
 ghost use Rattle.vk_opening.specs.TripletFiles.{triplet_word, triplet_in, is_there, is_at, triplet_file, triplet_from, triplet_at, triplets_at};
 ghost use Rattle.vk_opening.specs.Views.{triplets_view};
 
-use vk_model::Early;
 use crate::projects::triplet_path;
 use crate::readings::{read_early, standing};
 use std::alloc::Global;
 use vk_base::{TreePath, TripletName};
 use vk_files::{FileCache, FileReader, Standing, Stop};
 use vk_json::{FileFault, Why, wrong};
+use vk_model::Early;
 use vk_tree::Tree;
 use vk_triplet::{Triplet, TripletFault};
 

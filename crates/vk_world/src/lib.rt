@@ -14,6 +14,3 @@ mod settling;
 mod worlds;
 
 pub use worlds::World;
-
-#[cfg(test)]
-mod tests;
