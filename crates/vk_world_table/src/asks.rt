@@ -9,7 +9,7 @@ use crate::lines::{given_line, manifest_line, version_line, wrong_line};
 use crate::projects::{ask_of, port_of};
 use std::alloc::Global;
 use vk_base::{PortName, Text};
-use vk_catalogue::Catalogue;
+use vk_catalogue::{Catalogue, GivenManifest, manifest_at_given};
 use vk_table::{Stop, cut};
 use vk_version::Ask;
 
@@ -65,5 +65,15 @@ pub fn manifest<C: Catalogue>(alloc: Global, catalogue: &mut C, row: &str) -> Re
     match catalogue.manifest(&port, &ask)? {
         Ok(manifest) => Ok(manifest_line(alloc, &manifest)?),
         Err(wrong) => Ok(wrong_line(alloc, &wrong)?),
+    }
+}
+
+/// `at PORT`: the manifest of a port at its given version.
+pub fn at<C: Catalogue>(alloc: Global, catalogue: &mut C, row: &str) -> Result<Text, Halt> {
+    let port = port_of(alloc, row)?;
+    match manifest_at_given(catalogue, &port)? {
+        GivenManifest::Found(manifest) => Ok(manifest_line(alloc, &manifest)?),
+        GivenManifest::NoVersion(_) => Ok(version_line(alloc, None)?),
+        GivenManifest::Bad(wrong) => Ok(wrong_line(alloc, &wrong)?),
     }
 }

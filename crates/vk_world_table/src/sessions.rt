@@ -2,17 +2,18 @@
 //! - `case TITLE`: a new tree;
 //! - `open FOLDER TARGET HOST PORTS TRIPLETS`: opens a project with these folders of ports and of
 //!   triplet files, each a list with commas, or `-`; the world is then the one that is asked;
-//! - `given PORT`, `version PORT ASK`, `manifest PORT ASK`, `folder PORT VERSION`: asks the world;
+//! - `given PORT`, `version PORT ASK`, `manifest PORT ASK`, `at PORT`, `folder PORT VERSION`: asks the
+//!   world;
 //! - `log`: ends the world, and tells the paths that its tree was asked for.
 
-use crate::asks::{given, manifest, version};
+use crate::asks::{at, given, manifest, version};
 use crate::halts::Halt;
 use crate::lines::{early_line, path_line, paths_line, ready_line};
 use crate::projects::{port_of, project_of, version_of};
 use std::alloc::Global;
 use vk_base::{Memory, Text};
 use vk_model::Project;
-use vk_opening::{Opened, open};
+use vk_opening::Opened;
 use vk_table::{Answering, Reply, Stop, Workspace, cut};
 use vk_tree::MemTree;
 use vk_world::World;
@@ -34,7 +35,7 @@ enum Opening {
 // Opens a project on a tree.
 #[tactic(auto, using(vk_opening::proofs::OpenLemmas::start_right))]
 fn open_on(alloc: Global, mut tree: MemTree, project: &Project) -> Result<Opening, Memory> {
-    match open(alloc, &mut tree, project) {
+    match World::open(alloc, &mut tree, project, None) {
         Ok(Opened::Ready { setting, start }) => {
             let told = ready_line(alloc, &setting, &start)?;
             Ok(Opening::World(told, World::on(alloc, start, tree)))
@@ -65,6 +66,7 @@ fn asked(
         "given" => given(alloc, world, row),
         "version" => version(alloc, world, row),
         "manifest" => manifest(alloc, world, row),
+        "at" => at(alloc, world, row),
         "folder" => folder(alloc, world, row),
         _ => Err(Halt::Unanswered(Stop::Row)),
     }
@@ -144,7 +146,7 @@ impl Answering for Session {
     fn answer(&mut self, alloc: Global, row: &str) -> Result<Reply, Stop> {
         let (question, rest) = cut(row);
         match question {
-            "given" | "version" | "manifest" | "folder" => {
+            "given" | "version" | "manifest" | "at" | "folder" => {
                 reply(alloc, self.ask(alloc, question, rest))
             }
             _ => self.outside(alloc, row),
