@@ -1,32 +1,29 @@
 -- One asking after another.
-use Rattle.std.proofs.Common.{◌≡◌, ◌+◌, ◌<◌, ◌≤◌, ◌||◌, ℕ, Bool, true, false, List, [], ◌∷◌, ◌++◌, length, get_or, map, refl, ap, sym, subst, ◌∙◌}
+use Rattle.std.proofs.Common.{◌≡◌, ◌+◌, ◌<◌, ◌≤◌, ℕ, Bool, false, List, [], ◌∷◌, ◌++◌, length, get_or, map, refl, ap, sym, subst, ◌∙◌}
 use Rattle.std.specs.Prelude.{Option, Some, None, IfSome, option_map, Result, Ok, Err, IfOk}
-use Rattle.vk_spec.specs.Reading.{◌>>=◌, or_fault, read_each, Gives, Fails}
+use Rattle.vk_spec.specs.Reading.{◌>>=◌, read_each, Gives, Fails}
 use Rattle.vk_spec.specs.Files.{Files}
-use Rattle.vk_spec.specs.States.{Told, State, with_asked, OnlyRead}
+use Rattle.vk_spec.specs.Lists.{NoRepeats}
+use Rattle.vk_spec.specs.States.{Told, State, with_asked}
 use Rattle.vk_pages.specs.Pages.{page_of}
-use Rattle.vk_world.specs.Worlds.{Learned, start_in, asked_since, origin_on, pages_in, world_state, told_with, IsReadSince}
+use Rattle.vk_world.specs.Worlds.{Learned, start_in, opened_in, asked_since, origin_on, pages_in, world_state, told_with, IsReadSince}
 use Rattle.vk_spec.specs.Calls.{Answer, is_failed}
 use Rattle.vk_spec.specs.Versions.{Version, Ask}
 use Rattle.vk_spec.specs.Pages.{Page, Wrong, Given, given_ask}
-use Rattle.vk_spec.specs.Manifests.{Manifest}
-use Rattle.vk_spec.specs.Catalogues.{Pages, CatalogueState, OnlyAsked, Asks, SaysGiven, SaysVersion, SaysManifest}
+use Rattle.vk_spec.specs.Catalogues.{Pages, CatalogueState, OnlyAsked, Asks, SaysGiven}
 use Rattle.vk_spec.proofs.AskLemmas.{asked_nothing, asked_then, asked_once, pages_before}
-use Rattle.vk_spec.proofs.ReadingLemmas.{with_front, left_from, goes_on_by, ends_by, is_done_by}
-use Rattle.vk_spec.proofs.ReadingLemmas.{gives_then, fails_on}
+use Rattle.vk_spec.proofs.OptionLemmas.{of_each, of_both}
+use Rattle.vk_spec.proofs.ReadingLemmas.{with_front, nothing_yet, left_from, goes_on_by, ends_by, is_done_by, gives_then, fails_on}
 use Rattle.vk_expr.specs.Trees.{Tree}
-use Rattle.vk_app.specs.PortPlans.{Item, Trouble, wrong, no_version, or_trouble, given_for, version_for, listed, manifest_for, item_with, item_at, item_of}
+use Rattle.vk_app.specs.Once.{OnlyReadOnce}
+use Rattle.vk_app.specs.PortPlans.{Item, Trouble, or_trouble, given_for, version_for, manifest_for, item_with, item_at, item_of}
 use Rattle.vk_app.specs.AskReadings.{AsksAs, trouble_of, has_failed}
 use Rattle.vk_app.specs.declared.troubles.PortStop.{PortStop}
 use Rattle.vk_app.specs.declared.troubles.PortStop.TheVariants as stop
 
-everywhere : {C : Type 0} {P : C → Type 0} (o : Option C) → ((x : C) → P x) → IfSome o P
-everywhere None each = tt
-everywhere (Some x) each = each x
-
 -- what needs no catalogue
 pub asks_pure : {X Y : Type 0} (view : X → Y) (answer : Result X PortStop) (meaning : Pages Tree → Result Y Trouble) (s : CatalogueState Tree) → has_failed answer ≡ false → ((p : Pages Tree) → Gives view trouble_of answer (meaning p)) → AsksAs view answer meaning s s
-asks_pure view answer meaning s calm gives = record { only = rw calm (asked_nothing s); content = everywhere s.pages gives }
+asks_pure view answer meaning s calm gives = record { only = rw calm (asked_nothing s); content = of_each s.pages gives }
 
 -- want of memory
 pub asks_memory : {X Y : Type 0} (view : X → Y) (meaning : Pages Tree → Result Y Trouble) (s : CatalogueState Tree) → AsksAs view (Err stop.Memory) meaning s s
@@ -69,25 +66,17 @@ pub record AskedSoFar {V X R A : Type 0} (view : V → X) (out : R → A) (one :
   pub only : OnlyAsked false before now
   pub content : IfSome before.pages (λ p. with_front (map out front) (left_from (λ _ x. one x p) i (map view vs)) ≡ read_each (λ _ x. one x p) 0 (map view vs))
 
-nothing_yet : {A F : Type 0} (read : Result (List A) F) → with_front [] read ≡ read
-nothing_yet (Ok xs) = refl
-nothing_yet (Err fault) = refl
-
 pub so_far_none : {V X R A : Type 0} (view : V → X) (out : R → A) (one : X → Pages Tree → Result A Trouble) (front : List R) (vs : List V) (s : CatalogueState Tree) → front ≡ [] → AskedSoFar view out one front 0 vs s s
 so_far_none view out one front vs s none = record {
   only = asked_nothing s;
-  content = rw none (everywhere s.pages (λ p. nothing_yet (read_each (λ _ x. one x p) 0 (map view vs))));
+  content = rw none (of_each s.pages (λ p. nothing_yet (read_each (λ _ x. one x p) 0 (map view vs))));
 }
-
-both : {P Q R : Pages Tree → Type 0} (o : Option (Pages Tree)) → IfSome o P → IfSome o Q → ((p : Pages Tree) → P p → Q p → R p) → IfSome o R
-both None p q join = tt
-both (Some x) p q join = join x p q
 
 pub so_far_more : {V X R A : Type 0} (view : V → X) (out : R → A) (one : X → Pages Tree → Result A Trouble) (front : List R) (y : R) (i : ℕ) (vs : List V) (v : V) (a b c : CatalogueState Tree)
     → i < length vs → v ≡ get_or vs i v → AskedSoFar view out one front i vs a b → AsksAs out (Ok y) (one (view v)) b c → AskedSoFar view out one (front ++ y ∷ []) (i + 1) vs a c
 so_far_more view out one front y i vs v a b c within is so_far then = record {
   only = asked_then so_far.only then.only;
-  content = both a.pages so_far.content (pages_before (λ p. Gives out trouble_of (Ok y) (one (view v) p)) so_far.only then.content)
+  content = of_both a.pages so_far.content (pages_before (λ p. Gives out trouble_of (Ok y) (one (view v) p)) so_far.only then.content)
       (λ p sofar gives. goes_on_by view out (λ _ x. one x p) front y i vs v _ within is gives sofar);
 }
 
@@ -95,7 +84,7 @@ pub so_far_stopped : {V X R A : Type 0} (view : V → X) (out : R → A) (one : 
     → i < length vs → v ≡ get_or vs i v → AskedSoFar view out one front i vs a b → AsksAs {X = R} out (Err s) (one (view v)) b c → AsksAs {X = List R} (λ l. map out l) (Err s) (λ p. read_each (λ _ x. one x p) 0 (map view vs)) a c
 so_far_stopped {R = R} view out one front s i vs v a b c within is so_far then = record {
   only = asked_then so_far.only then.only;
-  content = both a.pages so_far.content (pages_before (λ p. Gives {X = R} out trouble_of (Err s) (one (view v) p)) so_far.only then.content)
+  content = of_both a.pages so_far.content (pages_before (λ p. Gives {X = R} out trouble_of (Err s) (one (view v) p)) so_far.only then.content)
       (λ p sofar fails. ends_by view out (λ _ x. one x p) (trouble_of s) front i vs v _ within is fails sofar);
 }
 
@@ -103,14 +92,14 @@ pub so_far_all : {V X R A : Type 0} (view : V → X) (out : R → A) (one : X �
     → length vs ≤ i → AskedSoFar view out one front i vs a b → AsksAs (λ l. map out l) (Ok front) (λ p. read_each (λ _ x. one x p) 0 (map view vs)) a b
 so_far_all view out one front i vs a b past so_far = record {
   only = so_far.only;
-  content = both a.pages so_far.content so_far.content (λ p sofar _. is_done_by view out (λ _ x. one x p) front i vs _ past sofar);
+  content = of_both a.pages so_far.content so_far.content (λ p sofar _. is_done_by view out (λ _ x. one x p) front i vs _ past sofar);
 }
 
 pub so_far_lacking : {V X R A : Type 0} (view : V → X) (out : R → A) (one : X → Pages Tree → Result A Trouble) (front : List R) (y : R) (i : ℕ) (vs : List V) (v : V) (a b c : CatalogueState Tree)
     → AskedSoFar view out one front i vs a b → AsksAs out (Ok y) (one (view v)) b c → AsksAs {X = List R} (λ l. map out l) (Err stop.Memory) (λ p. read_each (λ _ x. one x p) 0 (map view vs)) a c
 so_far_lacking view out one front y i vs v a b c so_far then = record {
   only = asked_then so_far.only then.only;
-  content = everywhere a.pages (λ p. tt);
+  content = of_each a.pages (λ p. tt);
 }
 
 -- ---- what is said of a port
@@ -144,18 +133,22 @@ origin_told : (told : Option Told) → told_with (option_map (λ t. t.files) tol
 origin_told None = refl
 origin_told (Some t) = refl
 
--- what only asked a world that was just made only read its tree
-pub only_read : {failed : Bool} (before after : State) (l now : Learned) → (world_state before l).origin ≡ origin_on before → OnlyAsked failed (world_state before l) (world_state after now) → IsReadSince (world_state after now).origin (asked_since now) after → OnlyRead failed before after
-only_read before after l now fresh only since =
+-- what only asked a world that was just made only read its tree, and no path that opening had read
+pub only_read_once : {failed : Bool} (before after : State) (l now : Learned) → (world_state before l).origin ≡ origin_on before → OnlyAsked failed (world_state before l) (world_state after now) → IsReadSince (world_state after now).origin (asked_since now) after
+    → opened_in now ≡ opened_in l → NoRepeats (opened_in now ++ asked_since now) → OnlyReadOnce (opened_in l) failed before after
+only_read_once before after l now fresh only since opened distinct =
     let same : (world_state after now).origin ≡ origin_on before = only.origin ∙ fresh in
     record {
-      asked = asked_since now;
-      looks = record {
-        told = since.told ∙ ap (λ o. with_asked (asked_since now) (told_with o.files o.log)) same ∙ ap (with_asked (asked_since now)) (origin_told before.told);
-        changes = since.changes ∙ ap (λ o. o.changes) same;
-        calls = only.calls;
-        ends = record { faults = only.faults; sure = only.sure; safe = only.safe };
+      only = record {
+        asked = asked_since now;
+        looks = record {
+          told = since.told ∙ ap (λ o. with_asked (asked_since now) (told_with o.files o.log)) same ∙ ap (with_asked (asked_since now)) (origin_told before.told);
+          changes = since.changes ∙ ap (λ o. o.changes) same;
+          calls = only.calls;
+          ends = record { faults = only.faults; sure = only.sure; safe = only.safe };
+        };
       };
+      distinct = subst (λ opened. NoRepeats (opened ++ asked_since now)) opened distinct;
     }
 
 -- the files that a tree tells stay

@@ -1,10 +1,11 @@
 -- What an end that is told says of a run.
 use Rattle.std.proofs.Common.{◌≡◌, ◌≢◌, ◌⊎◌, ◌≤◌, ◌||◌, subst, ℕ, Bool, true, false, inl, inr, List, [], length, refl, ap, sym, ◌∙◌, arith}
-use Rattle.std.specs.Prelude.{Option, Some, None, IsSome, IfSome, is_some}
+use Rattle.std.specs.Prelude.{Option, None, IsSome, IfSome, is_some}
 use Rattle.std.specs.List.{Contains}
 use Rattle.std.proofs.lemmas.List.{append-nil}
+use Rattle.std.proofs.lemmas.Option.{IfSome_then}
 use Rattle.vk_spec.specs.Counts.{MayHaveRisen, Rose}
-use Rattle.vk_spec.specs.States.{Told, OnlyRead}
+use Rattle.vk_spec.specs.States.{OnlyRead}
 use Rattle.vk_spec.specs.Sinks.{SinkState, Taken, TookFront, Sent}
 use Rattle.vk_spec.proofs.StateLemmas.{risen_where, fails_where}
 use Rattle.vk_spec.proofs.SinkLemmas.{sent_risen, sent_rose}
@@ -205,15 +206,11 @@ end_front Form shown stopped before after fits sent = rw fits (went_front [] sto
 end_front Memory shown stopped before after fits sent = no_front shown.out before.taken after.taken (went_nothing stopped before after sent)
 end_front TreeFailed shown stopped before after fits sent = no_front shown.out before.taken after.taken (went_nothing stopped before after sent)
 
-where_told : {P Q : Told → Type 0} (o : Option Told) → IfSome o P → ((t : Told) → P t → Q t) → IfSome o Q
-where_told None p each = tt
-where_told (Some t) p each = each t p
-
 -- what `out` took
 pub keeps_out : (words : Words) (end : End) (status : ℕ) (before after : World) → EndsAs words end before.tree after.tree → Tells end status before.out after.out before.err after.err → KeepsOut words status before after
 keeps_out words end status before after ends t = record {
   nothing = out_nothing end status before after (parts_of end status before after t);
-  front = where_told before.tree.told ends.content (λ told fits. end_front end (answer_of words told.files) t.out_stopped before.out after.out fits t.sent);
+  front = IfSome_then before.tree.told ends.content (λ told fits. end_front end (answer_of words told.files) t.out_stopped before.out after.out fits t.sent);
 }
 
 form_end : (end : End) (request : Option Request) → FormFits end request → status_of end ≡ 2 → request ≡ None
@@ -259,8 +256,8 @@ pub answers : (words : Words) (end : End) (status : ℕ) (before after : World) 
     → IfSome before.tree.told (λ t. IsCalm before after → status ≢ 3 → Shows (answer_of words t.files) status before after)
 answers words end status before after ends t =
     let parts = parts_of end status before after t in
-    let causes = has_causes end status before after ends.only t in
-    where_told before.tree.told ends.content (λ told fits calm three.
+    let causes = has_causes end status before after ends.only.only t in
+    IfSome_then before.tree.told ends.content (λ told fits calm three.
     shows_answer end (answer_of words told.files) status before after fits parts three
     (λ four. calm.tree (causes.tree four))
     (λ five. elim (causes.sink five) [ inl out ↦ calm.out out | inr err ↦ calm.err err ]))
@@ -289,8 +286,8 @@ pub completes : (words : Words) (end : End) (status : ℕ) (before after : World
     → IfSome before.tree.told (λ t. IsSure (answer_of words t.files) before → status ≢ 3 → Shows (answer_of words t.files) status before after)
 completes words end status before after ends t =
     let parts = parts_of end status before after t in
-    where_told before.tree.told ends.content (λ told fits sure three.
+    IfSome_then before.tree.told ends.content (λ told fits sure three.
     let is = none_stops end (answer_of words told.files) status before after fits sure parts in
     shows_answer end (answer_of words told.files) status before after fits parts three
-    (λ four. let clash : true ≡ false = sym (end_of_four end (sym is ∙ four)) ∙ ends.only.looks.ends.safe sure.tree in (cc))
+    (λ four. let clash : true ≡ false = sym (end_of_four end (sym is ∙ four)) ∙ ends.only.only.looks.ends.safe sure.tree in (cc))
     (λ five. no_end_of_five end (sym is ∙ five)))

@@ -1,26 +1,27 @@
 -- The plan of a project, step by step.
-use Rattle.std.proofs.Common.{◌≡◌, Bool, true, false, ℕ, List, map, refl, ap, sym, subst, ◌∙◌}
+use Rattle.std.proofs.Common.{◌≡◌, ◌++◌, Bool, false, ℕ, List, [], refl, ap, sym, subst}
 use Rattle.std.specs.Prelude.{Option, Some, None, IfSome, Result, Ok, Err}
+use Rattle.std.proofs.lemmas.List.{append-nil}
+use Rattle.std.proofs.lemmas.Option.{IfSome_then}
+use Rattle.vk_spec.specs.Lists.{NoRepeats}
 use Rattle.vk_spec.specs.Paths.{Path}
 use Rattle.vk_spec.specs.Files.{Files}
 use Rattle.vk_spec.specs.Manifests.{Manifest}
 use Rattle.vk_spec.specs.Reading.{◌>>=◌, Gives, Fails}
 use Rattle.vk_spec.specs.States.{Told, State, with_asked, OnlyRead}
-use Rattle.vk_spec.specs.Catalogues.{Pages, OnlyAsked}
-use Rattle.vk_spec.proofs.StateLemmas.{read_nothing, read_then, told_before}
+use Rattle.vk_spec.specs.Catalogues.{OnlyAsked}
+use Rattle.vk_spec.proofs.OptionLemmas.{of_each, of_both}
+use Rattle.vk_spec.proofs.StateLemmas.{looks_nothing, looks_then, told_before}
 use Rattle.vk_spec.proofs.ReadingLemmas.{fails_on}
 use Rattle.vk_expr.specs.Trees.{Tree}
-use Rattle.vk_model.specs.Views.{manifest_view}
 use Rattle.vk_model.specs.EarlyViews.{early_view}
 use Rattle.vk_model.specs.declared.earlies.Early.{Early}
-use Rattle.vk_model.specs.declared.settings.Setting.{Setting}
 use Rattle.vk_model.specs.declared.projects.Project.{Project}
-use Rattle.vk_files.specs.Kept.{IsOf}
+use Rattle.vk_files.specs.Kept.{IsOf, paths_of}
 use Rattle.vk_opening.specs.Starts as the
 use Rattle.vk_opening.specs.Openings.{Opening, opened_of}
-use Rattle.vk_opening.specs.Opened.{Opens, has_failed, Tells}
-use Rattle.vk_opening.specs.Views.{start_view, ready_view, opened_files}
-use Rattle.vk_opening.specs.declared.starts.Start.{Start}
+use Rattle.vk_opening.specs.Opened.{Opens, Tells}
+use Rattle.vk_opening.specs.Views.{ready_view, opened_files}
 use Rattle.vk_opening.specs.declared.opens.Opened.{Opened}
 use Rattle.vk_opening.specs.declared.opens.Opened.TheVariants as opened
 use Rattle.vk_opening.specs.declared.opens.OpenStop.{OpenStop}
@@ -28,14 +29,15 @@ use Rattle.vk_opening.specs.declared.opens.OpenStop.TheVariants as open_stop
 use Rattle.vk_opening.proofs.OpenLemmas as opening
 use Rattle.vk_pages.specs.Pages.{page_of}
 use Rattle.vk_world.specs.Worlds.{Learned, start_in, pages_in, world_state}
+use Rattle.vk_app.specs.Once.{OnlyReadOnce}
 use Rattle.vk_app.specs.Requests.{Request}
 use Rattle.vk_app.specs.PortPlans.{Item, Trouble, items_of}
 use Rattle.vk_app.specs.Plans.{ports_of, or_refused, items_for, or_early, plan_of, project_of}
-use Rattle.vk_app.specs.Refusals.{Refused, early}
+use Rattle.vk_app.specs.Refusals.{Refused}
 use Rattle.vk_app.specs.AskReadings.{trouble_of}
 use Rattle.vk_app.specs.Located.{IsLocatedAt, IsLocatedStop}
 use Rattle.vk_app.specs.ShortReports.{planned_report}
-use Rattle.vk_app.specs.PlanReadings.{PlansAs, refused_of, has_tree_failed, report_for, report_after, planned_report_of, stop_opened, IsKeptOf}
+use Rattle.vk_app.specs.PlanReadings.{PlansAs, refused_of, report_for, report_after, planned_report_of, stop_opened, IsKeptOf}
 use Rattle.vk_app.specs.declared.troubles.PortStop.{PortStop}
 use Rattle.vk_app.specs.declared.refusals.PlanStop.{PlanStop}
 use Rattle.vk_app.specs.declared.refusals.PlanStop.TheVariants as plan_stop
@@ -43,22 +45,10 @@ use Rattle.vk_app.specs.declared.refusals.Refusal.TheVariants as refusal
 use Rattle.vk_base.specs.declared.texts.Text.{Text}
 use Rattle.vk_app.proofs.AskReadingLemmas.{pages_told, files_stay}
 
-each_told : {P Q : Told → Type 0} (told : Option Told) → IfSome told P → ((t : Told) → P t → Q t) → IfSome told Q
-each_told None h f = tt
-each_told (Some t) h f = f t h
-
-two_told : {P Q R : Told → Type 0} (told : Option Told) → IfSome told P → IfSome told Q → ((t : Told) → P t → Q t → R t) → IfSome told R
-two_told None p q join = tt
-two_told (Some t) p q join = join t p q
-
-nothing_told : {P : Told → Type 0} (told : Option Told) → ((t : Told) → P t) → IfSome told P
-nothing_told None f = tt
-nothing_told (Some t) f = f t
-
 -- ---- items
 
 pub items_ok : (tree : State) (l : Learned) (ports : List (List ℕ)) (items : List Item) → IfSome (pages_in l tree.told) (λ p. items_of ports p ≡ Ok items) → IfSome tree.told (λ t. items_for (start_in l) ports t.files ≡ Ok items)
-items_ok tree l ports items h = each_told tree.told (pages_told tree l (λ p. items_of ports p ≡ Ok items) h) (λ t is. ap (or_refused (start_in l) t.files) is)
+items_ok tree l ports items h = IfSome_then tree.told (pages_told tree l (λ p. items_of ports p ≡ Ok items) h) (λ t is. ap (or_refused (start_in l) t.files) is)
 
 -- the trouble of a port, told with its file
 pub items_err : {failed : Bool} (before after : State) (l now : Learned) (ports : List (List ℕ)) (s : PortStop) (told : PlanStop) → OnlyAsked failed (world_state before l) (world_state after now) → start_in now ≡ start_in l
@@ -66,27 +56,27 @@ pub items_err : {failed : Bool} (before after : State) (l now : Learned) (ports 
     → ((start : the.Start) (files : Files) (read : Result (List Item) Trouble) → IsLocatedAt s start files → Fails (trouble_of s) read → Fails (refused_of told) (or_refused start files read))
     → IfSome before.told (λ t. Fails (refused_of told) (items_for (start_in l) ports t.files))
 items_err before after l now ports s told only same fails located says =
-    two_told before.told (pages_told before l (λ p. Fails (trouble_of s) (items_of ports p)) fails)
+    of_both before.told (pages_told before l (λ p. Fails (trouble_of s) (items_of ports p)) fails)
     (files_stay before after l now (λ f. IsLocatedAt s (start_in l) f) only (subst (λ start. IsLocatedStop s start after) same located))
     (λ t one two. says (start_in l) t.files (items_of ports (page_of (start_in l) t.files)) two one)
 
 -- ---- the report of an opened project
 
 pub ports_fail : (triplet : List ℕ) (folder : Path) (root : Manifest Tree) (start : the.Start) (s : PlanStop) (told : Option Told) → Fails (refused_of s) (ports_of folder root) → IfSome told (λ t. Fails (refused_of s) (report_for triplet folder root start t.files))
-ports_fail triplet folder root start s told fails = nothing_told told (λ t.
+ports_fail triplet folder root start s told fails = of_each told (λ t.
     fails_on (refused_of s) (ports_of folder root >>= λ ports. items_for start ports t.files) (λ items. Ok (planned_report triplet items)) (fails_on (refused_of s) (ports_of folder root) (λ ports. items_for start ports t.files) fails))
 
 pub items_fail : (triplet : List ℕ) (folder : Path) (root : Manifest Tree) (start : the.Start) (ports : List (List ℕ)) (s : PlanStop) (told : Option Told) → ports_of folder root ≡ Ok ports
     → IfSome told (λ t. Fails (refused_of s) (items_for start ports t.files)) → IfSome told (λ t. Fails (refused_of s) (report_for triplet folder root start t.files))
-items_fail triplet folder root start ports s told is fails = each_told told fails (λ t h.
+items_fail triplet folder root start ports s told is fails = IfSome_then told fails (λ t h.
     rw is (fails_on (refused_of s) (items_for start ports t.files) (λ items. Ok (planned_report triplet items)) h))
 
 pub report_done : (triplet : List ℕ) (folder : Path) (root : Manifest Tree) (start : the.Start) (ports : List (List ℕ)) (items : List Item) (bytes : List ℕ) (told : Option Told) → ports_of folder root ≡ Ok ports
     → IfSome told (λ t. items_for start ports t.files ≡ Ok items) → bytes ≡ planned_report triplet items → IfSome told (λ t. report_for triplet folder root start t.files ≡ Ok bytes)
-report_done triplet folder root start ports items bytes told is items_are bytes_are = each_told told items_are (λ t h. rw (is, h, bytes_are) refl)
+report_done triplet folder root start ports items bytes told is items_are bytes_are = IfSome_then told items_are (λ t h. rw (is, h, bytes_are) refl)
 
 pub report_lacking : (triplet : List ℕ) (folder : Path) (root : Manifest Tree) (start : the.Start) (told : Option Told) → IfSome told (λ t. Fails {Y = List ℕ} {F = Refused} None (report_for triplet folder root start t.files))
-report_lacking triplet folder root start told = nothing_told told (λ t. tt)
+report_lacking triplet folder root start told = of_each told (λ t. tt)
 
 -- ---- opening, and then the rest
 
@@ -100,7 +90,7 @@ told_after {a = a} {b = b} P r h = by a.told b.told r.looks.told h
 
 pub kept_right : (project : Project) (o : Opened) (before after : State) → Opens project (Ok o) before after → IfSome after.told (λ t. IsKeptOf o t.files)
 kept_right project (opened.Ready setting start) before after opens = told_after (λ f. IsOf f (opened_files start)) (opening.only_read opens) (opening.start_right opens)
-kept_right project (opened.Refused e) before after opens = nothing_told after.told (λ t. tt)
+kept_right project (opened.Refused e) before after opens = of_each after.told (λ t. tt)
 
 plan_is : (request : Request) (files : Files) (given : Result Opening _) → opened_of (project_of request) files ≡ given → planned_report_of request files ≡ ((or_early given >>= λ opening. ports_of (project_of request).folder opening.setting.root >>= λ ports. items_for opening.start ports files) >>= λ items. Ok (planned_report request.triplet items))
 unfolding plan_of
@@ -110,23 +100,33 @@ opened_report : (request : Request) (o : Opened) (files : Files) → Tells (Ok o
 opened_report request (opened.Ready setting start) files tells = plan_is request files (Ok (ready_view setting start)) tells
 opened_report request (opened.Refused e) files tells = plan_is request files (Err (early_view e)) tells
 
-pub plan_opened : {X : Type 0} {view : X → List ℕ} {report : Result X PlanStop} (request : Request) (o : Opened) (a b c : State) → Opens (project_of request) (Ok o) a b → PlansAs view report (report_after request.triplet (project_of request).folder o) b c
-    → PlansAs view report (planned_report_of request) a c
+pub plan_opened : {X : Type 0} {view : X → List ℕ} {report : Result X PlanStop} (request : Request) (o : Opened) (a b c : State) (opens : Opens (project_of request) (Ok o) a b)
+    → PlansAs view report (report_after request.triplet (project_of request).folder o) (paths_of opens.read) b c → PlansAs view report (planned_report_of request) [] a c
 plan_opened {view = view} {report = report} request o a b c opens planned = record {
-  only = read_then (opening.only_read opens) planned.only;
-  content = two_told a.told opens.content (told_before (λ f. Gives view refused_of report (report_after request.triplet (project_of request).folder o f)) (opening.only_read opens) planned.content)
+  only = record {
+    only = record { asked = paths_of opens.once.more ++ planned.only.only.asked; looks = looks_then opens.once.looks planned.only.only.looks };
+    distinct = subst (λ kept. NoRepeats (paths_of kept ++ planned.only.only.asked)) opens.once.kept planned.only.distinct;
+  };
+  content = of_both a.told opens.content (told_before (λ f. Gives view refused_of report (report_after request.triplet (project_of request).folder o f)) (opening.only_read opens) planned.content)
       (λ t tells gives. subst (λ r. Gives view refused_of report r) (sym (opened_report request o t.files tells)) gives);
 }
 
 -- a project that wasn't opened
-pub not_opened : {X : Type 0} (view : X → List ℕ) (request : Request) (s : OpenStop) (a b : State) → Opens (project_of request) (Err s) a b → PlansAs {X = X} view (Err (stop_opened s)) (planned_report_of request) a b
-not_opened view request open_stop.TreeFailed a b opens = record { only = opening.only_read opens; content = nothing_told a.told (λ t. tt) }
-not_opened view request open_stop.Memory a b opens = record { only = opening.only_read opens; content = nothing_told a.told (λ t. tt) }
+pub not_opened : {X : Type 0} (view : X → List ℕ) (request : Request) (s : OpenStop) (a b : State) → Opens (project_of request) (Err s) a b → PlansAs {X = X} view (Err (stop_opened s)) (planned_report_of request) [] a b
+not_opened view request open_stop.TreeFailed a b opens = record { only = record { only = record { asked = paths_of opens.once.more; looks = opens.once.looks }; distinct = opening.none_twice opens }; content = of_each a.told (λ t. tt) }
+not_opened view request open_stop.Memory a b opens = record { only = record { only = record { asked = paths_of opens.once.more; looks = opens.once.looks }; distinct = opening.none_twice opens }; content = of_each a.told (λ t. tt) }
+
+-- nothing was asked for
+none_asked : (earlier : List Path) (s : State) → NoRepeats earlier → OnlyReadOnce earlier false s s
+none_asked earlier s distinct = record { only = record { asked = []; looks = looks_nothing s }; distinct = subst NoRepeats (sym (append-nil earlier)) distinct }
+
+pub not_read : {failed : Bool} {s : State} → failed ≡ false → OnlyReadOnce [] failed s s
+not_read {failed = failed} {s = s} calm = rw calm (none_asked [] s tt)
 
 -- an early line
-pub plan_refused : (triplet : List ℕ) (folder : Path) (o : Opened) (e : Early) (s : State) → o ≡ opened.Refused e → PlansAs {X = Text} (λ t. t) (Err (plan_stop.Refused (refusal.Early e))) (report_after triplet folder o) s s
-plan_refused triplet folder o e s is = record { only = read_nothing s; content = rw is (nothing_told s.told (λ t. refl)) }
+pub plan_refused : (triplet : List ℕ) (folder : Path) (o : Opened) (e : Early) (earlier : List Path) (s : State) → o ≡ opened.Refused e → NoRepeats earlier → PlansAs {X = Text} (λ t. t) (Err (plan_stop.Refused (refusal.Early e))) (report_after triplet folder o) earlier s s
+plan_refused triplet folder o e earlier s is distinct = record { only = none_asked earlier s distinct; content = rw is (of_each s.told (λ t. refl)) }
 
 -- want of memory before anything was read
-pub plan_lacking : (meaning : Files → Result (List ℕ) Refused) (s : State) → PlansAs {X = Text} (λ t. t) (Err plan_stop.Memory) meaning s s
-plan_lacking meaning s = record { only = read_nothing s; content = nothing_told s.told (λ t. tt) }
+pub plan_lacking : (meaning : Files → Result (List ℕ) Refused) (s : State) → PlansAs {X = Text} (λ t. t) (Err plan_stop.Memory) meaning [] s s
+plan_lacking meaning s = record { only = none_asked [] s tt; content = of_each s.told (λ t. tt) }

@@ -1,7 +1,7 @@
 -- A report that was made, or the refusal in its place, as an end.
-use Rattle.std.proofs.Common.{◌≡◌, ℕ, List, [], refl, ap, sym, ◌∙◌}
+use Rattle.std.proofs.Common.{◌≡◌, ℕ, List, [], ap}
 use Rattle.std.specs.Prelude.{Option, Some, None, Result, Ok, Err}
-use Rattle.vk_spec.specs.Reading.{◌>>=◌, Gives, Fails}
+use Rattle.vk_spec.specs.Reading.{◌>>=◌, Fails}
 use Rattle.vk_app.specs.Answers.{report_of}
 use Rattle.vk_app.specs.PortPlans.{Item}
 use Rattle.vk_app.specs.Refusals.{Refused}

@@ -1,7 +1,8 @@
 -- How a run ends, before its bytes go out.
 use Rattle.std.specs.Prelude.{◌≡◌, ◌||◌, ℕ, Bool, true, false, List, [], Option, None, IsSome, IfSome}
-use Rattle.vk_spec.specs.States.{State, OnlyRead}
+use Rattle.vk_spec.specs.States.{State}
 use Rattle.vk_spec.specs.Sinks.{SinkState, Sent}
+use Rattle.vk_app.specs.Once.{OnlyReadOnce}
 use Rattle.vk_app.specs.Requests.{Words, Request, request_of}
 use Rattle.vk_app.specs.Answers.{Shown, answer_of, told, words_line, memory_line, tree_line, output_line}
 use Rattle.vk_app.specs.declared.stops.WordsFault.{WordsFault}
@@ -68,7 +69,7 @@ FormFits TreeFailed request = IsSome request
 
 -- how words and a tree end, and what is done to the tree
 pub record EndsAs (words : Words) (end : End) (before after : State) : Type 0 where
-  pub only : OnlyRead (end_failed end) before after
+  pub only : OnlyReadOnce [] (end_failed end) before after
   pub form : FormFits end (request_of words)
   pub unread : request_of words ≡ None → after ≡ before
   pub content : IfSome before.told (λ t. EndFits end (answer_of words t.files))

@@ -12,6 +12,7 @@ pub mod RefusalViews
 pub mod ShortReports
 pub mod Plans
 pub mod Answers
+pub mod Once
 pub mod Runs
 pub mod Ends
 pub mod PlanReadings

@@ -4,7 +4,7 @@ use Rattle.vk_spec.specs.Reading.{◌>>=◌, Gives}
 use Rattle.vk_spec.specs.Paths.{Path}
 use Rattle.vk_spec.specs.Files.{Files}
 use Rattle.vk_spec.specs.Manifests.{Manifest}
-use Rattle.vk_spec.specs.States.{State, OnlyRead}
+use Rattle.vk_spec.specs.States.{State}
 use Rattle.vk_expr.specs.Trees.{Tree}
 use Rattle.vk_opening.specs.Starts.{Start}
 use Rattle.vk_opening.specs.Views.{start_view, opened_files}
@@ -15,6 +15,7 @@ use Rattle.vk_opening.specs.declared.opens.OpenStop.TheVariants as open_stop
 use Rattle.vk_model.specs.Views.{manifest_view}
 use Rattle.vk_model.specs.EarlyViews.{early_view}
 use Rattle.vk_files.specs.Kept.{IsOf}
+use Rattle.vk_app.specs.Once.{OnlyReadOnce}
 use Rattle.vk_app.specs.Requests.{Request}
 use Rattle.vk_app.specs.PortPlans.{Item}
 use Rattle.vk_app.specs.Plans.{ports_of, items_for, project_of, plan_of}
@@ -40,9 +41,9 @@ abbrev pub has_tree_failed : {X : Type 0} → Result X PlanStop → Bool
 has_tree_failed (Ok x) = false
 has_tree_failed (Err stop) = is_tree_failed stop
 
--- nothing but reading was done; and where the files are told, the answer is what they give
-pub record PlansAs {X Y : Type 0} (view : X → Y) (answer : Result X PlanStop) (meaning : Files → Result Y Refused) (before after : State) : Type 0 where
-  pub only : OnlyRead (has_tree_failed answer) before after
+-- nothing but reading was done, no path twice and none of the earlier ones; and where the files are told, the answer is what they give
+pub record PlansAs {X Y : Type 0} (view : X → Y) (answer : Result X PlanStop) (meaning : Files → Result Y Refused) (earlier : List Path) (before after : State) : Type 0 where
+  pub only : OnlyReadOnce earlier (has_tree_failed answer) before after
   pub content : IfSome before.told (λ t. Gives view refused_of answer (meaning t.files))
 
 -- the report of the items that were read

@@ -3,7 +3,7 @@ use Rattle.std.specs.Prelude.{ℕ, List, Option, Some, None, Result, Ok, Err, if
 use Rattle.vk_spec.specs.Reading.{◌>>=◌, or_fault, read_each}
 use Rattle.vk_spec.specs.Versions.{Version, Ask, ask_of}
 use Rattle.vk_spec.specs.Manifests.{Manifest}
-use Rattle.vk_spec.specs.Pages.{Wrong, Given, Page, given_ask, version_in, manifest_in}
+use Rattle.vk_spec.specs.Pages.{Wrong, Given, given_ask, version_in, manifest_in}
 use Rattle.vk_spec.specs.Catalogues.{Pages}
 use Rattle.vk_expr.specs.Trees.{Tree}
 use Rattle.vk_app.specs.PlainManifests.{wants_nothing}

@@ -1,8 +1,8 @@
 -- What a run says of the world outside, and how it ends.
-use Rattle.std.specs.Prelude.{◌≡◌, ◌≢◌, ◌⊎◌, ◌≤◌, ℕ, Bool, true, List, [], ◌∷◌, length, None, IfSome}
+use Rattle.std.specs.Prelude.{◌≡◌, ◌≢◌, ◌⊎◌, ◌≤◌, ℕ, true, List, [], ◌∷◌, length, None, IfSome}
 use Rattle.std.specs.List.{Contains}
 use Rattle.vk_spec.specs.Counts.{MayHaveRisen, Rose}
-use Rattle.vk_spec.specs.States.{State, OnlyRead}
+use Rattle.vk_spec.specs.States.{State}
 use Rattle.vk_spec.specs.Sinks.{SinkState, Taken, TookFront}
 use Rattle.vk_app.specs.Requests.{Words, request_of}
 use Rattle.vk_app.specs.Answers.{Shown, answer_of, words_line, memory_line, tree_line, output_line}
@@ -78,7 +78,3 @@ pub record KeepsOut (words : Words) (status : ℕ) (before after : World) : Type
 pub record JudgesWords (words : Words) (status : ℕ) (before after : World) : Type 0 where
   pub only : status ≡ 2 → (request_of words ≡ None) × (after.tree ≡ before.tree)
   pub comes : request_of words ≡ None → ((status ≡ 2) ⊎ (status ≡ 3) ⊎ (status ≡ 5)) × (after.tree ≡ before.tree)
-
--- the tree was only read
-abbrev pub LeavesTree : World → World → Type 0
-LeavesTree before after = (failed : Bool) × OnlyRead failed before.tree after.tree

@@ -5,6 +5,7 @@ use Rattle.vk_spec.specs.Versions.{Ask}
 use Rattle.vk_spec.specs.Earlies as the_early
 use Rattle.vk_spec.specs.Earlies.{Early, two_configurations, no_triplet}
 use Rattle.vk_spec.specs.Pages.{Wrong, no_registry, no_baseline, bad_file, disagrees, Field, name, class, text, port}
+use Rattle.vk_json.specs.Places.{place_text}
 use Rattle.vk_base.specs.Tokens.{token_of}
 use Rattle.vk_base.specs.Paths.{text_of_path}
 use Rattle.vk_app.specs.PortPlans.{Item}
@@ -26,11 +27,6 @@ item_lines triplet number (item ∷ items) = item_line triplet number item ++ it
 
 abbrev pub path_text : Path → List ℕ
 path_text path = token_of (text_of_path path)
-
--- a place as it is printed; the whole document is `-`
-abbrev pub place_text : List ℕ → List ℕ
-place_text [] = codes "-"
-place_text (b ∷ bs) = token_of (b ∷ bs)
 
 -- a file, a place in it, and the word for what is wrong there
 abbrev pub file_line : Path → List ℕ → List ℕ → List ℕ

@@ -1,11 +1,14 @@
 //! The plan of a project, over a tree.
-ghost use Rattle.std.specs.Prelude.{◌≡◌, IfOk, IfSome, Err, false, map, Result, List};
+ghost use Rattle.std.specs.Prelude.{◌≡◌, [], IfOk, IfSome, Ok, Err, false, map, Result, List};
+ghost use Rattle.vk_spec.specs.Lists.{NoRepeats};
 ghost use Rattle.vk_spec.specs.Files.{Files};
 ghost use Rattle.vk_spec.specs.Reading.{Gives, Fails};
 ghost use Rattle.vk_spec.specs.Catalogues.{OnlyAsked};
+ghost use Rattle.vk_files.specs.Kept.{Kept, paths_of};
+ghost use Rattle.vk_opening.specs.Opened.{IsKept};
 ghost use Rattle.vk_opening.specs.Starts as opening;
 ghost use Rattle.vk_model.specs.Views.{manifest_view};
-ghost use Rattle.vk_world.specs.Worlds.{world_state, origin_on, start_in};
+ghost use Rattle.vk_world.specs.Worlds.{world_state, origin_on, start_in, opened_in};
 ghost use Rattle.vk_app.specs.PortPlans as plain;
 ghost use Rattle.vk_app.specs.Plans.{project_of, ports_of, refused_for, items_for, or_refused};
 ghost use Rattle.vk_app.specs.Refusals as the;
@@ -26,8 +29,7 @@ use crate::troubles::{PortStop, Trouble};
 use std::alloc::Global;
 use vk_base::{List, Memory, PortName, Text, TreePath, TripletName};
 use vk_model::{Manifest, Project};
-use vk_opening::{OpenStop, Opened};
-use vk_pages::manifest_path;
+use vk_opening::{OpenStop, Opened, manifest_path};
 use vk_tree::Tree;
 use vk_world::World;
 
@@ -109,6 +111,7 @@ fn items_for<'a, T: Tree>(
     ports: &'a [PortName],
 ) -> Result<List<Item<'a>>, PlanStop>
     ensures only { OnlyAsked (has_tree_failed result) (world_state (T.state world.old.0) world.old.1) (world_state (T.state world.new.0) world.new.1) }
+    ensures opened { opened_in world.new.1 ≡ opened_in world.old.1 }
     ensures content { IfSome (T.state world.old.0).told (λ t. Gives (λ l. map item_view l) refused_of result (items_for (start_in world.old.1) ports.now t.files)) }
 {
     match items(alloc, world, ports) {
@@ -126,6 +129,7 @@ fn report_of<T: Tree>(
     world: &mut World<T>,
 ) -> Result<Text, PlanStop>
     ensures only { OnlyAsked (has_tree_failed result) (world_state (T.state world.old.0) world.old.1) (world_state (T.state world.new.0) world.new.1) }
+    ensures opened { opened_in world.new.1 ≡ opened_in world.old.1 }
     ensures content { IfSome (T.state world.old.0).told (λ t. Gives (λ t. t) refused_of result (report_for triplet.now folder.now (manifest_view root) (start_in world.old.1) t.files)) }
 {
     let ports = ports_of(alloc, folder, root)?;
@@ -142,9 +146,10 @@ fn planned_in<T: Tree>(
     mut world: World<T>,
 ) -> Planned<T>
     requires { (world_state (T.state world.0) world.1).origin ≡ origin_on (T.state world.0) }
-    ensures { PlansAs (λ t. t) result.report (report_for triplet.now folder.now (manifest_view root) (start_in world.1)) (T.state world.0) (T.state result.tree) }
+    ensures { PlansAs (λ t. t) result.report (report_for triplet.now folder.now (manifest_view root) (start_in world.1)) (opened_in world.1) (T.state world.0) (T.state result.tree) }
 {
     let report = report_of(alloc, triplet, folder, root, &mut world);
+    world.known();
     Planned {
         report,
         tree: world.into_tree(),
@@ -160,7 +165,7 @@ fn planned_from<T: Tree>(
     tree: T,
 ) -> Planned<T>
     requires { IfSome (T.state tree).told (λ t. IsKeptOf opened t.files) }
-    ensures { PlansAs (λ t. t) result.report (report_after triplet.now folder.now opened) (T.state tree) (T.state result.tree) }
+    ensures { (read : Kept) → IsKept read (Ok opened) → NoRepeats (paths_of read) → PlansAs (λ t. t) result.report (report_after triplet.now folder.now opened) (paths_of read) (T.state tree) (T.state result.tree) }
 {
     match opened {
         Opened::Ready { setting, start } => {
@@ -196,7 +201,7 @@ fn planned_for<T: Tree>(
     mut tree: T,
 ) -> Planned<T>
     requires { project.now ≡ project_of (request_view request.now) }
-    ensures { PlansAs (λ t. t) result.report (planned_report_of (request_view request.now)) (T.state tree) (T.state result.tree) }
+    ensures { PlansAs (λ t. t) result.report (planned_report_of (request_view request.now)) [] (T.state tree) (T.state result.tree) }
 {
     match World::open(alloc, &mut tree, project, None) {
         Ok(opened) => planned_from(alloc, &request.triplet, &project.folder, opened, tree),
@@ -210,7 +215,7 @@ fn planned_for<T: Tree>(
 /// The report of the plan that is asked for: the project is opened, and its ports are asked for in
 /// byte order, each file read once.
 pub fn plan<T: Tree>(alloc: Global, request: &Request, tree: T) -> Planned<T>
-    ensures { PlansAs (λ t. t) result.report (planned_report_of (request_view request.now)) (T.state tree) (T.state result.tree) }
+    ensures { PlansAs (λ t. t) result.report (planned_report_of (request_view request.now)) [] (T.state tree) (T.state result.tree) }
 {
     match project_of(alloc, request) {
         Ok(project) => planned_for(alloc, request, &project, tree),

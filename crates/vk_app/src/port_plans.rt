@@ -6,7 +6,7 @@ ghost use Rattle.vk_spec.specs.Catalogues.{OnPage, CanAskVersion, CanAskManifest
 ghost use Rattle.vk_version.specs.AskViews.{ask_view};
 ghost use Rattle.vk_model.specs.Views.{manifest_view};
 ghost use Rattle.vk_catalogue.specs.Views.{given_view};
-ghost use Rattle.vk_world.specs.Worlds.{world_state, known_in, start_in};
+ghost use Rattle.vk_world.specs.Worlds.{world_state, known_in, start_in, opened_in};
 ghost use Rattle.vk_app.specs.PortPlans as plain;
 ghost use Rattle.vk_app.specs.PortPlans.{given_for, version_for, manifest_for, item_with, item_at, item_of, items_of};
 ghost use Rattle.vk_app.specs.AskReadings.{AsksAs, item_view, trouble_of, is_failed, has_failed};
@@ -31,6 +31,7 @@ fn given<T: Tree>(world: &mut World<T>, port: &PortName) -> Result<Given, PortSt
     ensures asks { AsksAs given_view result (given_for port.now) (world_state (T.state world.old.0) world.old.1) (world_state (T.state world.new.0) world.new.1) }
     ensures can { OnOk result (OnPage port.now CanAskVersion (world_state (T.state world.new.0) world.new.1)) }
     ensures start { start_in world.new.1 ≡ start_in world.old.1 }
+    ensures opened { opened_in world.new.1 ≡ opened_in world.old.1 }
     ensures located { IsLocated result (start_in world.new.1) (T.state world.new.0) }
 {
     match world.given(port)? {
@@ -47,6 +48,7 @@ fn version<T: Tree>(world: &mut World<T>, port: &PortName, ask: &Ask) -> Result<
     ensures can { OnOk result (OnPage port.now (CanAskManifest (ask_view ask.now)) (world_state (T.state world.new.0) world.new.1)) }
     ensures known { IfOk result (λ v. Contains (known_in world.new.1) (port.now, v)) }
     ensures start { start_in world.new.1 ≡ start_in world.old.1 }
+    ensures opened { opened_in world.new.1 ≡ opened_in world.old.1 }
     ensures located { IsLocated result (start_in world.new.1) (T.state world.new.0) }
 {
     match world.version(port, ask)? {
@@ -66,6 +68,7 @@ fn manifest<T: Tree>(
     ensures asks { AsksAs (λ m. manifest_view m.value) result (manifest_for port.now (ask_view ask.now)) (world_state (T.state world.old.0) world.old.1) (world_state (T.state world.new.0) world.new.1) }
     ensures known { known_in world.new.1 ≡ known_in world.old.1 }
     ensures start { start_in world.new.1 ≡ start_in world.old.1 }
+    ensures opened { opened_in world.new.1 ≡ opened_in world.old.1 }
     ensures located { IsLocated result (start_in world.new.1) (T.state world.new.0) }
 {
     match world.manifest(port, ask)? {
@@ -123,6 +126,7 @@ fn item_at<'a, T: Tree>(
     requires { OnPage port.now CanAskVersion (world_state (T.state world.old.0) world.old.1) }
     ensures asks { AsksAs item_view result (item_at port.now (ask_view ask.now)) (world_state (T.state world.old.0) world.old.1) (world_state (T.state world.new.0) world.new.1) }
     ensures start { start_in world.new.1 ≡ start_in world.old.1 }
+    ensures opened { opened_in world.new.1 ≡ opened_in world.old.1 }
     ensures located { IsLocated result (start_in world.new.1) (T.state world.new.0) }
 {
     let version = version(world, port, ask)?;
@@ -134,6 +138,7 @@ fn item_at<'a, T: Tree>(
 fn item<'a, T: Tree>(world: &mut World<T>, port: &'a PortName) -> Result<Item<'a>, PortStop>
     ensures asks { AsksAs item_view result (item_of port.now) (world_state (T.state world.old.0) world.old.1) (world_state (T.state world.new.0) world.new.1) }
     ensures start { start_in world.new.1 ≡ start_in world.old.1 }
+    ensures opened { opened_in world.new.1 ≡ opened_in world.old.1 }
     ensures located { IsLocated result (start_in world.new.1) (T.state world.new.0) }
 {
     let given = given(world, port)?;
@@ -148,6 +153,7 @@ pub fn items<'a, T: Tree>(
 ) -> Result<List<Item<'a>>, PortStop>
     ensures asks { AsksAs (λ l. map item_view l) result (items_of ports.now) (world_state (T.state world.old.0) world.old.1) (world_state (T.state world.new.0) world.new.1) }
     ensures start { start_in world.new.1 ≡ start_in world.old.1 }
+    ensures opened { opened_in world.new.1 ≡ opened_in world.old.1 }
     ensures located { IsLocated result (start_in world.new.1) (T.state world.new.0) }
 {
     let mut items = List::new(alloc);

@@ -7,14 +7,14 @@ ghost use Rattle.vk_model.specs.EarlyViews.{early_view};
 ghost use Rattle.vk_catalogue.specs.Views.{field_view, wrong_view};
 ghost use Rattle.vk_app.specs.AskReadings.{item_view};
 ghost use Rattle.vk_app.specs.RefusalViews.{refusal_view};
-ghost use Rattle.vk_app.specs.ShortReports.{path_text, place_text, version_text, item_line, item_lines, planned_report, file_line, field_word, early_line, wrong_line, refused_line, refused_report};
+ghost use Rattle.vk_app.specs.ShortReports.{path_text, version_text, item_line, item_lines, planned_report, file_line, field_word, early_line, wrong_line, refused_line, refused_report};
 
 use crate::items::Item;
 use crate::refusals::Refusal;
 use std::alloc::Global;
 use vk_base::{Memory, PortName, Text, TreePath, TripletName, token};
 use vk_catalogue::{Field, Wrong};
-use vk_json::Why;
+use vk_json::{Why, place_text};
 use vk_model::Early;
 use vk_version::Ask;
 
@@ -72,15 +72,6 @@ fn path_token(alloc: Global, path: &TreePath) -> Result<Text, Memory>
 {
     let text = path.text(alloc)?;
     token(alloc, text.as_bytes())
-}
-
-fn place_text(alloc: Global, place: &Text) -> Result<Text, Memory>
-    ensures { IfOk result (λ t. t ≡ place_text place.now) }
-{
-    if place.is_empty() {
-        return Ok(Text::from_str(alloc, "-")?);
-    }
-    token(alloc, place.as_bytes())
 }
 
 fn file_line(alloc: Global, path: &TreePath, place: &Text, why: Why) -> Result<Text, Memory>

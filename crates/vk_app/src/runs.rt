@@ -1,7 +1,7 @@
 //! The top call: `plan`, from the words to the status.
-ghost use Rattle.std.specs.Prelude.{◌≡◌, ◌≤◌, ◌<◌, ◌^◌, ℕ, List, Bool, false, Result, Err, IfSome, length};
+ghost use Rattle.std.specs.Prelude.{◌≡◌, ◌≤◌, ◌<◌, ◌^◌, [], ℕ, List, false, Result, Err, IfSome, length};
 ghost use Rattle.vk_spec.specs.Reading.{Gives, Fails};
-ghost use Rattle.vk_spec.specs.States.{OnlyRead};
+ghost use Rattle.vk_app.specs.Once.{IsReadOnce, OnlyReadOnce};
 ghost use Rattle.vk_app.specs.Answers.{report_of};
 ghost use Rattle.vk_app.specs.Ends.{EndsAs, EndFits, IsOfPlan, end_failed, end_of_fault};
 ghost use Rattle.vk_app.specs.PortPlans.{Item};
@@ -74,7 +74,7 @@ fn end_of_report(alloc: Global, report: Result<Text, PlanStop>) -> End
 }
 
 fn end_of_plan<T: Tree>(alloc: Global, request: &Request, tree: T) -> Ended<T>
-    ensures only { OnlyRead (end_failed result.end) (T.state tree) (T.state result.tree) }
+    ensures only { OnlyReadOnce [] (end_failed result.end) (T.state tree) (T.state result.tree) }
     ensures content { IfSome (T.state tree).told (λ t. EndFits result.end (report_of request.now.triplet (plan_of (project_of (request_view request.now)) t.files))) }
     ensures plan { IsOfPlan result.end }
 {
@@ -86,7 +86,8 @@ fn end_of_plan<T: Tree>(alloc: Global, request: &Request, tree: T) -> Ended<T>
 }
 
 fn end_of_words(fault: WordsFault) -> End
-    ensures { result ≡ end_of_fault fault }
+    ensures told { result ≡ end_of_fault fault }
+    ensures calm { end_failed result ≡ false }
 {
     match fault {
         WordsFault::Form => End::Form,
@@ -94,6 +95,7 @@ fn end_of_words(fault: WordsFault) -> End
     }
 }
 
+#[tactic(auto, using(crate::proofs::PlanLemmas::not_read))]
 fn end_of<T: Tree>(alloc: Global, words: &List<Word>, tree: T) -> Ended<T>
     ensures { EndsAs (words_view words.now) result.end (T.state tree) (T.state result.tree) }
 {
@@ -141,8 +143,8 @@ pub fn run<T: Tree, O: Sink, E: Sink>(
     ensures err { TellsLine result.status
         (record { tree = T.state tree; out = O.state out.old; err = E.state err.old })
         (record { tree = T.state result.tree; out = O.state out.new; err = E.state err.new }) }
-    // Nothing was changed in the tree.
-    ensures unchanged { (failed : Bool) × OnlyRead failed (T.state tree) (T.state result.tree) }
+    // The tree was only read, and no path was asked for twice.
+    ensures once { IsReadOnce (T.state tree) (T.state result.tree) }
     ensures small { result.status ≤ 5 }
 {
     let Ended { end, tree } = end_of(alloc, words, tree);

@@ -9,7 +9,7 @@ use Rattle.vk_spec.specs.Versions.{Ask, ask_of, same_ask}
 use Rattle.vk_spec.specs.Pages.{row_in}
 use Rattle.vk_spec.specs.Pages as plain
 use Rattle.vk_spec.specs.Catalogues.{IsPage, ArePages}
-use Rattle.vk_spec.proofs.ListLemmas.{contains_nothing}
+use Rattle.vk_spec.proofs.ListLemmas.{contains_nothing, find_by}
 use Rattle.vk_expr.specs.Trees.{Tree}
 use Rattle.vk_catalogue.specs.declared.shelves.Held.{Held}
 use Rattle.vk_catalogue.specs.declared.pages.PageRow.{PageRow}
@@ -23,17 +23,9 @@ no_page_is = record { distinct = tt; own = tt; given_wrong = tt; row_wrongs = λ
 pub none_are_pages : ArePages (page_on [])
 none_are_pages port = no_page_is
 
-cond_map : {X Y : Type 0} (f : X → Y) (b : Bool) (x : X) (o : Option X) → cond b (Some (f x)) (option_map f o) ≡ option_map f (cond b (Some x) o)
-cond_map f true x o = refl
-cond_map f false x o = refl
-
-pub page_held : (held : Shelved Held) (port : List ℕ) → page_on held port ≡ page_or_none (option_map held_view (held_for held port))
-page_held held port = ap page_or_none (lookup-map_values held_view (bytes_eq port) held)
-
 -- a row that is found among views is the view of the row that is found
 pub row_view_found : (rows : List PageRow) (ask : Ask) → row_in (map row_view rows) ask ≡ option_map row_view (find (λ r. same_ask (ask_of r.version) ask) rows)
-row_view_found [] ask = refl
-row_view_found (r ∷ rows) ask = ap (cond (same_ask (ask_of r.version) ask) (Some (row_view r))) (row_view_found rows ask) ∙ cond_map row_view (same_ask (ask_of r.version) ask) r (find (λ q. same_ask (ask_of q.version) ask) rows)
+row_view_found rows ask = find_by row_view (λ r. same_ask (ask_of r.version) ask) rows
 
 -- a page of one more is the page that was put, or one of those before
 page_of_more : (P : plain.Page Tree → Type 0) (put : Shelved (plain.Page Tree)) (port q : List ℕ) (page : plain.Page Tree)

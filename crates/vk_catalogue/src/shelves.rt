@@ -5,7 +5,7 @@ ghost use Rattle.vk_spec.specs.Pages.{row_in};
 ghost use Rattle.vk_spec.specs.Catalogues.{ArePages};
 ghost use Rattle.vk_version.specs.AskViews.{ask_view};
 ghost use Rattle.vk_catalogue.specs.PageViews.{page_view, held_view, row_view};
-ghost use Rattle.vk_catalogue.specs.Shelves.{IsPageFor, page_on, page_or_none, pages_of};
+ghost use Rattle.vk_catalogue.specs.Shelves.{IsPageFor, page_on, pages_of};
 
 use crate::pages::{Page, PageRow};
 use crate::rows::row_for;
@@ -88,7 +88,7 @@ impl Shelf {
 
     /// What is held of a port; `None` exactly where no page was put for it.
     pub fn get(&self, port: &PortName) -> Option<&Held>
-        ensures { page_or_none (option_map held_view (option_copied result)) ≡ page_on self.now port.now }
+        ensures { option_map held_view (option_copied result) ≡ lookup (bytes_eq port.now) (pages_of self.now) }
     {
         self.inner.get(port)
     }

@@ -8,7 +8,7 @@ use Rattle.vk_spec.specs.Paths.{Path}
 use Rattle.vk_files.specs.Kept.{Seen, Kept, paths_of}
 use Rattle.vk_files.specs.Views.{same_path, seen_view, kept_at}
 use Rattle.vk_files.specs.declared.found.Found.{Found}
-use Rattle.vk_files.proofs.NotedLemmas.{noted, found_noted, none_noted, some_noted, nothing_noted, more_noted, last_noted}
+use Rattle.vk_files.proofs.NotedLemmas.{noted, found_noted, none_noted, some_noted, last_noted}
 
 abbrev pub entries_kept : List (Path × Found) → Kept
 entries_kept es = noted seen_view es
@@ -21,12 +21,6 @@ none_kept path es = none_noted seen_view (same_path path) es
 
 pub some_kept : (path : Path) (es : List (Path × Found)) → is_some (lookup (same_path path) es) ≡ true → IsSome (kept_at path (entries_kept es))
 some_kept path es = some_noted seen_view (same_path path) es
-
-pub nothing_there : (path : Path) (es : List (Path × Found)) → kept_at path (entries_kept es) ≡ None → lookup (same_path path) es ≡ None
-nothing_there path es = nothing_noted seen_view (same_path path) es
-
-pub kept_more : (es : List (Path × Found)) (path : Path) (f : Found) → entries_kept (es ++ (path, f) ∷ []) ≡ entries_kept es ++ (path, seen_view f) ∷ []
-kept_more es path f = more_noted seen_view es path f
 
 pub path_is : (x y : Path) → same_path x y ≡ true → x ≡ y
 path_is x y e = (slice_eq-Decides bytes_eq-Decides x y _ refl).0 e

@@ -11,7 +11,8 @@ use Rattle.vk_files.specs.StopViews.{refusal_in}
 use Rattle.vk_files.specs.Readings.{ReadsAs}
 use Rattle.vk_files.specs.declared.stops.Stop.{Stop}
 use Rattle.vk_files.proofs.OnceLemmas.{nothing_read, once_then}
-use Rattle.vk_files.proofs.ReadMore.{each_told, two_told, known_before}
+use Rattle.vk_spec.proofs.OptionLemmas.{of_each, of_both}
+use Rattle.vk_files.proofs.ReadMore.{known_before}
 
 -- nothing failed so far, and what is found among those that are left is what is found among all
 pub record NoneYet {X A : Type 0} (view : X → A) (test : Files → A → Bool) (i : ℕ) (xs : List X) (before now : Held) : Type 0 where
@@ -19,7 +20,7 @@ pub record NoneYet {X A : Type 0} (view : X → A) (test : Files → A → Bool)
   pub content : IfSome before.tree.told (λ t. IsOf t.files before.kept → find (test t.files) (map view (drop i xs)) ≡ find (test t.files) (map view xs))
 
 pub none_yet : {X A : Type 0} (view : X → A) (test : Files → A → Bool) (xs : List X) (h : Held) → NoneYet view test 0 xs h h
-none_yet view test xs h = record { once = nothing_read h; content = each_told h.tree.told (λ t old. refl) }
+none_yet view test xs h = record { once = nothing_read h; content = of_each h.tree.told (λ t old. refl) }
 
 same_inside : {Y P : Type 0} {x y : Y} (r : Result Y P) → r ≡ Ok x → r ≡ Ok y → x ≡ y
 same_inside r one two = (cc)
@@ -44,7 +45,7 @@ module _ {X A : Type 0} (view : X → A) where
       → NoneYet view test i xs a b → ReadsAs refusal (λ b. b) (Ok false) (λ f. Ok (test f (view x))) b c → NoneYet view test (i + 1) xs a c
   none_more {P = P} refusal test i xs x a b c within is so_far then = record {
     once = once_then so_far.once then.once;
-    content = two_told a.tree.told so_far.content (known_before (λ f. said f ≡ Ok false) so_far.once then.content)
+    content = of_both a.tree.told so_far.content (known_before (λ f. said f ≡ Ok false) so_far.once then.content)
         (λ t sofar gives old. passed_over (test t.files) (view x) (map view (drop (i + 1) xs)) (same_inside (said t.files) refl (gives old)) ∙ left_is (test t.files) i xs x within is ∙ sofar old);
   }
     where
@@ -56,7 +57,7 @@ module _ {X A : Type 0} (view : X → A) where
       → NoneYet view test i xs a b → ReadsAs refusal (λ b. b) (Ok true) (λ f. Ok (test f (view x))) b c → ReadsAs refusal (option_map seen) (Ok (Some r)) (λ f. Ok (find (test f) (map view xs))) a c
   first_found {P = P} refusal seen r test i xs x a b c within is same so_far then = record {
     once = once_then so_far.once then.once;
-    content = two_told a.tree.told so_far.content (known_before (λ f. said f ≡ Ok true) so_far.once then.content)
+    content = of_both a.tree.told so_far.content (known_before (λ f. said f ≡ Ok true) so_far.once then.content)
         (λ t sofar gives old. ap Ok (sym (sofar old) ∙ sym (left_is (test t.files) i xs x within is) ∙ taken (test t.files) (view x) (map view (drop (i + 1) xs)) (same_inside (said t.files) refl (gives old)) ∙ ap Some (sym same)));
   }
     where
@@ -68,7 +69,7 @@ module _ {X A : Type 0} (view : X → A) where
       → NoneYet view test i xs a b → ReadsAs {X = Bool} refusal (λ b. b) (Err s) (λ f. Ok (test f (view x))) b c → ReadsAs {X = Option R} refusal (option_map seen) (Err s) (λ f. Ok (find (test f) (map view xs))) a c
   first_stopped {P = P} refusal seen s test i xs x a b c so_far then = record {
     once = once_then so_far.once then.once;
-    content = two_told a.tree.told so_far.content (known_before (λ f. Fails (refusal_in refusal s) (said f)) so_far.once then.content)
+    content = of_both a.tree.told so_far.content (known_before (λ f. Fails (refusal_in refusal s) (said f)) so_far.once then.content)
         (λ t sofar fails old. never (refusal_in refusal s) (test t.files (view x)) (find (test t.files) (map view xs)) (fails old));
   }
     where
@@ -80,5 +81,5 @@ module _ {X A : Type 0} (view : X → A) where
       → NoneYet view test i xs a b → ReadsAs {X = Option R} refusal (option_map seen) (Ok None) (λ f. Ok (find (test f) (map view xs))) a b
   none_found refusal seen test i xs a b past so_far = record {
     once = so_far.once;
-    content = two_told a.tree.told so_far.content so_far.content (λ t sofar _ old. ap Ok (sym (sofar old) ∙ ap (λ l. find (test t.files) (map view l)) (drop_of_length-le xs past)));
+    content = of_both a.tree.told so_far.content so_far.content (λ t sofar _ old. ap Ok (sym (sofar old) ∙ ap (λ l. find (test t.files) (map view l)) (drop_of_length-le xs past)));
   }

@@ -3,7 +3,7 @@ use Rattle.std.proofs.Common.{◌≡◌, Bool, true, false, cond, List, [], ◌�
 use Rattle.std.specs.List.{Contains, IsDistinct, AllByRecursion}
 use Rattle.vk_spec.specs.Lists.{NoRepeats}
 use Rattle.vk_spec.proofs.ListLemmas.{contains_nothing, contains_cases}
-use Rattle.std.specs.Prelude.{Option, Some, None}
+use Rattle.std.specs.Prelude.{Option, Some}
 use Rattle.std.specs.Map.{lookup}
 use Rattle.vk_files.specs.Notes.{AreRight}
 

@@ -1,10 +1,16 @@
 -- Notes that are kept under keys, as they are seen: looking one up, and keeping one more.
-use Rattle.std.proofs.Common.{◌≡◌, Bool, true, false, cond, List, [], ◌∷◌, ◌++◌, map, refl, sym, subst, ◌∙◌, true≢false}
-use Rattle.std.specs.Prelude.{Option, Some, None, IsSome, option_map}
+use Rattle.std.proofs.Common.{◌≡◌, Bool, true, false, cond, List, [], ◌∷◌, ◌++◌, map, refl, ap, sym, subst, ◌∙◌, true≢false}
+use Rattle.std.specs.Prelude.{Option, Some, None, IsSome, option_map, Result, Ok, Err, IsOk, OnOk}
 use Rattle.std.specs.Option.{is_some}
 use Rattle.std.specs.Map.{lookup}
 use Rattle.std.proofs.lemmas.List.{map-append}
 use Rattle.std.proofs.lemmas.Map.Made.{lookup-map_values}
+use Rattle.indexmap.specs.IndexMap.{IndexMap, insert_entry}
+use Rattle.indexmap.proofs.CallerLemmas.{insert_entry-new}
+
+where_ok : {X E P : Type 0} (r : Result X E) → IsOk r → OnOk r P → P
+where_ok (Ok x) ok h = h
+where_ok (Err e) ok h = (cc)
 
 module _ {K V W : Type 0} (view : V → W) where
   abbrev pub noted : List (K × V) → List (K × W)
@@ -36,6 +42,12 @@ module _ {K V W : Type 0} (view : V → W) where
 
   pub more_noted : (es : List (K × V)) (k : K) (v : V) → noted (es ++ (k, v) ∷ []) ≡ noted es ++ (k, view v) ∷ []
   more_noted es k v = map-append (λ e. (e.0, view e.1)) es ((k, v) ∷ [])
+
+  -- a key that has no note gets one, the last
+  pub kept_last : {S X E : Type 0} (eq : K → K → Bool) (m : IndexMap K V S) (k : K) (v : V) (after : List (K × V)) (r : Result X E) → IsOk r → OnOk r (after ≡ insert_entry eq m.entries k v)
+      → lookup (eq k) (noted m.entries) ≡ None → noted after ≡ noted m.entries ++ (k, view v) ∷ []
+  kept_last eq m k v after r ok put none =
+      ap noted (where_ok r ok put ∙ insert_entry-new eq m k v (nothing_noted (eq k) m.entries none)) ∙ more_noted m.entries k v
 
 last_at : {V : Type 0} (b : Bool) (first : V) (later : Option V) → IsSome later → IsSome (cond b (Some first) later)
 last_at true first later some = (cc)

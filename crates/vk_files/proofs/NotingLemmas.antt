@@ -1,11 +1,11 @@
 -- Reading with notes: one after the other.
-use Rattle.std.proofs.Common.{◌≡◌, Bool, true, false, ℕ, List, refl, sym, subst, ◌∙◌}
+use Rattle.std.proofs.Common.{◌≡◌, false}
 use Rattle.std.specs.Prelude.{Option, Some, None, IfSome, Result, Ok, Err}
 use Rattle.vk_spec.specs.Files.{Files}
 use Rattle.vk_spec.specs.Reading.{◌>>=◌, Gives, Fails}
 use Rattle.vk_spec.specs.States.{Told}
 use Rattle.vk_spec.proofs.StateLemmas.{told_before}
-use Rattle.vk_files.specs.Kept.{paths_of, IsOf, Held, ReadOnce}
+use Rattle.vk_files.specs.Kept.{paths_of, IsOf, Held}
 use Rattle.vk_files.specs.StopViews.{refusal_in, has_tree_failed}
 use Rattle.vk_files.specs.Readings.{ReadsAs, ReadsNoting}
 use Rattle.vk_files.specs.declared.stops.Stop.{Stop}

@@ -1,22 +1,19 @@
 -- Files that are read once: one after the other.
 use Rattle.std.specs.FinMap as map
-use Rattle.std.proofs.Common.{◌≡◌, Bool, true, false, ℕ, List, [], ◌∷◌, ◌++◌, refl, ap, sym, subst, ◌∙◌}
+use Rattle.std.proofs.Common.{◌≡◌, Bool, false, ℕ, List, [], ◌∷◌, ◌++◌, ap, sym, subst, ◌∙◌}
 use Rattle.std.specs.Prelude.{Option, Some, None, IfSome}
 use Rattle.std.proofs.lemmas.List.{append-nil, append_assoc, map-append}
 use Rattle.vk_spec.specs.Paths.{Path}
 use Rattle.vk_spec.specs.Files.{Files}
-use Rattle.vk_spec.specs.Calls.{Answer, Reads, ReadsFile, NoLonger, is_failed, noted}
-use Rattle.vk_spec.specs.States.{Told, State, Looks, OnlyRead}
+use Rattle.vk_spec.specs.Calls.{Answer, Reads, ReadsFile, is_failed, noted}
+use Rattle.vk_spec.specs.States.{Told, State, Looks}
+use Rattle.vk_spec.proofs.OptionLemmas.{of_each, of_both}
 use Rattle.vk_spec.proofs.StateLemmas.{looks_nothing, looks_then, told_before}
-use Rattle.vk_files.specs.Kept.{Seen, Kept, seen_at, seen_in, paths_of, IsOf, IsSeen, Held, ReadOnce, most_bytes}
+use Rattle.vk_files.specs.Kept.{Seen, Kept, seen_in, paths_of, IsOf, IsSeen, Held, ReadOnce, most_bytes}
 use Rattle.vk_files.proofs.NoteLemmas.{right_more}
 
 pub nothing_read : (h : Held) → ReadOnce false h h
-nothing_read h = record { more = []; kept = sym (append-nil h.kept); looks = looks_nothing h.tree; right = everywhere h.tree.told }
-  where
-    everywhere : (told : Option Told) → IfSome told (λ t. IsOf t.files [])
-    everywhere None = tt
-    everywhere (Some t) = tt
+nothing_read h = record { more = []; kept = sym (append-nil h.kept); looks = looks_nothing h.tree; right = of_each h.tree.told (λ t. tt) }
 
 -- nothing was done, by what is kept and by the answer
 pub still_read : {failed : Bool} {kept now : Kept} {s : State} → failed ≡ false → now ≡ kept → ReadOnce failed (record { kept = kept; tree = s }) (record { kept = now; tree = s })
@@ -43,12 +40,8 @@ nothing_found {answer = answer} {a = a} {b = b} {kept = kept} r is_noted is = re
   more = [];
   kept = sym (append-nil kept);
   looks = subst (λ f. Looks [] f a b) is (subst (λ asked. Looks asked (is_failed answer) a b) is_noted r.looks);
-  right = everywhere a.told;
+  right = of_each a.told (λ t. tt);
 }
-  where
-    everywhere : (told : Option Told) → IfSome told (λ t. IsOf t.files [])
-    everywhere None = tt
-    everywhere (Some t) = tt
 
 -- what was found is what the files have
 pub seen_told : (path : Path) (answer : Answer (List ℕ)) (seen : Seen) (told : Option Told) → ((o : Option (List ℕ)) → ReadsFile o most_bytes answer → seen ≡ seen_in o)
@@ -57,8 +50,7 @@ seen_told path answer seen None is content = tt
 seen_told path answer seen (Some t) is content = is _ content
 
 both_right : (one two : Kept) (told : Option Told) → IfSome told (λ t. IsOf t.files one) → IfSome told (λ t. IsOf t.files two) → IfSome told (λ t. IsOf t.files (one ++ two))
-both_right one two None x y = tt
-both_right one two (Some t) x y = right_more (IsSeen t.files) one two x y
+both_right one two told x y = of_both told x y (λ t. right_more (IsSeen t.files) one two)
 
 -- one after the other
 pub once_then : {failed : Bool} {a b c : Held} → ReadOnce false a b → ReadOnce failed b c → ReadOnce failed a c

@@ -1,21 +1,22 @@
 -- Reading files: one after the other, and what a reader makes of what is kept.
-use Rattle.std.proofs.Common.{◌≡◌, Bool, true, false, ℕ, List, refl, ap, sym, subst, ◌∙◌}
+use Rattle.std.proofs.Common.{◌≡◌, Bool, false, refl, ap, sym, subst}
 use Rattle.std.specs.Prelude.{Option, Some, None, IfSome, Result, Ok, Err}
 use Rattle.vk_spec.specs.Paths.{Path}
 use Rattle.vk_spec.specs.Files.{Files}
 use Rattle.vk_spec.specs.Reading.{◌>>=◌, Gives, Fails}
-use Rattle.vk_spec.specs.States.{Told, State, OnlyRead}
+use Rattle.vk_spec.specs.States.{Told}
 use Rattle.vk_spec.proofs.StateLemmas.{told_before}
 use Rattle.vk_spec.proofs.ReadingLemmas.{fails_on, gives_then}
 use Rattle.vk_json.specs.Documents.{Fault}
 use Rattle.vk_files.specs.Kept.{Seen, Kept, seen_at, paths_of, IsOf, IsSeen, Held, ReadOnce}
-use Rattle.vk_files.specs.StopViews.{refusal_in, is_tree_failed, has_tree_failed, stop_after, has_look_failed}
+use Rattle.vk_files.specs.StopViews.{refusal_in, has_tree_failed, stop_after, has_look_failed}
 use Rattle.vk_files.specs.Views.{kept_at, same_path}
-use Rattle.vk_files.specs.Readings.{Bad, IsFaultOf, told_at, seen_file, file_at, ReadsAs}
+use Rattle.vk_files.specs.Readings.{Bad, IsFaultOf, told_at, ReadsAs}
 use Rattle.vk_files.specs.declared.stops.Stop.{Stop}
 use Rattle.vk_files.specs.declared.stops.Stop.TheVariants as stop
 use Rattle.vk_files.proofs.OnceLemmas.{nothing_read, once_then}
 use Rattle.vk_files.proofs.NoteLemmas.{right_more, right_found}
+use Rattle.vk_spec.proofs.OptionLemmas.{of_each}
 use Rattle.vk_files.proofs.CacheLemmas.{path_is}
 use Rattle.vk_files.specs.declared.stops.LookStop.{LookStop}
 use Rattle.vk_files.specs.declared.stops.LookStop.TheVariants as look
@@ -29,10 +30,6 @@ told_fails path read fault None is fails = tt
 told_fails path read None (Some bad) is fails = (cc)
 told_fails path read (Some f) (Some bad) is fails = rw fails (ap Err (bad_is path f bad is.0 (cc)))
 
-everywhere : {P : Told → Type 0} (told : Option Told) → ((t : Told) → P t) → IfSome told P
-everywhere None each = tt
-everywhere (Some t) each = each t
-
 -- what was kept, and what was kept since, is right
 pub still_right : {failed : Bool} {a b : Held} → ReadOnce failed a b → IfSome a.tree.told (λ t. IsOf t.files a.kept → IsOf t.files b.kept)
 still_right {a = a} {b = b} r = by a.tree.told r.right
@@ -45,7 +42,7 @@ still_right {a = a} {b = b} r = by a.tree.told r.right
 pub reads_pure : {X Y F P : Type 0} (refusal : F → P) (view : X → Y) (answer : Result X (Stop F)) (meaning : Files → Result Y P) (h : Held) → has_tree_failed answer ≡ false → ((f : Files) → Gives view (refusal_in refusal) answer (meaning f)) → ReadsAs refusal view answer meaning h h
 reads_pure refusal view answer meaning h calm gives = record {
   once = rw calm (nothing_read h);
-  content = everywhere h.tree.told (λ t _. gives t.files);
+  content = of_each h.tree.told (λ t _. gives t.files);
 }
 
 -- want of memory
@@ -80,8 +77,8 @@ reads_stopped {refusal = refusal} {s = s} {meaning = meaning} {a = a} next_view 
 
 -- a path that wasn't looked at tells nothing
 pub not_looked : {X Y F P : Type 0} (refusal : F → P) (view : X → Y) (meaning : Files → Result Y P) (s : LookStop) (a b : Held) → ReadOnce (has_look_failed {X = Unit {0}} (Err s)) a b → ReadsAs {X = X} refusal view (Err (stop_after s)) meaning a b
-not_looked refusal view meaning look.TreeFailed a b once = record { once = once; content = everywhere a.tree.told (λ t _. tt) }
-not_looked refusal view meaning look.Memory a b once = record { once = once; content = everywhere a.tree.told (λ t _. tt) }
+not_looked refusal view meaning look.TreeFailed a b once = record { once = once; content = of_each a.tree.told (λ t _. tt) }
+not_looked refusal view meaning look.Memory a b once = record { once = once; content = of_each a.tree.told (λ t _. tt) }
 
 seen_there : (path : Path) (seen : Seen) (files : Files) (kept : Kept) → IsOf files kept → kept_at path kept ≡ Some seen → seen ≡ seen_at path files
 seen_there path seen files kept right found = right_found (IsSeen files) same_path path_is kept path seen right found

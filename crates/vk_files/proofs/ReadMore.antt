@@ -1,10 +1,10 @@
 -- What was read is known of the files before, also where memory was wanting in the end.
 use Rattle.std.proofs.Common.{◌≡◌, Bool, false}
-use Rattle.std.specs.Prelude.{Option, Some, None, IfSome, Result, Err}
+use Rattle.std.specs.Prelude.{IfSome, Result, Err}
 use Rattle.std.specs.Result.{IsErrAnd}
 use Rattle.std.proofs.lemmas.Result.{err_from_is_err_and}
 use Rattle.vk_spec.specs.Files.{Files}
-use Rattle.vk_spec.specs.States.{Told}
+use Rattle.vk_spec.proofs.OptionLemmas.{of_each, of_both}
 use Rattle.vk_spec.proofs.StateLemmas.{told_before}
 use Rattle.vk_files.specs.Kept.{paths_of, IsOf, Held, ReadOnce}
 use Rattle.vk_files.specs.Readings.{ReadsAs, ReadsNoting}
@@ -13,18 +13,10 @@ use Rattle.vk_files.specs.declared.stops.Stop.TheVariants as stop
 use Rattle.vk_files.proofs.OnceLemmas.{nothing_read}
 use Rattle.vk_files.proofs.ReadLemmas.{still_right}
 
-pub each_told : {P : Told → Type 0} (told : Option Told) → ((t : Told) → P t) → IfSome told P
-each_told None each = tt
-each_told (Some t) each = each t
-
-pub two_told : {P Q R : Told → Type 0} (told : Option Told) → IfSome told P → IfSome told Q → ((t : Told) → P t → Q t → R t) → IfSome told R
-two_told None p q join = tt
-two_told (Some t) p q join = join t p q
-
 -- what is known of the files after reading is known of those before
 pub known_before : {failed : Bool} {a b : Held} (P : Files → Type 0) → ReadOnce failed a b → IfSome b.tree.told (λ t. IsOf t.files b.kept → P t.files) → IfSome a.tree.told (λ t. IsOf t.files a.kept → P t.files)
 known_before {a = a} {b = b} P r known =
-    two_told a.tree.told (still_right r) (told_before (λ f. IsOf f b.kept → P f) (record { asked = paths_of r.more; looks = r.looks }) known) (λ t right gives old. gives (right old))
+    of_both a.tree.told (still_right r) (told_before (λ f. IsOf f b.kept → P f) (record { asked = paths_of r.more; looks = r.looks }) known) (λ t right gives old. gives (right old))
 
 -- files were read, and then memory was wanting
 pub once_lacking : {X Y F P : Type 0} {refusal : F → P} {view : X → Y} {answer : Result X (Stop F)} {meaning : Files → Result Y P} {a b : Held}
@@ -34,7 +26,7 @@ once_lacking {X = X} {refusal = refusal} {view = view} {answer = answer} {meanin
     rw (p.1, p.2) lacking
   where
     lacking : ReadsAs {X = X} refusal view (Err stop.Memory) meaning a b
-    lacking = record { once = once; content = each_told a.tree.told (λ t _. tt) }
+    lacking = record { once = once; content = of_each a.tree.told (λ t _. tt) }
 
 -- memory was wanting before anything was read
 pub reads_wanting : {X Y F P : Type 0} {refusal : F → P} {view : X → Y} {answer : Result X (Stop F)} {meaning : Files → Result Y P} {h : Held} → IsErrAnd answer (λ e. e ≡ stop.Memory) → ReadsAs refusal view answer meaning h h
@@ -48,7 +40,7 @@ noting_lacking {X = X} {refusal = refusal} {view = view} {answer = answer} {mean
     rw (p.1, p.2) lacking
   where
     lacking : ReadsNoting {X = X} refusal view (Err stop.Memory) meaning Before After a b
-    lacking = record { once = once; content = each_told a.tree.told (λ t old before. (still t.files before, tt)) }
+    lacking = record { once = once; content = of_each a.tree.told (λ t old before. (still t.files before, tt)) }
 
 pub noting_wanting : {X Y F P : Type 0} {refusal : F → P} {view : X → Y} {answer : Result X (Stop F)} {meaning : Files → Result Y P} {Known : Files → Type 0} {h : Held}
     → IsErrAnd answer (λ e. e ≡ stop.Memory) → ReadsNoting refusal view answer meaning Known Known h h

@@ -1,5 +1,5 @@
 -- What was read of a tree, by path: each path is asked for once.
-use Rattle.std.specs.Prelude.{◌≡◌, ◌++◌, ℕ, Bool, List, [], ◌∷◌, length, map, nat_lt, Option, Some, None, IfSome, if◌then◌else◌}
+use Rattle.std.specs.Prelude.{◌≡◌, ◌++◌, ℕ, Bool, List, length, map, nat_lt, Option, Some, None, IfSome, if◌then◌else◌}
 use Rattle.std.specs.FinMap as files_map
 use Rattle.vk_spec.specs.Paths.{Path}
 use Rattle.vk_spec.specs.Files.{Files}

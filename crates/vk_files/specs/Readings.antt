@@ -1,5 +1,5 @@
 -- What files of a tree mean, and what reading them answers and leaves.
-use Rattle.std.specs.Prelude.{◌≡◌, ℕ, List, Option, Some, IfSome, Result, Ok, Err}
+use Rattle.std.specs.Prelude.{◌≡◌, ℕ, Bool, true, false, List, Option, Some, IfSome, Result, Ok, Err}
 use Rattle.vk_spec.specs.Paths.{Path}
 use Rattle.vk_spec.specs.Files.{Files}
 use Rattle.vk_spec.specs.Reading.{Gives}
@@ -53,6 +53,15 @@ standing_by (holds bytes) = readable
 
 abbrev pub standing_at : Path → Files → Standing
 standing_at path files = standing_by (seen_at path files)
+
+-- a file stands there, be it too long or not
+abbrev pub is_there : Standing → Bool
+is_there missing = false
+is_there too_long = true
+is_there readable = true
+
+abbrev pub is_at : Files → Path → Bool
+is_at files path = is_there (standing_at path files)
 
 -- nothing but reading was done, each path for the first time; and where the files are told and what was kept is theirs, the answer is what they give
 pub record ReadsAs {X Y F P : Type 0} (refusal : F → P) (view : X → Y) (answer : Result X (Stop F)) (meaning : Files → Result Y P) (before after : Held) : Type 0 where

@@ -4,7 +4,7 @@ ghost use Rattle.vk_json.specs.Documents.{Fault};
 ghost use Rattle.vk_json.specs.DocumentView.{file_fault_of};
 ghost use Rattle.vk_files.specs.Views.{held, seen_view};
 ghost use Rattle.vk_files.specs.StopViews.{refusal_in, is_tree_failed, has_tree_failed};
-ghost use Rattle.vk_files.specs.Readings.{ReadsAs, IsFaultOf, told_at, bad_view, file_at, seen_file, standing_at, standing_by};
+ghost use Rattle.vk_files.specs.Readings.{ReadsAs, IsFaultOf, told_at, bad_view, file_at, seen_file, standing_at, standing_by, is_there};
 ghost use Rattle.vk_files.specs.StandingViews.{standing_view};
 
 use crate::caches::FileCache;
@@ -41,6 +41,18 @@ pub enum Standing {
     TooLong,
     /// It can be read.
     Readable,
+}
+
+impl Standing {
+    /// Whether a file stands there, be it too long or not.
+    pub fn is_there(self) -> bool
+        ensures { result ≡ is_there (standing_view self) }
+    {
+        match self {
+            Standing::Missing => false,
+            Standing::TooLong | Standing::Readable => true,
+        }
+    }
 }
 
 // The fault of a file, with the file.

@@ -1,8 +1,9 @@
 -- Places in a document: JSON Pointers (RFC 6901).
-use Rattle.std.specs.Prelude.{◌++◌, ◌==◌, ℕ, List, [], codes, decimal, Result, Ok, Err, if◌then◌else◌}
+use Rattle.std.specs.Prelude.{◌++◌, ◌==◌, ℕ, List, [], ◌∷◌, codes, decimal, Result, Ok, Err, if◌then◌else◌}
 use Rattle.std.specs.List.{flat_map}
 use Rattle.std.specs.Str.{chars}
 use Rattle.std.specs.Char.{encode_utf8}
+use Rattle.vk_base.specs.Tokens.{token_of}
 use Rattle.vk_json.specs.Documents.{Fault}
 use Rattle.vk_json.specs.declared.faults.Why.{Why}
 
@@ -34,3 +35,8 @@ moved step fault = (step ++ fault.0, fault.1)
 abbrev pub inside : {A : Type 0} → List ℕ → Result A Fault → Result A Fault
 inside step (Ok x) = Ok x
 inside step (Err fault) = Err (moved step fault)
+
+-- a place as it is printed: its token, and `-` for the whole document
+abbrev pub place_text : List ℕ → List ℕ
+place_text [] = codes "-"
+place_text (b ∷ bytes) = token_of (b ∷ bytes)

@@ -1,12 +1,12 @@
 //! Places in a document are JSON Pointers (RFC 6901).
 ghost use Rattle.std.specs.Prelude.{◌≡◌, ◌++◌, IfOk, Some, OnOk, codes, string_bytes};
-ghost use Rattle.vk_json.specs.Places.{escaped_char, escaped, member_step, item_step, here};
+ghost use Rattle.vk_json.specs.Places.{escaped_char, escaped, member_step, item_step, here, place_text};
 ghost use Rattle.vk_json.specs.DocumentView.{file_fault_of};
 ghost use Rattle.vk_json.specs.FaultViews.{IsMoved};
 
 use crate::faults::{FileFault, Why};
 use std::alloc::Global;
-use vk_base::{Memory, Text};
+use vk_base::{Memory, Text, token};
 
 // Puts a character of a key: `~` is `~0` and `/` is `~1`.
 fn push_escaped_char(place: &mut String, c: char) -> Result<(), Memory>
@@ -45,6 +45,16 @@ pub fn at(alloc: Global, place: &Text, n: usize) -> Result<Text, Memory>
 {
     let place = place.as_str();
     Ok(Text::from_string(format!(in alloc; "{place}/{n}")?))
+}
+
+/// A place as it is printed: its token, and `-` for the whole document.
+pub fn place_text(alloc: Global, place: &Text) -> Result<Text, Memory>
+    ensures { IfOk result (λ t. t ≡ place_text place.now) }
+{
+    if place.is_empty() {
+        return Ok(Text::from_str(alloc, "-")?);
+    }
+    token(alloc, place.as_bytes())
 }
 
 /// The fault that the value itself is wrong.

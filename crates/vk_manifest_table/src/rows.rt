@@ -9,9 +9,9 @@
 use crate::lines::line;
 use std::alloc::Global;
 use vk_base::{FeatureName, NameFault, PortName, Text};
-use vk_json::{FileFault, Why};
+use vk_json::{FileFault, Why, place_text};
 use vk_manifest::read_manifest;
-use vk_table::{Answering, Reply, Stop, bytes_of, cut, place_of, text_of};
+use vk_table::{Answering, Reply, Stop, bytes_of, cut, text_of};
 
 /// Answers rows about manifests, names and the words of faults.
 #[derive(Drop)]
@@ -21,7 +21,7 @@ pub struct Manifests;
 const MOST_BYTES: usize = 16_777_216;
 
 fn wrong(alloc: Global, place: &Text, why: Why) -> Result<Text, Stop> {
-    let place = place_of(alloc, place)?;
+    let place = place_text(alloc, place)?;
     let word = why.word(alloc)?;
     Ok(Text::from_string(format!(in alloc; "{place} {word}")?))
 }

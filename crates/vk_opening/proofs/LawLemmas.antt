@@ -12,7 +12,7 @@ use Rattle.vk_config.specs.Configs.{Config}
 use Rattle.vk_config.specs.Readings.{config_of}
 use Rattle.vk_config.specs.Embedding.{has_both, embedded_at}
 use Rattle.vk_files.specs.Kept.{Seen, seen_in, seen_at, absent, too_large, holds}
-use Rattle.vk_files.specs.Readings.{Standing, missing, too_long, readable, standing_by, standing_at, seen_file, told_at}
+use Rattle.vk_files.specs.Readings.{Standing, missing, too_long, readable, standing_by, standing_at, is_at, seen_file, told_at}
 use Rattle.vk_model.specs.declared.projects.Project.{Project}
 use Rattle.vk_spec.specs.Earlies.{Early, bad_file, two_configurations, no_triplet}
 use Rattle.vk_opening.specs.Starts.{Overlay}
@@ -20,7 +20,7 @@ use Rattle.vk_opening.specs.Laws.{AgreeAt, LacksTriplet, NoneHas, triplet_paths,
 use Rattle.vk_opening.specs.Projects.{manifest_path, config_path, triplet_path, folders_of}
 use Rattle.vk_opening.specs.Roots.{Root, root_in, or_early, early_at, port_in}
 use Rattle.vk_opening.specs.Configurations.{has_configuration, config_by, config_in}
-use Rattle.vk_opening.specs.TripletFiles.{Triplets, is_at, triplet_in, triplet_file, triplet_at, triplets_at}
+use Rattle.vk_opening.specs.TripletFiles.{Triplets, triplet_in, triplet_file, triplet_at, triplets_at}
 use Rattle.vk_opening.specs.Overlays.{overlay_by, overlay_at, overlays_at}
 use Rattle.vk_opening.specs.Openings.{Opening, triplets_of, overlays_of, opened_of}
 use Rattle.vk_opening.proofs.OpenLemmas.{after_root, after_config, after_triplets, after_overlays}

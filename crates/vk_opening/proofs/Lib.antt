@@ -1,6 +1,5 @@
 pub mod PartLemmas
 pub mod LoopLemmas
-pub mod SearchLemmas
 pub mod TripletLemmas
 pub mod OpenLemmas
 pub mod LawLemmas

@@ -4,22 +4,19 @@ use Rattle.std.specs.Prelude.{IfSome, Result, Ok, Err}
 use Rattle.std.proofs.lemmas.List.{map-append}
 use Rattle.vk_spec.specs.Reading.{read_each, Gives}
 use Rattle.vk_spec.specs.Files.{Files}
-use Rattle.vk_spec.proofs.ReadingLemmas.{with_front, goes_on_with, ends_with, is_done_with}
+use Rattle.vk_spec.proofs.ReadingLemmas.{with_front, nothing_yet, goes_on_with, ends_with, is_done_with}
 use Rattle.vk_files.specs.Kept.{IsOf, Held, ReadOnce}
 use Rattle.vk_files.specs.StopViews.{refusal_in}
 use Rattle.vk_files.specs.Readings.{ReadsAs}
 use Rattle.vk_files.specs.declared.stops.Stop.{Stop}
 use Rattle.vk_files.proofs.OnceLemmas.{nothing_read, once_then}
-use Rattle.vk_files.proofs.ReadMore.{each_told, two_told, known_before}
+use Rattle.vk_spec.proofs.OptionLemmas.{of_each, of_both}
+use Rattle.vk_files.proofs.ReadMore.{known_before}
 
 -- nothing failed so far, and what is read of the members that are left goes on to what is read of all
 pub record ReadSoFar {X R A P : Type 0} (out : R → A) (one : X → Files → Result A P) (front : List R) (left all : List X) (before now : Held) : Type 0 where
   pub once : ReadOnce false before now
   pub content : IfSome before.tree.told (λ t. IsOf t.files before.kept → with_front (map out front) (read_each (λ _ x. one x t.files) 0 left) ≡ read_each (λ _ x. one x t.files) 0 all)
-
-nothing_yet : {A F : Type 0} (read : Result (List A) F) → with_front [] read ≡ read
-nothing_yet (Ok xs) = refl
-nothing_yet (Err fault) = refl
 
 -- a list without length
 pub nothing_left : {X : Type 0} (left : List X) → length left ≡ 0 → left ≡ []
@@ -30,7 +27,7 @@ nothing_left (x ∷ left) none = absurd (omega arith)
 pub so_far_none : {X R A P : Type 0} (out : R → A) (one : X → Files → Result A P) (front : List R) (left all : List X) (h : Held) → front ≡ [] → left ≡ all → ReadSoFar out one front left all h h
 so_far_none out one front left all h none is = record {
   once = nothing_read h;
-  content = rw (none, is) (each_told h.tree.told (λ t _. nothing_yet (read_each (λ _ x. one x t.files) 0 all)));
+  content = rw (none, is) (of_each h.tree.told (λ t _. nothing_yet (read_each (λ _ x. one x t.files) 0 all)));
 }
 
 module _ {X R A F P : Type 0} (refusal : F → P) (out : R → A) (one : X → Files → Result A P) where
@@ -39,7 +36,7 @@ module _ {X R A F P : Type 0} (refusal : F → P) (out : R → A) (one : X → F
       → ReadSoFar out one front now all a b → ReadsAs refusal out (Ok y) (one x) b c → ReadSoFar out one (front ++ y ∷ []) left all a c
   so_far_more front x y now left all a b c is so_far then = record {
     once = once_then so_far.once then.once;
-    content = rw (map-append out front (y ∷ [])) (two_told a.tree.told so_far.content (known_before (λ f. one x f ≡ Ok (out y)) so_far.once then.content)
+    content = rw (map-append out front (y ∷ [])) (of_both a.tree.told so_far.content (known_before (λ f. one x f ≡ Ok (out y)) so_far.once then.content)
         (λ t sofar gives old. goes_on_with (λ x. one x t.files) (map out front) x (out y) left _ (gives old) (rw is at sofar old)));
   }
 
@@ -48,7 +45,7 @@ module _ {X R A F P : Type 0} (refusal : F → P) (out : R → A) (one : X → F
       → ReadSoFar out one front now all a b → ReadsAs {X = R} refusal out (Err s) (one x) b c → ReadsAs {X = List R} refusal (λ l. map out l) (Err s) (λ f. read_each (λ _ x. one x f) 0 all) a c
   so_far_stopped front s x now left all a b c is so_far then = record {
     once = once_then so_far.once then.once;
-    content = two_told a.tree.told so_far.content (known_before (λ f. Gives {X = R} out (refusal_in refusal) (Err s) (one x f)) so_far.once then.content)
+    content = of_both a.tree.told so_far.content (known_before (λ f. Gives {X = R} out (refusal_in refusal) (Err s) (one x f)) so_far.once then.content)
         (λ t sofar fails old. ends_with (refusal_in refusal s) (λ x. one x t.files) (map out front) x left _ (fails old) (rw is at sofar old));
   }
 
@@ -57,5 +54,5 @@ module _ {X R A F P : Type 0} (refusal : F → P) (out : R → A) (one : X → F
       → ReadSoFar out one front now all a b → ReadsAs {F = F} refusal (λ l. map out l) (Ok front) (λ f. read_each (λ _ x. one x f) 0 all) a b
   so_far_all front now all a b is so_far = record {
     once = so_far.once;
-    content = two_told a.tree.told so_far.content so_far.content (λ t sofar _ old. is_done_with (λ x. one x t.files) (map out front) _ (rw is at sofar old));
+    content = of_both a.tree.told so_far.content so_far.content (λ t sofar _ old. is_done_with (λ x. one x t.files) (map out front) _ (rw is at sofar old));
   }

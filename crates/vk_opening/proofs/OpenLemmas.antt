@@ -31,7 +31,7 @@ use Rattle.vk_opening.specs.declared.opens.Opened.TheVariants as opened
 use Rattle.vk_opening.specs.declared.opens.OpenStop.{OpenStop}
 use Rattle.vk_model.specs.declared.earlies.Early.{Early}
 use Rattle.vk_opening.specs.declared.opens.Opening.{Opening}
-use Rattle.vk_files.proofs.ReadMore.{two_told}
+use Rattle.vk_spec.proofs.OptionLemmas.{of_both}
 
 -- what is read after each step
 abbrev pub after_overlays : Project → Root → Config → Triplets → List Overlay → Files → Result plain.Opening early.Early
@@ -54,28 +54,28 @@ opens_with project (Ok o) files before after kept none distinct r = record {
   once = rw none at r.once;
   distinct = distinct;
   kept = refl;
-  content = two_told before.told r.content r.content (λ t is _. is (rw none tt));
+  content = of_both before.told r.content r.content (λ t is _. is (rw none tt));
 }
 opens_with project (Err (stop.Refused early)) files before after kept none distinct r = record {
   read = kept_of files;
   once = rw none at r.once;
   distinct = distinct;
   kept = tt;
-  content = two_told before.told r.content r.content (λ t is _. is (rw none tt));
+  content = of_both before.told r.content r.content (λ t is _. is (rw none tt));
 }
 opens_with project (Err stop.TreeFailed) files before after kept none distinct r = record {
   read = kept_of files;
   once = rw none at r.once;
   distinct = distinct;
   kept = tt;
-  content = two_told before.told r.content r.content (λ t is _. tt);
+  content = of_both before.told r.content r.content (λ t is _. tt);
 }
 opens_with project (Err stop.Memory) files before after kept none distinct r = record {
   read = kept_of files;
   once = rw none at r.once;
   distinct = distinct;
   kept = tt;
-  content = two_told before.told r.content r.content (λ t is _. tt);
+  content = of_both before.told r.content r.content (λ t is _. tt);
 }
 
 -- what a caller has of it: nothing but reading was done, no path twice, and what was read is the files'
@@ -86,4 +86,4 @@ pub none_twice : {project : Project} {answer : Result Opened OpenStop} {before a
 none_twice o = subst (λ kept. NoRepeats (paths_of kept)) o.once.kept o.distinct
 
 pub start_right : {project : Project} {setting : Setting} {start : Start} {before after : State} → Opens project (Ok (opened.Ready setting start)) before after → IfSome before.told (λ t. IsOf t.files (opened_files start))
-start_right {before = before} o = two_told before.told o.once.right o.once.right (λ t right _. subst (IsOf t.files) (sym o.once.kept ∙ o.kept) right)
+start_right {before = before} o = of_both before.told o.once.right o.once.right (λ t right _. subst (IsOf t.files) (sym o.once.kept ∙ o.kept) right)

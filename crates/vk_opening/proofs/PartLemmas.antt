@@ -1,17 +1,32 @@
--- Texts that are parts of a path: a name, and more after it.
-use Rattle.std.proofs.Common.{◌≡◌, ◌≢◌, ◌&&◌, ◌==◌, ℕ, Bool, true, false, not, eqb, List, [], ◌∷◌, ◌++◌, length, refl, arith, codes}
+-- Texts that are parts of a path: a name, or its first byte, and more after it.
+use Rattle.std.proofs.Common.{◌≡◌, ◌≢◌, ◌&&◌, ◌||◌, ◌==◌, ℕ, Bool, true, false, not, eqb, List, [], ◌∷◌, ◌++◌, length, get_or, take, refl, arith}
+use Rattle.std.specs.Prelude.{nat_le}
 use Rattle.std.specs.List.{All}
 use Rattle.std.proofs.lemmas.Bool.Decides.{nat_tests}
 use Rattle.std.proofs.lemmas.List.Elements.{All-append, All-cons, All-nil, All-head, All-tail}
-use Rattle.vk_base.specs.Names.{IsName, word_rule}
+use Rattle.vk_base.specs.Names.{NameRule, IsName, is_name_byte}
 use Rattle.vk_base.specs.Paths.{is_part, lacks}
 
 -- neither `/` nor 0
 abbrev is_inside : ℕ → Bool
 is_inside b = not (b == 47) && not (b == 0)
 
-abbrev pub IsInside : ℕ → Type 0
+abbrev IsInside : ℕ → Type 0
 IsInside b = is_inside b ≡ true
+
+-- the same of each byte, as a test that computes
+abbrev pub all_inside : List ℕ → Bool
+all_inside [] = true
+all_inside (b ∷ text) = is_inside b && all_inside text
+
+and_both : (a b : Bool) → (a && b) ≡ true → (a ≡ true) × (b ≡ true)
+and_both true true e = (refl, refl)
+and_both true false e = (cc)
+and_both false b e = (cc)
+
+insides : (text : List ℕ) → all_inside text ≡ true → All IsInside text
+insides [] e = All-nil IsInside
+insides (b ∷ text) e = let p = and_both (is_inside b) (all_inside text) e in All-cons IsInside b text p.0 (insides text p.1)
 
 lacks_slash : (text : List ℕ) → All IsInside text → lacks 47 text ≡ true
 lacks_slash [] all = refl
@@ -36,16 +51,38 @@ part_of b text dot all =
     let some : eqb (length (b ∷ text)) 0 ≡ false = grind (arith, nat_tests) in
     rw (some, other, slash, zero) refl
 
-word_inside : (text : List ℕ) → IsName word_rule text → All IsInside text
-word_inside text name k d within = let byte = name.bytes k d within in grind (arith, nat_tests)
+byte_inside : (rule : NameRule) (b : ℕ) → is_name_byte rule b ≡ true → IsInside b
+byte_inside rule b = by rule.underscore
+  where
+    by : (under : Bool) → ((nat_le 97 b && nat_le b 122) || (nat_le 48 b && nat_le b 57) || (b == 45) || (under && b == 95)) ≡ true → IsInside b
+    by true byte = grind (arith, nat_tests)
+    by false byte = grind (arith, nat_tests)
 
-first_inside : (b : ℕ) (rest : List ℕ) → IsName word_rule (b ∷ rest) → b ≢ 46
-first_inside b rest name e = let byte = name.bytes 0 b (omega arith) in let clash : true ≡ false = grind (arith, nat_tests) in (cc)
+byte_no_dot : (rule : NameRule) (b : ℕ) → is_name_byte rule b ≡ true → b ≢ 46
+byte_no_dot rule b byte e = by rule.underscore byte
+  where
+    by : (under : Bool) → ((nat_le 97 b && nat_le b 122) || (nat_le 48 b && nat_le b 57) || (b == 45) || (under && b == 95)) ≡ true → ⊥
+    by true byte = let clash : true ≡ false = grind (arith, nat_tests) in (cc)
+    by false byte = let clash : true ≡ false = grind (arith, nat_tests) in (cc)
 
--- a word with more after it is a part
-pub word_part : (name more : List ℕ) → IsName word_rule name → All IsInside more → is_part (name ++ more) ≡ true
-word_part [] more name all = absurd (omega (arith, name.some))
-word_part (b ∷ rest) more name all = part_of b (rest ++ more) (first_inside b rest name) (All-append IsInside (b ∷ rest) more (word_inside (b ∷ rest) name) all)
+module _ (rule : NameRule) where
+  name_inside : (text : List ℕ) → IsName rule text → All IsInside text
+  name_inside text name k d within = byte_inside rule (get_or text k d) (name.bytes k d within)
 
-pub cmake_inside : All IsInside (codes ".cmake")
-cmake_inside = All-cons IsInside 46 (codes "cmake") refl (All-cons IsInside 99 (codes "make") refl (All-cons IsInside 109 (codes "ake") refl (All-cons IsInside 97 (codes "ke") refl (All-cons IsInside 107 (codes "e") refl (All-cons IsInside 101 [] refl (All-nil IsInside))))))
+  first_no_dot : (b : ℕ) (rest : List ℕ) → IsName rule (b ∷ rest) → b ≢ 46
+  first_no_dot b rest name = byte_no_dot rule b (name.bytes 0 b (omega arith))
+
+  -- a name
+  pub name_is_part : (name : List ℕ) → IsName rule name → is_part name ≡ true
+  name_is_part [] name = absurd (omega (arith, name.some))
+  name_is_part (b ∷ rest) name = part_of b rest (first_no_dot b rest name) (name_inside (b ∷ rest) name)
+
+  -- a name with more after it
+  pub name_part : (name more : List ℕ) → IsName rule name → all_inside more ≡ true → is_part (name ++ more) ≡ true
+  name_part [] more name all = absurd (omega (arith, name.some))
+  name_part (b ∷ rest) more name all = part_of b (rest ++ more) (first_no_dot b rest name) (All-append IsInside (b ∷ rest) more (name_inside (b ∷ rest) name) (insides more all))
+
+  -- a name's first byte with more after it
+  pub letter_part : (name more : List ℕ) → IsName rule name → all_inside more ≡ true → is_part (take 1 name ++ more) ≡ true
+  letter_part [] more name all = absurd (omega (arith, name.some))
+  letter_part (b ∷ rest) more name all = part_of b more (first_no_dot b rest name) (All-cons IsInside b more (byte_inside rule b (name.bytes 0 b (omega arith))) (insides more all))

@@ -1,11 +1,13 @@
--- Two triplets, of which the second may be the first.
-use Rattle.std.proofs.Common.{◌≡◌, ℕ, List, refl}
-use Rattle.std.specs.Prelude.{Result, Ok}
+-- A triplet's path as it is found, and two triplets, of which the second may be the first.
+use Rattle.std.proofs.Common.{◌≡◌, ℕ, List, refl, subst}
+use Rattle.std.specs.Prelude.{Option, option_map, Result, Ok}
+use Rattle.std.proofs.lemmas.Iterator.Adapters.{option_map_id}
 use Rattle.vk_spec.specs.Reading.{◌>>=◌}
 use Rattle.vk_spec.specs.Paths.{Path}
 use Rattle.vk_spec.specs.Files.{Files}
 use Rattle.vk_files.specs.Kept.{Held}
 use Rattle.vk_files.specs.Readings.{ReadsAs}
+use Rattle.vk_files.specs.declared.stops.Stop.{Stop}
 use Rattle.vk_triplet.specs.TripletViews.{triplet_view}
 use Rattle.vk_triplet.specs.declared.triplets.Triplet.{Triplet}
 use Rattle.vk_triplet.specs.TripletReadings as plain
@@ -13,7 +15,11 @@ use Rattle.vk_spec.specs.Earlies.{Early}
 use Rattle.vk_opening.specs.TripletFiles.{Triplets, triplet_at, triplets_at}
 use Rattle.vk_opening.specs.Views.{triplets_view}
 use Rattle.vk_model.specs.EarlyViews.{early_view}
-use Rattle.vk_files.proofs.ReadMore.{two_told}
+use Rattle.vk_spec.proofs.OptionLemmas.{of_both}
+
+-- what may be there is seen as it is
+pub as_it_is : {X F P : Type 0} {refusal : F → P} {answer : Result (Option X) (Stop F)} {meaning : Files → Result (Option X) P} {a b : Held} → ReadsAs refusal (option_map (λ x. x)) answer meaning a b → ReadsAs refusal (λ o. o) answer meaning a b
+as_it_is {refusal = refusal} {answer = answer} {meaning = meaning} {a = a} {b = b} read = subst (λ view. ReadsAs refusal view answer meaning a b) (λ i o. option_map_id o i) read
 
 -- what is read after the first triplet, and after the second
 abbrev pub after_second : plain.Triplet → plain.Triplet → Files → Result Triplets Early
@@ -28,7 +34,7 @@ pub read_for_both : (target host : List ℕ) (folders : List Path) (first second
 unfolding triplets_at
 read_for_both target host folders first second a b one same read = record {
   once = read.once;
-  content = two_told a.tree.told read.content read.content (λ t is _ old. both t.files (is old));
+  content = of_both a.tree.told read.content read.content (λ t is _ old. both t.files (is old));
 }
   where
     both : (files : Files) → triplet_at target folders files ≡ Ok (triplet_view first) → triplets_at target host folders files ≡ Ok (triplets_view (record { target = first; host = second }))

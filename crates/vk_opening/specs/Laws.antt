@@ -7,7 +7,7 @@ use Rattle.vk_spec.specs.Files.{Files}
 use Rattle.vk_config.specs.Configs.{Config}
 use Rattle.vk_model.specs.declared.projects.Project.{Project}
 use Rattle.vk_opening.specs.Projects.{manifest_path, config_path, triplet_path, folders_of}
-use Rattle.vk_opening.specs.TripletFiles.{is_at}
+use Rattle.vk_files.specs.Readings.{is_at}
 
 -- a folder hasn't the triplet; none of these has it
 abbrev pub LacksTriplet : List ℕ → Files → Path → Type 0

@@ -1,5 +1,5 @@
 -- The triplet of a name: the first file of that name in folders of triplets.
-use Rattle.std.specs.Prelude.{ℕ, Bool, true, false, List, map, Option, Some, None, Result, Ok, Err}
+use Rattle.std.specs.Prelude.{ℕ, List, map, Option, Some, None, Result, Ok, Err}
 use Rattle.std.specs.List.{find}
 use Rattle.vk_spec.specs.Reading.{◌>>=◌}
 use Rattle.vk_spec.specs.Paths.{Path}
@@ -10,7 +10,7 @@ use Rattle.vk_json.specs.Documents.{Fault}
 use Rattle.vk_fields.specs.Texts.{said_here}
 use Rattle.vk_triplet.specs.TripletReadings as triplet
 use Rattle.vk_triplet.specs.TripletReadings.{Triplet, triplet_of}
-use Rattle.vk_files.specs.Readings.{Standing, missing, too_long, readable, standing_at}
+use Rattle.vk_files.specs.Readings.{is_at}
 use Rattle.vk_spec.specs.Earlies.{Early, no_triplet}
 use Rattle.vk_opening.specs.Roots.{early_at}
 use Rattle.vk_opening.specs.Projects.{triplet_path}
@@ -23,15 +23,6 @@ triplet_word triplet.not_text = why.Utf8
 -- the triplet that a file of this name is; its faults are told of the whole
 unfoldable pub triplet_in : List ℕ → List ℕ → Result Triplet Fault
 triplet_in name bytes = said_here triplet_word (triplet_of name bytes)
-
--- a file stands there, be it too long or not
-abbrev pub is_there : Standing → Bool
-is_there missing = false
-is_there too_long = true
-is_there readable = true
-
-abbrev pub is_at : Files → Path → Bool
-is_at files path = is_there (standing_at path files)
 
 -- the first of the folders' files of a triplet that is there
 unfoldable pub triplet_file : List ℕ → List Path → Files → Option Path

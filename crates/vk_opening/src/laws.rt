@@ -3,7 +3,7 @@ ghost use Rattle.std.specs.Prelude.{◌≡◌, ◌++◌, ◌∷◌, [], ℕ, Lis
 ghost use Rattle.vk_spec.specs.Files.{Files};
 ghost use Rattle.vk_spec.specs.Paths.{Path};
 ghost use Rattle.vk_config.specs.Embedding.{has_both};
-ghost use Rattle.vk_files.specs.Readings.{missing, too_long, readable, standing_at};
+ghost use Rattle.vk_files.specs.Readings.{missing, too_long, readable, standing_at, is_at};
 ghost use Rattle.vk_model.specs.declared.projects.Project.{Project};
 ghost use Rattle.vk_opening.specs.Configurations.{has_configuration};
 ghost use Rattle.vk_spec.specs.Earlies.{bad_file, two_configurations, no_triplet};
@@ -11,7 +11,7 @@ ghost use Rattle.vk_opening.specs.Laws.{AgreeAt, NoneHas, early_paths};
 ghost use Rattle.vk_opening.specs.Openings.{Opening, opened_of};
 ghost use Rattle.vk_opening.specs.Projects.{manifest_path, config_path, triplet_path};
 ghost use Rattle.vk_opening.specs.Roots.{Root, root_in, early_at};
-ghost use Rattle.vk_opening.specs.TripletFiles.{triplet_in, is_at, triplet_at};
+ghost use Rattle.vk_opening.specs.TripletFiles.{triplet_in, triplet_at};
 
 /// Where a root manifest reads, two configurations are refused whatever they hold: one in it beside a
 /// file, or two in it. A configuration file that is too long is told before that.

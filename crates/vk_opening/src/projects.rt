@@ -42,8 +42,8 @@ pub fn triplet_path(
     folder.child(alloc, file.as_str())
 }
 
-/// A path of the configuration, which is taken from the project's folder. A path with more steps up
-/// than 32 bits count is told as want of memory.
+/// A path that is taken from a folder. One with more steps up than 32 bits count is told as want of
+/// memory.
 pub fn from_folder(alloc: Global, folder: &TreePath, path: &TreePath) -> Result<TreePath, Memory>
     ensures { IfOk result (λ p. p ≡ joined folder.now path.now) }
 {

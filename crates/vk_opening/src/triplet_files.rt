@@ -8,18 +8,17 @@ ghost use Rattle.vk_triplet.specs.TripletViews.{triplet_view};
 ghost use Rattle.vk_triplet.specs.Views.{triplet_fault_of};
 ghost use Rattle.vk_files.specs.Views.{held};
 ghost use Rattle.vk_files.specs.StopViews.{refusal_in, is_tree_failed};
-ghost use Rattle.vk_files.specs.StandingViews.{standing_view};
-ghost use Rattle.vk_files.specs.Readings.{ReadsAs};
+ghost use Rattle.vk_files.specs.Readings.{ReadsAs, is_at};
 ghost use Rattle.vk_spec.specs.Earlies as early;
 ghost use Rattle.vk_model.specs.EarlyViews.{early_view};
-ghost use Rattle.vk_opening.specs.TripletFiles.{triplet_word, triplet_in, is_there, is_at, triplet_file, triplet_from, triplet_at, triplets_at};
+ghost use Rattle.vk_opening.specs.TripletFiles.{triplet_word, triplet_in, triplet_file, triplet_from, triplet_at, triplets_at};
 ghost use Rattle.vk_opening.specs.Views.{triplets_view};
 
 use crate::projects::triplet_path;
 use crate::readings::{read_early, standing};
 use std::alloc::Global;
 use vk_base::{TreePath, TripletName};
-use vk_files::{FileCache, FileReader, Standing, Stop};
+use vk_files::{FileCache, FileReader, Stop};
 use vk_json::{FileFault, Why, wrong};
 use vk_model::Early;
 use vk_tree::Tree;
@@ -58,22 +57,12 @@ impl FileReader for TripletFile<'_> {
     }
 }
 
-fn is_there(standing: Standing) -> bool
-    ensures { result ≡ is_there (standing_view standing) }
-{
-    match standing {
-        Standing::Missing => false,
-        Standing::TooLong => true,
-        Standing::Readable => true,
-    }
-}
-
 // Whether a file stands at a path.
 fn is_at<T: Tree>(files: &mut FileCache, tree: &mut T, path: &TreePath) -> Result<bool, Stop<Early>>
     ensures { ReadsAs early_view (λ there. there) result (λ files. Ok (is_at files path.now)) (held files.old (T.state tree.old)) (held files.new (T.state tree.new)) }
 {
     let standing = standing(files, tree, path)?;
-    Ok(is_there(standing))
+    Ok(standing.is_there())
 }
 
 // The first of the folders' files of a triplet that is there.

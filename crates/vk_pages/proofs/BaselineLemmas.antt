@@ -18,7 +18,7 @@ use Rattle.vk_files.specs.declared.stops.Stop.{Stop}
 use Rattle.vk_files.proofs.FirstLemmas.{never}
 use Rattle.vk_files.proofs.NoteLemmas.{right_more, right_found}
 use Rattle.vk_files.proofs.NotingLemmas.{noting_pure, noting_then}
-use Rattle.vk_files.proofs.ReadMore.{two_told}
+use Rattle.vk_spec.proofs.OptionLemmas.{of_both}
 use Rattle.vk_opening.specs.Starts.{Start}
 use Rattle.vk_pages.specs.Homes.{Served, served_at, baseline_file, baseline_given, baseline_for}
 use Rattle.vk_pages.specs.BaselineNotes.{BaselineNotes, note_at, IsBaselineAt, AreBaselines, nothing_said}
@@ -35,7 +35,7 @@ pub noted_one : (start : Start) (served : Served) (place : ℕ) (read : Result B
     → ReadsAs {F = Wrong} wrong_view read_view (Ok read) (λ f. Ok (baseline_file served f)) a b → ReadsNoting {F = Wrong} wrong_view (λ done. tt {0}) (Ok (tt {0})) nothing_said (AreBaselines start notes) (AreBaselines start more) a b
 noted_one start served place read notes more a b is all one = record {
   once = one.once;
-  content = rw all (two_told a.tree.told one.content one.content (λ t gives _ old before.
+  content = rw all (of_both a.tree.told one.content one.content (λ t gives _ old before.
       (right_more (IsBaselineAt start t.files) notes ((place, read_view read) ∷ []) before (right_one start t.files served place (read_view read) is (inside (said t.files) refl (gives old)), tt {0}), refl)));
 }
   where
@@ -47,7 +47,7 @@ pub noted_none : (Known : Files → Type 0) (s : Stop Wrong) (served : Served) (
     → ReadsAs {X = Result Baseline BadFile} wrong_view read_view (Err s) (λ f. Ok (baseline_file served f)) a b → ReadsNoting {X = Unit {0}} wrong_view (λ done. tt {0}) (Err s) nothing_said Known Known a b
 noted_none Known s served a b one = record {
   once = one.once;
-  content = two_told a.tree.told one.content one.content (λ t fails _ old known. (known, never (refusal_in wrong_view s) (baseline_file served t.files) (tt {0}) (fails old)));
+  content = of_both a.tree.told one.content one.content (λ t fails _ old known. (known, never (refusal_in wrong_view s) (baseline_file served t.files) (tt {0}) (fails old)));
 }
 
 -- what is noted is what the file says

@@ -1,3 +1,2 @@
-pub mod PartLemmas
 pub mod BaselineLemmas
 pub mod PageLaws

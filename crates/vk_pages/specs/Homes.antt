@@ -1,5 +1,5 @@
 -- Where a port's versions are: the first overlay that has it, or the registry that serves it.
-use Rattle.std.specs.Prelude.{◌++◌, ◌==◌, ℕ, Bool, true, false, List, [], ◌∷◌, length, slice_get, Option, Some, None, option_map, Result, Ok, Err, bytes_eq, if◌then◌else◌}
+use Rattle.std.specs.Prelude.{◌++◌, ◌==◌, ℕ, Bool, false, List, [], ◌∷◌, length, slice_get, Option, Some, None, option_map, Result, Ok, Err, bytes_eq, if◌then◌else◌}
 use Rattle.std.specs.List.{find}
 use Rattle.vk_spec.specs.Paths.{Path}
 use Rattle.vk_spec.specs.Files.{Files}
@@ -13,7 +13,7 @@ use Rattle.vk_config.specs.Configs.{Source, filesystem, git, builtin, artifact, 
 use Rattle.vk_config.specs.Closeness.{place_of}
 use Rattle.vk_registry.specs.Baselines.{Entry, ask_for, baseline_by}
 use Rattle.vk_registry.specs.Tables.{Row, table_of}
-use Rattle.vk_files.specs.Readings.{Bad, Standing, missing, too_long, readable, standing_at, file_at}
+use Rattle.vk_files.specs.Readings.{Bad, is_at, file_at}
 use Rattle.vk_opening.specs.Projects.{manifest_path}
 use Rattle.vk_opening.specs.Starts.{Overlay, is_port, has_ports, Start}
 use Rattle.vk_pages.specs.RegistryFiles.{baseline_path, table_path}
@@ -27,15 +27,6 @@ pub data Home : Type 0 where
 
 -- ---- overlays
 
--- a file stands there, whatever is in it
-abbrev pub is_there : Standing → Bool
-is_there missing = false
-is_there too_long = true
-is_there readable = true
-
-abbrev pub stands : Path → Files → Bool
-stands path files = is_there (standing_at path files)
-
 -- the folder of a port among those of a folder
 abbrev pub port_folder : Path → List ℕ → Path
 port_folder folder port = folder ++ port ∷ []
@@ -47,7 +38,7 @@ is_named port (Some name) = bytes_eq port name
 -- whether an overlay has the port
 abbrev pub has_port : List ℕ → Files → Overlay → Bool
 has_port port files (is_port folder m) = is_named port m.name
-has_port port files (has_ports folder) = stands (manifest_path (port_folder folder port)) files
+has_port port files (has_ports folder) = is_at files (manifest_path (port_folder folder port))
 
 -- the first overlay that has the port, if one does
 abbrev pub overlay_for : List Overlay → List ℕ → Files → Option Overlay

@@ -10,15 +10,13 @@ ghost use Rattle.vk_registry.specs.Tables.{table_of};
 ghost use Rattle.vk_catalogue.specs.Views.{wrong_view};
 ghost use Rattle.vk_files.specs.Views.{held};
 ghost use Rattle.vk_files.specs.StopViews.{refusal_in, is_tree_failed};
-ghost use Rattle.vk_files.specs.Readings.{ReadsAs, bad_view};
+ghost use Rattle.vk_files.specs.Readings.{ReadsAs, bad_view, is_at};
 ghost use Rattle.vk_pages.specs.Wrongs.{wrong_of, file_or_wrong, port_manifest};
-ghost use Rattle.vk_files.specs.StandingViews.{standing_view};
-ghost use Rattle.vk_pages.specs.Homes.{is_there, stands};
 
 use std::alloc::Global;
 use vk_base::{Text, TreePath};
 use vk_catalogue::Wrong;
-use vk_files::{BadFile, FileCache, FileReader, Standing, Stop, file_standing, read_file};
+use vk_files::{BadFile, FileCache, FileReader, Stop, file_standing, read_file};
 use vk_json::FileFault;
 use vk_manifest::read_manifest;
 use vk_model::Manifest;
@@ -118,25 +116,16 @@ pub fn content<T: Tree, R: FileReader>(
     }
 }
 
-fn is_there(standing: Standing) -> bool
-    ensures { result ≡ is_there (standing_view standing) }
-{
-    match standing {
-        Standing::Missing => false,
-        Standing::TooLong | Standing::Readable => true,
-    }
-}
-
 /// Whether a file stands at a path, whatever is in it. It refuses nothing.
 pub fn stands<T: Tree>(
     files: &mut FileCache,
     tree: &mut T,
     path: &TreePath,
 ) -> Result<bool, Stop<Wrong>>
-    ensures { ReadsAs wrong_view (λ b. b) result (λ f. Ok (stands path.now f)) (held files.old (T.state tree.old)) (held files.new (T.state tree.new)) }
+    ensures { ReadsAs wrong_view (λ b. b) result (λ f. Ok (is_at f path.now)) (held files.old (T.state tree.old)) (held files.new (T.state tree.new)) }
 {
     match file_standing(files, tree, path) {
-        Ok(standing) => Ok(is_there(standing)),
+        Ok(standing) => Ok(standing.is_there()),
         Err(stop) => Err(at_wrong(stop)),
     }
 }

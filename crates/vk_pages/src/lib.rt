@@ -15,7 +15,7 @@ mod served;
 
 pub use agreement::agree;
 pub use baselines::Baselines;
-pub use contents::{NamedBaseline, PortManifest, PortTable, content, wrong_of};
+pub use contents::{PortManifest, content};
 pub use homes::{Home, Layout, home_of};
 pub use laws::{overlay_rule, override_rule, page_rule};
-pub use paths::{baseline_path, from_folder, manifest_path, row_folder, table_path};
+pub use paths::row_folder;

@@ -5,23 +5,23 @@ ghost use Rattle.vk_model.specs.Views.{manifest_view};
 ghost use Rattle.vk_catalogue.specs.Views.{wrong_view};
 ghost use Rattle.vk_files.specs.Views.{held};
 ghost use Rattle.vk_files.specs.StopViews.{refusal_in, has_tree_failed};
-ghost use Rattle.vk_files.specs.Readings.{ReadsAs};
+ghost use Rattle.vk_files.specs.Readings.{ReadsAs, is_at};
 ghost use Rattle.vk_opening.specs.Projects.{manifest_path};
 ghost use Rattle.vk_opening.specs.Views.{overlay_view};
-ghost use Rattle.vk_pages.specs.Homes.{is_named, stands, port_folder, has_port, overlay_for, overlay_home, named_home, folder_home, home_in};
+ghost use Rattle.vk_pages.specs.Homes.{is_named, port_folder, has_port, overlay_for, overlay_home, named_home, folder_home, home_in};
 ghost use Rattle.vk_pages.specs.HomeViews.{home_view};
 
 use crate::agreement::{named, version_in};
 use crate::contents::{PortManifest, content, stands};
 use crate::homes::Home;
-use crate::paths::{manifest_path, port_folder};
+use crate::paths::port_folder;
 use std::alloc::Global;
 use std::rc::Rc;
 use vk_base::{PortName, TreePath};
 use vk_catalogue::Wrong;
 use vk_files::{FileCache, Stop};
 use vk_model::Manifest;
-use vk_opening::Overlay;
+use vk_opening::{Overlay, manifest_path};
 use vk_tree::Tree;
 
 fn is_named(manifest: &Manifest, port: &PortName) -> bool
@@ -41,7 +41,7 @@ fn holds_port<T: Tree>(
     folder: &TreePath,
     port: &PortName,
 ) -> Result<bool, Stop<Wrong>>
-    ensures { ReadsAs wrong_view (λ b. b) result (λ f. Ok (stands (manifest_path (port_folder folder.now port.now)) f)) (held files.old (T.state tree.old)) (held files.new (T.state tree.new)) }
+    ensures { ReadsAs wrong_view (λ b. b) result (λ f. Ok (is_at f (manifest_path (port_folder folder.now port.now)))) (held files.old (T.state tree.old)) (held files.new (T.state tree.new)) }
 {
     let folder = port_folder(alloc, folder, port)?;
     let path = manifest_path(alloc, &folder)?;

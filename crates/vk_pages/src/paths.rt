@@ -2,7 +2,6 @@
 ghost use Rattle.std.specs.Prelude.{◌≡◌, ◌++◌, ◌∷◌, [], IfOk, None, true, take, codes};
 ghost use Rattle.vk_base.specs.Names.{name_fault, port_rule};
 ghost use Rattle.vk_base.specs.Paths.{is_part, joined};
-ghost use Rattle.vk_opening.specs.Projects.{manifest_path};
 ghost use Rattle.vk_registry.specs.TableViews.{row_view};
 ghost use Rattle.vk_pages.specs.RegistryFiles.{baseline_path, table_path};
 ghost use Rattle.vk_pages.specs.Homes.{port_folder};
@@ -10,25 +9,8 @@ ghost use Rattle.vk_pages.specs.Pages.{row_folder};
 
 use std::alloc::Global;
 use vk_base::{Memory, PortName, Text, TreePath};
+use vk_opening::from_folder;
 use vk_registry::Row;
-
-/// A path that is taken from a folder. A path with more steps up than 32 bits count is told as want
-/// of memory.
-pub fn from_folder(alloc: Global, folder: &TreePath, path: &TreePath) -> Result<TreePath, Memory>
-    ensures { IfOk result (λ p. p ≡ joined folder.now path.now) }
-{
-    match folder.steps_up().checked_add(path.steps_up()) {
-        Some(_) => folder.join(alloc, path),
-        None => Err(Memory),
-    }
-}
-
-/// The manifest in a folder.
-pub fn manifest_path(alloc: Global, folder: &TreePath) -> Result<TreePath, Memory>
-    ensures { IfOk result (λ p. p ≡ manifest_path folder.now) }
-{
-    folder.child(alloc, "vcpkg.json")
-}
 
 /// The folder of a port in a folder of ports.
 pub fn port_folder(alloc: Global, folder: &TreePath, port: &PortName) -> Result<TreePath, Memory>

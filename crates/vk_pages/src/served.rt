@@ -8,12 +8,12 @@ ghost use Rattle.vk_pages.specs.Homes.{source_at, served_by, served_at, served_f
 ghost use Rattle.vk_pages.specs.HomeViews.{layout_view, served_view};
 
 use crate::homes::Layout;
-use crate::paths::from_folder;
 use std::alloc::Global;
 use vk_base::{PortName, Text, TreePath};
 use vk_catalogue::Wrong;
 use vk_config::{Config, Source, registry_of};
 use vk_files::Stop;
+use vk_opening::from_folder;
 
 /// A registry in a folder.
 #[derive(Drop)]

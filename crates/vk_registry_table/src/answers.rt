@@ -6,9 +6,9 @@ ghost use Rattle.vk_registry_table.specs.Told.{told_embedded, told_place};
 use std::alloc::Global;
 use vk_base::Text;
 use vk_config::Embedded;
-use vk_json::FileFault;
+use vk_json::{FileFault, place_text};
 use vk_registry::{Baseline, Table};
-use vk_table::{Stop, place_of};
+use vk_table::Stop;
 use vk_version::Ask;
 
 /// A fault, as its place and its word; the whole document's place is `-`.
@@ -16,7 +16,7 @@ pub fn of_fault(alloc: Global, fault: FileFault) -> Result<String, Stop> {
     let FileFault::Wrong { place, why } = fault else {
         return Err(Stop::Memory);
     };
-    let place = place_of(alloc, &place)?;
+    let place = place_text(alloc, &place)?;
     let word = why.word(alloc)?;
     Ok(format!(in alloc; "{place} {word}")?)
 }

@@ -10,3 +10,4 @@ pub mod ReadingLemmas
 pub mod VersionLemmas
 pub mod AskLemmas
 pub mod FrontLemmas
+pub mod OptionLemmas

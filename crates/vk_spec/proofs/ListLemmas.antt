@@ -1,8 +1,9 @@
 -- What a list contains, and that it has no repeats.
-use Rattle.std.proofs.Common.{◌≡◌, ◌<◌, ◌⊎◌, ◌||◌, ℕ, Bool, map, List, [], ◌∷◌, ◌++◌, length, take, get_or, ◌+◌, inl, inr, refl, ap, ◌∙◌, arith}
+use Rattle.std.proofs.Common.{◌≡◌, ◌<◌, ◌⊎◌, ◌||◌, ℕ, Bool, true, false, cond, map, List, [], ◌∷◌, ◌++◌, length, take, get_or, ◌+◌, inl, inr, refl, ap, ◌∙◌, arith}
 use Rattle.std.proofs.lemmas.List.{take_more, append-nil}
 use Rattle.std.proofs.lemmas.Grind.{flat_map-append}
-use Rattle.std.specs.List.{Contains, flat_map, list_any}
+use Rattle.std.specs.Prelude.{Option, Some, option_map}
+use Rattle.std.specs.List.{Contains, flat_map, list_any, find}
 use Rattle.std.proofs.lemmas.List.Elements.{Contains-append_left, Contains-append_right, Contains-append_cases, Contains-push_cases}
 use Rattle.vk_spec.specs.Lists.{NoRepeats}
 
@@ -68,3 +69,12 @@ flat_map-take_more f xs i d within =
 pub any_by : {X Y : Type 0} (f : X → Y) (p : Y → Bool) (xs : List X) → list_any p (map f xs) ≡ list_any (λ x. p (f x)) xs
 any_by f p [] = refl
 any_by f p (x ∷ xs) = ap (λ b. p (f x) || b) (any_by f p xs)
+
+cond_map : {X Y : Type 0} (f : X → Y) (b : Bool) (x : X) (o : Option X) → cond b (Some (f x)) (option_map f o) ≡ option_map f (cond b (Some x) o)
+cond_map f true x o = refl
+cond_map f false x o = refl
+
+-- and what is found among them is what is found of the things
+pub find_by : {X Y : Type 0} (f : X → Y) (p : Y → Bool) (xs : List X) → find p (map f xs) ≡ option_map f (find (λ x. p (f x)) xs)
+find_by f p [] = refl
+find_by f p (x ∷ xs) = ap (cond (p (f x)) (Some (f x))) (find_by f p xs) ∙ cond_map f (p (f x)) x (find (λ y. p (f y)) xs)

@@ -9,6 +9,11 @@ use Rattle.vk_spec.specs.Reading.{◌>>=◌, read_each, read_after, Gives, Fails
 abbrev pub with_front : {A F : Type 0} → List A → Result (List A) F → Result (List A) F
 with_front front read = read >>= λ xs. Ok (front ++ xs)
 
+-- with nothing in front
+pub nothing_yet : {A F : Type 0} (read : Result (List A) F) → with_front [] read ≡ read
+nothing_yet (Ok xs) = refl
+nothing_yet (Err fault) = refl
+
 regroup : {A F : Type 0} (front : List A) (x : A) (read : Result (List A) F) → with_front front (read >>= λ xs. Ok (x ∷ xs)) ≡ with_front (front ++ x ∷ []) read
 regroup front x (Ok xs) = ap Ok (sym (append_assoc front (x ∷ []) xs))
 regroup front x (Err f) = refl

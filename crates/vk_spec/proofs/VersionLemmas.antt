@@ -50,7 +50,8 @@ is_found (one ∷ asks) ask e = by (same_ask ask one) refl e (is_found asks ask)
     by true same h f = subst (λ a. Contains (one ∷ asks) a) (sym (asks_equal ask one same)) (contains_first one asks)
     by false same h f = contains_later one ask asks (f h)
 
-both_decide : {P Q : Type 0} (a b : Bool) → Decides a P → Decides b Q → Decides (a && b) (P × Q)
+-- two tests decide two facts together
+pub both_decide : {P Q : Type 0} (a b : Bool) → Decides a P → Decides b Q → Decides (a && b) (P × Q)
 both_decide true true p q = (λ e. (p.0 refl, q.0 refl), λ e. refl)
 both_decide true false p q = (λ e. (cc), λ e. q.1 e.1)
 both_decide false b p q = (λ e. (cc), λ e. p.1 e.0)

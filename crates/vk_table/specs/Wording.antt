@@ -1,6 +1,9 @@
--- How a row is cut, what a word stands for, and how a place is told.
-use Rattle.std.specs.Prelude.{◌==◌, ℕ, Bool, List, [], ◌∷◌, Some, None, Result, Ok, Err, codes}
-use Rattle.vk_base.specs.Tokens.{token_of, ReadsToken}
+-- How a row is cut, and what a word stands for.
+use Rattle.std.specs.Prelude.{◌≡◌, ◌⊎◌, ◌==◌, ℕ, Bool, List, Some, None, Result, Ok, Err}
+use Rattle.std.specs.Str.{IsUtf8}
+use Rattle.vk_spec.specs.Paths.{Path}
+use Rattle.vk_base.specs.PathReading.{PathWrong, path_of}
+use Rattle.vk_base.specs.Tokens.{ReadsToken}
 use Rattle.vk_table.specs.declared.stops.Stop.{Stop}
 use Rattle.vk_table.specs.declared.stops.Stop.TheVariants.{Row, Memory}
 
@@ -13,13 +16,36 @@ ReadsBytes word (Ok bytes) = ReadsToken word (Some bytes)
 ReadsBytes word (Err Row) = ReadsToken word None
 ReadsBytes word (Err Memory) = Unit {0}
 
+-- a word of no text: the token of no bytes, or of bytes that are no UTF-8
+abbrev pub IsNoText : List ℕ → Type 0
+IsNoText word = ReadsToken word None ⊎ ((bytes : List ℕ) × ReadsToken word (Some bytes) × (IsUtf8 bytes → ⊥))
+
+-- bytes as a text, or that they are none
+abbrev pub IsTextOf : List ℕ → Result (List ℕ) Stop → Type 0
+IsTextOf bytes (Ok text) = text ≡ bytes
+IsTextOf bytes (Err Row) = IsUtf8 bytes → ⊥
+IsTextOf bytes (Err Memory) = ⊥
+
+-- the text of which a word is the token, or that there is none
+abbrev pub ReadsText : List ℕ → Result (List ℕ) Stop → Type 0
+ReadsText word (Ok text) = ReadsToken word (Some text)
+ReadsText word (Err Row) = IsNoText word
+ReadsText word (Err Memory) = Unit {0}
+
+-- the path that a text is, or that it is none
+abbrev pub IsPathOf : List ℕ → Result Path Stop → Type 0
+IsPathOf text (Ok path) = path_of text ≡ Ok path
+IsPathOf text (Err Row) = (fault : PathWrong) × (path_of text ≡ Err fault)
+IsPathOf text (Err Memory) = Unit {0}
+
+-- the path whose text a word is the token of, or that there is none
+abbrev pub ReadsPath : List ℕ → Result Path Stop → Type 0
+ReadsPath word (Ok path) = (text : List ℕ) × ReadsToken word (Some text) × (path_of text ≡ Ok path)
+ReadsPath word (Err Row) = IsNoText word ⊎ ((text : List ℕ) × (fault : PathWrong) × ReadsToken word (Some text) × (path_of text ≡ Err fault))
+ReadsPath word (Err Memory) = Unit {0}
+
 -- the number that parsing gives, or that it gives none
 abbrev pub ReadsNumber : {N F : Type 0} → (Result N F → Type 0) → Result N Stop → Type 0
 ReadsNumber {F = F} gives (Ok number) = gives (Ok number)
 ReadsNumber {F = F} gives (Err Row) = (fault : F) × gives (Err fault)
 ReadsNumber {F = F} gives (Err Memory) = ⊥
-
--- the token of a place; the whole document's is `-`
-abbrev pub place_text : List ℕ → List ℕ
-place_text [] = codes "-"
-place_text (b ∷ bytes) = token_of (b ∷ bytes)

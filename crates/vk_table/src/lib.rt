@@ -10,5 +10,5 @@ mod workspaces;
 
 pub use answers::{Answering, Reply, answer_lines};
 pub use stops::Stop;
-pub use wording::{bytes_of, cut, number_of, path_of, place_of, text_of};
+pub use wording::{bytes_of, cut, number_of, path_of, text_of};
 pub use workspaces::Workspace;

@@ -1,5 +1,5 @@
 -- What answers make known.
-use Rattle.std.proofs.Common.{◌≡◌, ℕ, Bool, true, false, List, [], ◌∷◌, ◌++◌, refl, ap, sym, subst, ◌∙◌}
+use Rattle.std.proofs.Common.{◌≡◌, ℕ, Bool, true, false, List, [], ◌∷◌, ◌++◌, refl, ap, sym, ◌∙◌}
 use Rattle.std.specs.Prelude.{Option, Some, None, option_map, Result, Ok, Err, IfOk, OnOk, OnErr, if◌then◌else◌}
 use Rattle.std.specs.Option.{is_some}
 use Rattle.vk_spec.specs.Paths.{Path}
@@ -12,7 +12,7 @@ use Rattle.vk_catalogue.specs.declared.wrongs.Given as declared
 use Rattle.vk_version.specs.declared.versions.Version.{Version}
 use Rattle.vk_files.specs.Notes.{AreRight}
 use Rattle.vk_files.proofs.NoteLemmas.{right_more}
-use Rattle.vk_world.specs.KnownVersions.{folder_among, with_folder, pairs_of, with_pair}
+use Rattle.vk_world.specs.KnownVersions.{folder_among, with_folder, pairs_of}
 use Rattle.vk_world.specs.HomeNotes.{FoundHome}
 use Rattle.vk_world.specs.Listed.{given_at, folder_at}
 use Rattle.vk_world.specs.Answered.{folders_by, folders_given, folders_listed, given_in, pairs_by, pairs_said, pairs_given, pairs_found, pairs_listed}

@@ -1,8 +1,8 @@
 -- Learning from files: one after the other, and what follows from what reading gives.
-use Rattle.std.proofs.Common.{◌≡◌, Bool, true, false, refl, ap, sym, subst, ◌∙◌}
+use Rattle.std.proofs.Common.{◌≡◌, false, refl, ap, sym, ◌∙◌}
 use Rattle.std.specs.Prelude.{Option, Some, None, IfSome, Result, Ok, Err, IfOk}
 use Rattle.vk_spec.specs.Files.{Files}
-use Rattle.vk_spec.specs.Reading.{◌>>=◌, Gives, Fails}
+use Rattle.vk_spec.specs.Reading.{Gives}
 use Rattle.vk_spec.specs.States.{Told}
 use Rattle.vk_spec.proofs.StateLemmas.{told_before}
 use Rattle.vk_catalogue.specs.Views.{or_wrong, wrong_view, cat_failed}
@@ -10,27 +10,27 @@ use Rattle.vk_catalogue.specs.declared.wrongs.Wrong.{Wrong}
 use Rattle.vk_catalogue.specs.declared.stops.CatStop.{CatStop}
 use Rattle.vk_catalogue.specs.declared.stops.CatStop.TheVariants as cat
 use Rattle.vk_spec.specs.Pages as plain
-use Rattle.vk_files.specs.Kept.{paths_of, IsOf, Held, ReadOnce}
+use Rattle.vk_files.specs.Kept.{paths_of, IsOf, Held}
 use Rattle.vk_files.specs.StopViews.{refusal_in, has_tree_failed}
 use Rattle.vk_files.specs.Readings.{ReadsAs, ReadsNoting}
 use Rattle.vk_files.specs.declared.stops.Stop.{Stop}
 use Rattle.vk_files.specs.declared.stops.Stop.TheVariants as stop
 use Rattle.vk_files.proofs.OnceLemmas.{nothing_read, once_then}
 use Rattle.vk_files.proofs.ReadLemmas.{still_right}
-use Rattle.vk_files.proofs.ReadMore.{each_told, two_told}
-use Rattle.vk_world.specs.Learning.{Learns, SaysNothing, Means, settled}
+use Rattle.vk_spec.proofs.OptionLemmas.{of_each, of_both}
+use Rattle.vk_world.specs.Learning.{Learns, Means, settled}
 
 -- the last step of reading, which needs no file
 pub reads_last : {X Y Z F P : Type 0} {refusal : F → P} {view : X → Y} {x : X} {meaning : Files → Result Y P} {a b : Held} (next_view : Z → Y) (z : Z) → next_view z ≡ view x → ReadsAs refusal view (Ok x) meaning a b → ReadsAs refusal next_view (Ok z) meaning a b
 reads_last {meaning = meaning} {a = a} next_view z same one = record {
   once = one.once;
-  content = two_told a.tree.told one.content one.content (λ t is _ old. is old ∙ ap Ok (sym same));
+  content = of_both a.tree.told one.content one.content (λ t is _ old. is old ∙ ap Ok (sym same));
 }
 
 -- files were read, and then memory was wanting
 pub reads_lacking : {X Y Z W F P : Type 0} {refusal : F → P} {view : X → Y} {x : X} {meaning : Files → Result Y P} {a b : Held} (next_view : Z → W) (whole : Files → Result W P)
     → ReadsAs refusal view (Ok x) meaning a b → ReadsAs {X = Z} refusal next_view (Err stop.Memory) whole a b
-reads_lacking {a = a} next_view whole one = record { once = one.once; content = each_told a.tree.told (λ t _. tt) }
+reads_lacking {a = a} next_view whole one = record { once = one.once; content = of_each a.tree.told (λ t _. tt) }
 
 -- what reading gives is what is answered, also where it is refused
 settled_means : {X Y : Type 0} (view : X → Y) (answer : Result X (Stop Wrong)) (read : Result Y plain.Wrong) → Gives view (refusal_in wrong_view) answer read → IfOk (settled answer) (λ x. or_wrong view x ≡ read)
@@ -49,13 +49,13 @@ pub learns_settled : {X Y : Type 0} {view : X → Y} {answer : Result X (Stop Wr
     → ReadsNoting wrong_view view answer meaning Before After a b → Learns result (Means (or_wrong view) meaning) Before After a b
 learns_settled {view = view} {answer = answer} {meaning = meaning} {a = a} result is one = rw is (record {
   once = rw (settled_fails answer) one.once;
-  content = two_told a.tree.told one.content one.content (λ t gives _ old before. let both = gives old before in (both.0, settled_means view answer (meaning t.files) both.1));
+  content = of_both a.tree.told one.content one.content (λ t gives _ old before. let both = gives old before in (both.0, settled_means view answer (meaning t.files) both.1));
 })
 
 -- what needs no file
 pub learns_pure : {X : Type 0} (answer : Result X CatStop) (Says : Files → X → Type 0) (Before After : Files → Type 0) (h : Held) → cat_failed answer ≡ false
     → ((f : Files) → Before f → After f × IfOk answer (Says f)) → Learns answer Says Before After h h
-learns_pure answer Says Before After h calm holds = record { once = rw calm (nothing_read h); content = each_told h.tree.told (λ t old. holds t.files) }
+learns_pure answer Says Before After h calm holds = record { once = rw calm (nothing_read h); content = of_each h.tree.told (λ t old. holds t.files) }
 
 -- want of memory
 pub learns_memory : {X : Type 0} (Says : Files → X → Type 0) (Known : Files → Type 0) (h : Held) → Learns (Err cat.Memory) Says Known Known h h
@@ -67,7 +67,7 @@ pub learns_so : {X Z : Type 0} {answer : Result X CatStop} {Says : Files → X �
     → Learns answer Says Before After a b → Learns other OtherSays OtherBefore OtherAfter a b
 learns_so {a = a} other OtherSays OtherBefore OtherAfter failed earlier later one = record {
   once = rw failed one.once;
-  content = two_told a.tree.told one.content one.content (λ t holds _ old before. let both = holds old (earlier t.files before) in later t.files before both.0 both.1);
+  content = of_both a.tree.told one.content one.content (λ t holds _ old before. let both = holds old (earlier t.files before) in later t.files before both.0 both.1);
 }
 
 -- one after the other

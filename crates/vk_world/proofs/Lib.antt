@@ -1,6 +1,5 @@
 pub mod KnownLemmas
 pub mod LearnLemmas
-pub mod NotedLemmas
 pub mod ListedLemmas
 pub mod ManifestLemmas
 pub mod AnsweredLemmas

@@ -1,13 +1,13 @@
 -- What a world learns of a port, by what was found for it.
-use Rattle.std.proofs.Common.{◌≡◌, ℕ, Bool, true, false, List, [], ◌∷◌, ◌++◌, refl, ap, sym, subst, ◌∙◌}
+use Rattle.std.proofs.Common.{◌≡◌, ℕ, false, List, refl, ap, sym, subst, ◌∙◌}
 use Rattle.std.specs.Prelude.{Option, Some, None, IsSome, option_map, Result, Ok, Err, IfOk, OnOk, OnErr, bytes_eq}
 use Rattle.std.proofs.lemmas.Slice.Eq.{bytes_eq-Decides}
 use Rattle.vk_spec.specs.Paths.{Path}
 use Rattle.vk_spec.specs.Files.{Files}
 use Rattle.vk_spec.specs.Versions as versions
 use Rattle.vk_spec.specs.Versions.{Ask}
-use Rattle.vk_spec.specs.Pages.{Given, overlay, override, baseline, version_in, manifest_in}
-use Rattle.vk_catalogue.specs.Views.{given_said, manifest_said, cat_failed}
+use Rattle.vk_spec.specs.Pages.{overlay, override, baseline, version_in, manifest_in}
+use Rattle.vk_catalogue.specs.Views.{given_said, cat_failed}
 use Rattle.vk_catalogue.specs.declared.stops.CatStop.{CatStop}
 use Rattle.vk_catalogue.specs.declared.wrongs.Wrong.{Wrong}
 use Rattle.vk_catalogue.specs.declared.wrongs.Given as declared
@@ -21,7 +21,7 @@ use Rattle.vk_files.proofs.NoteLemmas.{right_found}
 use Rattle.vk_opening.specs.Starts.{Start}
 use Rattle.vk_pages.specs.Homes.{in_overlay, in_registry, home_of}
 use Rattle.vk_pages.specs.HomeViews.{layout_view}
-use Rattle.vk_pages.specs.Pages.{page_at, page_of}
+use Rattle.vk_pages.specs.Pages.{page_at}
 use Rattle.vk_world.specs.Learning.{Learns, SaysNothing}
 use Rattle.vk_world.specs.KnownVersions.{folders_in}
 use Rattle.vk_world.specs.HomeNotes.{FoundHome, homes_in, home_noted, IsHomeOf, AreHomes}
@@ -29,7 +29,7 @@ use Rattle.vk_world.specs.ManifestNotes.{AreManifests}
 use Rattle.vk_world.specs.Listed.{listed_in}
 use Rattle.vk_world.specs.Answered.{folders_given, folders_listed, given_in}
 use Rattle.vk_world.specs.ManifestAnswers.{IsManifestFor}
-use Rattle.vk_world.specs.Libraries.{start_of, StandsAt, IsFolderOf, IsRight, Stays, SaysGivenOf, SaysVersionOf, SaysManifestOf}
+use Rattle.vk_world.specs.Libraries.{start_of, IsFolderOf, IsRight, Stays, SaysGivenOf, SaysVersionOf, SaysManifestOf}
 use Rattle.vk_world.specs.declared.answered.PortVersion.{PortVersion}
 use Rattle.vk_world.specs.declared.answered.KnownVersions.{KnownVersions}
 use Rattle.vk_world.specs.declared.homes.Homes.{Homes}

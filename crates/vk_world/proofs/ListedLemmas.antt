@@ -1,6 +1,6 @@
 -- What the page of a port has is what its home has.
 use Rattle.std.proofs.Common.{◌≡◌, ℕ, zero, suc, Bool, true, false, cond, List, [], ◌∷◌, map, refl, ap, sym, subst, ◌∙◌, true≢false}
-use Rattle.std.specs.Prelude.{Option, Some, None, IsSome, IfSome, option_map, slice_get, Result, Ok, Err, if◌then◌else◌}
+use Rattle.std.specs.Prelude.{Option, Some, None, IsSome, option_map, slice_get, Ok, Err, if◌then◌else◌}
 use Rattle.std.specs.List.{Contains, find}
 use Rattle.vk_spec.specs.Paths.{Path}
 use Rattle.vk_spec.specs.Files.{Files}
@@ -9,13 +9,12 @@ use Rattle.vk_spec.specs.Versions.{Version, Ask, ask_of, same_ask, same_version}
 use Rattle.vk_spec.specs.Manifests.{Manifest}
 use Rattle.vk_spec.specs.Pages.{row_in, version_in, manifest_in}
 use Rattle.vk_spec.specs.Pages.{Row as PageRow}
-use Rattle.vk_spec.proofs.ListLemmas.{contains_first, contains_later}
-use Rattle.vk_spec.proofs.VersionLemmas.{asks_equal, ask_itself}
+use Rattle.vk_spec.proofs.ListLemmas.{contains_first, contains_later, find_by}
+use Rattle.vk_spec.proofs.VersionLemmas.{asks_equal, ask_itself, version_decides}
 use Rattle.vk_expr.specs.Trees.{Tree}
 use Rattle.vk_registry.specs.Tables.{Row, ask_in, asks_of, IsRowAt, HasNoRow}
 use Rattle.vk_pages.specs.Homes.{Home, in_overlay, in_registry}
 use Rattle.vk_pages.specs.Pages.{row_folder, row_manifest, page_row, page_at}
-use Rattle.vk_spec.proofs.VersionLemmas.{version_decides}
 use Rattle.vk_world.specs.VersionFolders.{version_folder}
 use Rattle.vk_world.specs.HomeNotes.{FoundHome}
 use Rattle.vk_world.specs.Listed.{own_listed, row_listed, table_listed, listed_at, listed_in, row_meant}
@@ -23,14 +22,6 @@ use Rattle.vk_world.specs.Answered.{given_in}
 
 some_is : {X : Type 0} {x y : X} → Some x ≡ Some y → x ≡ y
 some_is e = (cc)
-
-cond_map : {X Y : Type 0} (f : X → Y) (b : Bool) (x : X) (o : Option X) → cond b (Some (f x)) (option_map f o) ≡ option_map f (cond b (Some x) o)
-cond_map f true x o = refl
-cond_map f false x o = refl
-
-find_by : {X Y : Type 0} (f : X → Y) (p : Y → Bool) (xs : List X) → find p (map f xs) ≡ option_map f (find (λ x. p (f x)) xs)
-find_by f p [] = refl
-find_by f p (x ∷ xs) = ap (cond (p (f x)) (Some (f x))) (find_by f p xs) ∙ cond_map f (p (f x)) x (find (λ y. p (f y)) xs)
 
 twice : {X Y Z : Type 0} (f : X → Y) (g : Y → Z) (o : Option X) → option_map g (option_map f o) ≡ option_map (λ x. g (f x)) o
 twice f g None = refl

@@ -1,6 +1,6 @@
 -- The manifest of a row, by what was found where it stands.
-use Rattle.std.proofs.Common.{◌≡◌, ℕ, List, refl, ap, sym, subst, ◌∙◌, false}
-use Rattle.std.specs.Prelude.{Option, Some, None, IsSome, Result, Ok, Err, IfOk}
+use Rattle.std.proofs.Common.{◌≡◌, ℕ, List, refl, ap, sym, ◌∙◌, false}
+use Rattle.std.specs.Prelude.{Some, Result, Ok, Err, IfOk}
 use Rattle.vk_spec.specs.Paths.{Path}
 use Rattle.vk_spec.specs.Files.{Files}
 use Rattle.vk_spec.specs.Versions.{Version, Ask}

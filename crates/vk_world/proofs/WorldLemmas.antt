@@ -1,12 +1,14 @@
 -- A world over a tree: it stays sound, and its answers are what the pages say.
-use Rattle.std.proofs.Common.{◌≡◌, ◌≤◌, ◌+◌, ◌-◌, ℕ, zero, suc, Bool, true, false, List, [], ◌∷◌, ◌++◌, length, take, drop, map, refl, ap, sym, subst, ◌∙◌, length-append, arith}
+use Rattle.std.proofs.Common.{◌≡◌, ◌≤◌, ◌-◌, ℕ, suc, Bool, List, [], ◌∷◌, ◌++◌, length, take, drop, refl, ap, sym, subst, ◌∙◌, length-append, arith}
 use Rattle.std.specs.Prelude.{Option, Some, None, option_map, IfSome, Result, Ok, Err, IfOk}
-use Rattle.std.proofs.lemmas.List.{append-nil, append_assoc, map-append}
-use Rattle.std.proofs.Math.Seq.{take-append_seam}
+use Rattle.std.proofs.lemmas.List.{append-nil, append_assoc, map-append, take-append-le, take-append-drop, drop-append-le}
+use Rattle.std.proofs.Math.ListN.{drop_of_length-le}
+use Rattle.std.proofs.Math.Seq.{take-append_seam, take-length}
+use Rattle.vk_spec.specs.Lists.{NoRepeats}
 use Rattle.vk_spec.specs.Paths.{Path}
 use Rattle.vk_spec.specs.Files.{Files}
-use Rattle.vk_spec.specs.Calls.{Answer, is_failed}
-use Rattle.vk_spec.specs.States.{Told, State, with_asked, Looks}
+use Rattle.vk_spec.specs.Calls.{is_failed}
+use Rattle.vk_spec.specs.States.{Told, State, with_asked}
 use Rattle.vk_spec.specs.Pages.{Page}
 use Rattle.vk_spec.specs.Catalogues.{ArePages, OnPage, OnlyAsked, Asks}
 use Rattle.vk_expr.specs.Trees.{Tree}
@@ -20,19 +22,10 @@ use Rattle.vk_pages.specs.HomeViews.{layout_view}
 use Rattle.vk_pages.specs.Pages.{page_of}
 use Rattle.vk_world.specs.Learning.{Learns}
 use Rattle.vk_world.specs.Libraries.{start_of, IsRight, Stays}
-use Rattle.vk_world.specs.Worlds.{paths_in, asked_since, log_before, origin_on, origin_of, pages_in, learned_view, world_state, IsSoundOn, IsSound, told_with, IsReadSince}
+use Rattle.vk_world.specs.Worlds.{paths_in, opened_in, asked_since, log_before, origin_on, learned_view, world_state, IsSoundOn, IsSound, told_with, IsReadSince}
 use Rattle.vk_world.specs.declared.libraries.Library.{Library}
 
 -- ---- lists
-
-drop_front : {X : Type 0} (n : ℕ) (xs ys : List X) → n ≤ length xs → drop n (xs ++ ys) ≡ drop n xs ++ ys
-drop_front zero xs ys within = refl
-drop_front (suc n) [] ys within = absurd (omega (arith, within))
-drop_front (suc n) (x ∷ xs) ys within = drop_front n xs ys (omega (arith, within))
-
-drop_all : {X : Type 0} (xs : List X) → drop (length xs) xs ≡ []
-drop_all [] = refl
-drop_all (x ∷ xs) = drop_all xs
 
 length_paths : (kept : Kept) → length (paths_of kept) ≡ length kept
 length_paths [] = refl
@@ -51,11 +44,16 @@ paths_more before after r = ap paths_of r.kept ∙ map-append (λ e. e.0) (kept_
 
 since_more : {failed : Bool} (before after : Library) {s s' : State} → before.opened ≤ length (paths_in (learned_view before)) → Stays before after → (r : ReadOnce failed (held before.files s) (held after.files s')) → asked_since (learned_view after) ≡ asked_since (learned_view before) ++ paths_of r.more
 since_more before after within stays r =
-    ap (λ n. drop n (paths_in (learned_view after))) stays.opened ∙ ap (drop before.opened) (paths_more before after r) ∙ drop_front before.opened (paths_in (learned_view before)) (paths_of r.more) within
+    ap (λ n. drop n (paths_in (learned_view after))) stays.opened ∙ ap (drop before.opened) (paths_more before after r) ∙ drop-append-le before.opened (paths_in (learned_view before)) (paths_of r.more) within
 
 within_more : {failed : Bool} (before after : Library) {s s' : State} → before.opened ≤ length (paths_in (learned_view before)) → Stays before after → (r : ReadOnce failed (held before.files s) (held after.files s')) → after.opened ≤ length (paths_in (learned_view after))
 within_more before after within stays r =
     rw (stays.opened) (omega (arith, within, ap length (paths_more before after r), length-append (paths_in (learned_view before)) (paths_of r.more)))
+
+-- what opening had looked at stays
+pub opened_stays : {failed : Bool} {before after : Library} {s s' : State} → before.opened ≤ length (paths_in (learned_view before)) → Stays before after → ReadOnce failed (held before.files s) (held after.files s') → opened_in (learned_view after) ≡ opened_in (learned_view before)
+opened_stays {before = before} {after = after} within stays r =
+    ap (λ n. take n (paths_in (learned_view after))) stays.opened ∙ ap (take before.opened) (paths_more before after r) ∙ take-append-le before.opened (paths_in (learned_view before)) (paths_of r.more) within
 
 start_stays : (before after : Library) → Stays before after → start_of after ≡ start_of before
 start_stays before after s = ap layout_view s.layout
@@ -154,16 +152,20 @@ on_page port P lib s t is holds = subst (λ (o : Option Told). IfSome (option_ma
 
 -- ---- the beginning and the end
 
--- as a start gives it
+-- as a start gives it, nothing was looked at since
+nothing_since : (lib : Library) → lib.opened ≡ length (kept_of lib.files) → asked_since (learned_view lib) ≡ []
+nothing_since lib opened = drop_of_length-le (paths_in (learned_view lib)) (rw (opened, length_paths (kept_of lib.files)) (omega arith))
+
+pub opened_at_start : (lib : Library) (kept : Kept) → lib.opened ≡ length kept → kept_of lib.files ≡ kept → opened_in (learned_view lib) ≡ paths_of kept
+opened_at_start lib kept opened is =
+    ap (λ n. take n (paths_in (learned_view lib))) (opened ∙ sym (length_paths kept)) ∙ ap (λ k. take (length (paths_of kept)) (paths_of k)) is ∙ take-length (paths_of kept)
+
 pub sound_on_start : (lib : Library) (s : State) → lib.opened ≡ length (kept_of lib.files) → IfSome s.told (λ t. IsOf t.files (kept_of lib.files)) → ((files : Files) → IsRight lib files) → IsSound s lib
 sound_on_start lib s opened files right = record { opened = rw (opened, length_paths (kept_of lib.files)) (omega arith); told = by s.told files }
   where
-    nothing : asked_since (learned_view lib) ≡ []
-    nothing = ap (λ n. drop n (paths_in (learned_view lib))) (opened ∙ sym (length_paths (kept_of lib.files))) ∙ drop_all (paths_in (learned_view lib))
-
     by : (o : Option Told) → IfSome o (λ t. IsOf t.files (kept_of lib.files)) → IfSome o (IsSoundOn lib)
     by None of = tt
-    by (Some t) of = record { files = of; right = right t.files; before = t.log; log = sym (append-nil t.log) ∙ ap (λ asked. t.log ++ asked) (sym nothing) }
+    by (Some t) of = record { files = of; right = right t.files; before = t.log; log = sym (append-nil t.log) ∙ ap (λ asked. t.log ++ asked) (sym (nothing_since lib opened)) }
 
 -- what the origin told, and what was looked at since, is what the tree tells
 told_since : (lib : Library) (o : Option Told) → IfSome o (IsSoundOn lib) → o ≡ with_asked (asked_since (learned_view lib)) (told_with (option_map (λ t. t.files) o) (option_map (λ t. log_before (asked_since (learned_view lib)) t.log) o))
@@ -182,7 +184,8 @@ origin_log lib None nothing = refl
 origin_log lib (Some t) nothing = ap Some (before_is t.log t.log (asked_since (learned_view lib)) (sym (append-nil t.log) ∙ ap (λ asked. t.log ++ asked) (sym nothing)))
 
 pub origin_is : (lib : Library) (s : State) → lib.opened ≡ length (kept_of lib.files) → (world_state s (learned_view lib)).origin ≡ origin_on s
-origin_is lib s opened = λ i. record { files = option_map (λ t. t.files) s.told; log = origin_log lib s.told nothing i; changes = s.changes }
-  where
-    nothing : asked_since (learned_view lib) ≡ []
-    nothing = ap (λ n. drop n (paths_in (learned_view lib))) (opened ∙ sym (length_paths (kept_of lib.files))) ∙ drop_all (paths_in (learned_view lib))
+origin_is lib s opened = λ i. record { files = option_map (λ t. t.files) s.told; log = origin_log lib s.told (nothing_since lib opened) i; changes = s.changes }
+
+-- what opening looked at, and what was looked at since, is all that was
+pub once_in_all : (lib : Library) → NoRepeats (paths_in (learned_view lib)) → NoRepeats (opened_in (learned_view lib) ++ asked_since (learned_view lib))
+once_in_all lib distinct = subst NoRepeats (sym (take-append-drop lib.opened (paths_in (learned_view lib)))) distinct

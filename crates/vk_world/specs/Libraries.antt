@@ -4,7 +4,6 @@ use Rattle.vk_spec.specs.Paths.{Path}
 use Rattle.vk_spec.specs.Files.{Files}
 use Rattle.vk_spec.specs.Versions.{Version, Ask}
 use Rattle.vk_spec.specs.Pages.{version_in, manifest_in}
-use Rattle.vk_spec.specs.Catalogues.{CanAskManifest}
 use Rattle.vk_catalogue.specs.Views.{given_said, manifest_said}
 use Rattle.vk_catalogue.specs.declared.wrongs.Wrong.{Wrong}
 use Rattle.vk_catalogue.specs.declared.wrongs.Given.{Given}

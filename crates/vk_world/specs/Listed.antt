@@ -5,7 +5,7 @@ use Rattle.vk_spec.specs.Paths.{Path}
 use Rattle.vk_spec.specs.Reading.{◌>>=◌}
 use Rattle.vk_spec.specs.Versions.{Version, Ask, ask_of, same_ask}
 use Rattle.vk_spec.specs.Manifests.{Manifest}
-use Rattle.vk_spec.specs.Pages.{Given, overlay, override, baseline, Wrong}
+use Rattle.vk_spec.specs.Pages.{Given, overlay, Wrong}
 use Rattle.vk_expr.specs.Trees.{Tree}
 use Rattle.vk_registry.specs.Tables.{Row}
 use Rattle.vk_pages.specs.Agreement.{agreeing}

@@ -1,5 +1,5 @@
 -- The manifest of a version that is there.
-use Rattle.std.specs.Prelude.{◌≡◌, ℕ, List, Option, Some, IsSome, option_map, Result}
+use Rattle.std.specs.Prelude.{◌≡◌, ℕ, List, Some, IsSome, option_map, Result}
 use Rattle.vk_spec.specs.Paths.{Path}
 use Rattle.vk_spec.specs.Files.{Files}
 use Rattle.vk_spec.specs.Versions.{Ask}

@@ -1,17 +1,11 @@
 -- A port and a version are one with another pair where port, class, text and port-version are.
-use Rattle.std.proofs.Common.{◌≡◌, ℕ, Bool, true, false, ◌&&◌, List, ◌++◌, refl, ap, sym, ◌∙◌, bytes_eq}
-use Rattle.std.specs.Cmp.{IsEquivalence, decided, unsigned_Decides}
-use Rattle.std.specs.Hash as fed
+use Rattle.std.proofs.Common.{◌≡◌, ℕ, true, List, ap, bytes_eq}
+use Rattle.std.specs.Cmp.{IsEquivalence, decided}
 use Rattle.std.specs.Bool.{Decides}
 use Rattle.std.proofs.lemmas.Slice.Eq.{bytes_eq-Decides}
 use Rattle.vk_spec.specs.Versions.{Version}
-use Rattle.vk_spec.proofs.VersionLemmas.{version_decides}
+use Rattle.vk_spec.proofs.VersionLemmas.{both_decide, version_decides}
 use Rattle.vk_world.specs.KnownVersions.{same_pair, pair_fed}
-
-both_decide : {P Q : Type 0} (a b : Bool) → Decides a P → Decides b Q → Decides (a && b) (P × Q)
-both_decide true true p q = (λ e. (p.0 refl, q.0 refl), λ e. refl)
-both_decide true false p q = (λ e. (cc), λ e. q.1 e.1)
-both_decide false b p q = (λ e. (cc), λ e. p.1 e.0)
 
 -- pairs are one exactly where ports and versions are
 pub pair_decides : (port : List ℕ) (v : Version) (other : List ℕ) (w : Version) → Decides (same_pair port v other w) ((port ≡ other) × (v ≡ w))

@@ -1,9 +1,8 @@
 -- Where a version of a port stands.
-use Rattle.std.specs.Prelude.{Option, Some, None, option_map, List, if◌then◌else◌}
+use Rattle.std.specs.Prelude.{Option, Some, None, option_map, if◌then◌else◌}
 use Rattle.std.specs.List.{find}
 use Rattle.vk_spec.specs.Paths.{Path}
 use Rattle.vk_spec.specs.Versions.{Version, same_version}
-use Rattle.vk_registry.specs.Tables.{Row}
 use Rattle.vk_pages.specs.Homes.{Home, in_overlay, in_registry}
 use Rattle.vk_pages.specs.Pages.{row_folder}
 

@@ -35,6 +35,10 @@ start_in l = layout_view l.layout
 abbrev pub paths_in : Learned → List Path
 paths_in l = paths_of l.kept
 
+-- those that opening had looked at
+abbrev pub opened_in : Learned → List Path
+opened_in l = take l.opened (paths_in l)
+
 -- those that were looked at since the opening
 abbrev pub asked_since : Learned → List Path
 asked_since l = drop l.opened (paths_in l)

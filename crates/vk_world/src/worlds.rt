@@ -1,16 +1,16 @@
 //! A catalogue of ports over the files of a tree.
-ghost use Rattle.std.specs.Prelude.{◌≡◌, ◌↔◌, [], None, IfSome};
+ghost use Rattle.std.specs.Prelude.{◌≡◌, ◌↔◌, ◌++◌, [], None, IfSome};
 ghost use Rattle.std.specs.List.{Contains};
 ghost use Rattle.vk_spec.specs.Lists.{NoRepeats};
 ghost use Rattle.vk_spec.specs.Catalogues.{Asks, OnPage, CanAskVersion, CanAskManifest, SaysGiven, SaysVersion, SaysManifest};
 ghost use Rattle.vk_version.specs.AskViews.{ask_view};
 ghost use Rattle.vk_catalogue.specs.Views.{given_answer, version_answer, manifest_answer};
-ghost use Rattle.vk_files.specs.Kept.{IsOf};
+ghost use Rattle.vk_files.specs.Kept.{IsOf, paths_of};
 ghost use Rattle.vk_opening.specs.Opened.{Opens};
 ghost use Rattle.vk_opening.specs.Views.{start_view, opened_files};
 ghost use Rattle.vk_world.specs.Answered.{pairs_given, pairs_listed};
 ghost use Rattle.vk_world.specs.Libraries.{StandsAt};
-ghost use Rattle.vk_world.specs.Worlds.{world_state, origin_on, start_in, known_in, paths_in, asked_since, IsReadSince};
+ghost use Rattle.vk_world.specs.Worlds.{world_state, origin_on, start_in, known_in, opened_in, asked_since, IsReadSince};
 
 use crate::libraries::Library;
 use std::alloc::Global;
@@ -66,6 +66,7 @@ impl<T: Tree> World<T> {
         requires { IfSome (T.state tree).told (λ t. IsOf t.files (opened_files start)) }
         ensures tree { result.0 ≡ tree }
         ensures start { start_in result.1 ≡ start_view start }
+        ensures opened { opened_in result.1 ≡ paths_of (opened_files start) }
         ensures origin { (world_state (T.state result.0) result.1).origin ≡ origin_on (T.state tree) }
         ensures known { known_in result.1 ≡ [] }
     {
@@ -84,9 +85,9 @@ impl<T: Tree> World<T> {
         self.tree
     }
 
-    /// Tells a caller what every world keeps: no path was looked at twice, by it or by opening.
+    /// Tells a caller what every world keeps: no path was looked at twice, by opening or since.
     pub fn known(&self)
-        ensures { NoRepeats (paths_in self.now.1) }
+        ensures { NoRepeats (opened_in self.now.1 ++ asked_since self.now.1) }
     {
         self.library.files.known();
     }
@@ -107,6 +108,7 @@ impl<T: Tree> Catalogue for World<T> {
     fn given(&mut self, port: &PortName) -> Result<Result<Given, Wrong>, CatStop>
         ensures asks { Asks port.now SaysGiven (given_answer result) (world_state (T.state self.old.0) self.old.1) (world_state (T.state self.new.0) self.new.1) }
         ensures start { start_in self.new.1 ≡ start_in self.old.1 }
+        ensures opened { opened_in self.new.1 ≡ opened_in self.old.1 }
         ensures known { known_in self.new.1 ≡ pairs_given port.now (given_answer result) (known_in self.old.1) }
     {
         self.library.given(self.alloc, &mut self.tree, port)
@@ -116,6 +118,7 @@ impl<T: Tree> Catalogue for World<T> {
         requires { OnPage port.now CanAskVersion (world_state (T.state self.old.0) self.old.1) }
         ensures asks { Asks port.now (SaysVersion (ask_view ask.now)) (version_answer result) (world_state (T.state self.old.0) self.old.1) (world_state (T.state self.new.0) self.new.1) }
         ensures start { start_in self.new.1 ≡ start_in self.old.1 }
+        ensures opened { opened_in self.new.1 ≡ opened_in self.old.1 }
         ensures known { known_in self.new.1 ≡ pairs_listed port.now (version_answer result) (known_in self.old.1) }
     {
         self.library.version(self.alloc, &mut self.tree, port, ask)
@@ -129,6 +132,7 @@ impl<T: Tree> Catalogue for World<T> {
         requires { OnPage port.now (CanAskManifest (ask_view ask.now)) (world_state (T.state self.old.0) self.old.1) }
         ensures asks { Asks port.now (SaysManifest (ask_view ask.now)) (manifest_answer result) (world_state (T.state self.old.0) self.old.1) (world_state (T.state self.new.0) self.new.1) }
         ensures start { start_in self.new.1 ≡ start_in self.old.1 }
+        ensures opened { opened_in self.new.1 ≡ opened_in self.old.1 }
         ensures known { known_in self.new.1 ≡ known_in self.old.1 }
     {
         self.library.manifest(self.alloc, &mut self.tree, port, ask)

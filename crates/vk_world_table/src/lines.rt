@@ -2,10 +2,9 @@
 use std::alloc::Global;
 use vk_base::{List, Memory, Text, TreePath, token};
 use vk_catalogue::{Field, Given, Wrong};
-use vk_json::Why;
+use vk_json::{Why, place_text};
 use vk_model::{Early, Manifest, Setting};
 use vk_opening::Start;
-use vk_table::place_of;
 use vk_version::{Ask, Class, Version};
 
 /// The token of a path.
@@ -30,7 +29,7 @@ pub fn paths_line(alloc: Global, paths: &List<TreePath>) -> Result<Text, Memory>
 
 fn bad_file(alloc: Global, path: &TreePath, place: &Text, why: Why) -> Result<String, Memory> {
     let path = path_line(alloc, path)?;
-    let place = place_of(alloc, place)?;
+    let place = place_text(alloc, place)?;
     let word = why.word(alloc)?;
     Ok(format!(in alloc; "bad-file {path} {place} {word}")?)
 }

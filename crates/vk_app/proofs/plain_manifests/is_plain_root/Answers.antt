@@ -1,4 +1,3 @@
-use Rattle.std.proofs.Common.{◌≡◌, sym}
 use Rattle.vk_app.proofs.ManifestLemmas.{all_plain}
 use Rattle.vk_app.proofs.plain_manifests.is_plain_root.Goals as goal
 

@@ -1,4 +1,3 @@
-use Rattle.vk_app.specs.PlanReadings.{refused_of}
 use Rattle.vk_app.proofs.ReportEndLemmas.{fails_before, shown_report}
 use Rattle.vk_app.proofs.runs.end_of_report.Goals as goal
 

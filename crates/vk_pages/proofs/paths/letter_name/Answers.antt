@@ -1,9 +1,10 @@
+use Rattle.std.proofs.Common.{refl}
 use Rattle.vk_base.specs.Names.{port_rule}
 use Rattle.vk_base.proofs.NameLemmas.{rule_from_no_fault}
-use Rattle.vk_pages.proofs.PartLemmas.{letter_part, dash_inside}
+use Rattle.vk_opening.proofs.PartLemmas.{letter_part}
 use Rattle.vk_pages.proofs.paths.letter_name.Goals as goal
 
 pub returns-clause-part : goal.returns-clause-part
 returns-clause-part c =
     rw (c.in_ok-push_str-2.ensures.ok, c.in_ok-push_str.ensures.ok, c.new-name.ensures, c.first_letter.ensures.letter)
-    (letter_part c.args.port.now _ (rule_from_no_fault port_rule _ c.first_letter.ensures.name) dash_inside)
+    (letter_part port_rule c.args.port.now _ (rule_from_no_fault port_rule _ c.first_letter.ensures.name) refl)

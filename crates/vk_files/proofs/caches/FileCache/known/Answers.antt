@@ -1,4 +1,4 @@
-use Rattle.std.proofs.Common.{◌≡◌, map, sym, subst}
+use Rattle.std.proofs.Common.{sym, subst}
 use Rattle.vk_spec.specs.Lists.{NoRepeats}
 use Rattle.vk_files.specs.Views.{same_path}
 use Rattle.vk_files.proofs.CacheLemmas.{paths_kept, same_self}

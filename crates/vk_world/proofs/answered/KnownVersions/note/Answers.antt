@@ -1,5 +1,5 @@
-use Rattle.std.proofs.Common.{◌≡◌, ◌∙◌, sym}
-use Rattle.vk_world.proofs.KnownLemmas.{put_last, stays}
+use Rattle.std.proofs.Common.{◌∙◌, sym}
+use Rattle.vk_world.proofs.KnownLemmas.{put_last}
 use Rattle.vk_world.proofs.answered.KnownVersions.note.Goals as goal
 
 pub returns-clause-ok : goal.returns-clause-ok

@@ -13,7 +13,7 @@ use Rattle.vk_pages.specs.NoteViews.{notes_of}
 use Rattle.vk_world.specs.Learning.{SaysNothing}
 use Rattle.vk_world.specs.HomeNotes.{AreHomes, IsHomeOf, homes_in, found_home}
 use Rattle.vk_world.proofs.LearnLemmas.{learns_memory, learns_pure, learns_so}
-use Rattle.vk_world.proofs.NotedLemmas.{seen_notes, last_noted}
+use Rattle.vk_files.proofs.NotedLemmas.{noted, last_noted}
 use Rattle.vk_world.proofs.homes.Homes.ask.Goals as goal
 
 pub returns-in_err-key-clause-learns : goal.returns-in_err-key-clause-learns
@@ -26,12 +26,12 @@ returns-in_err-reserve-clause-learns g c =
     let p = err_from_is_err_and c.from_residual-in_err-reserve.result c.from_residual-in_err-reserve.ensures.1 in
     rw (p.1, p.2)
     (learns_pure (Err cat.Memory) SaysNothing (AreHomes (layout_view c.args.layout.now) c.args.self.now) (AreHomes (layout_view c.args.layout.now) (record { baselines = c.args.self.now.baselines; found = c.reserve.new.self })) (held c.args.files.now (g.T.Tree.state c.args.tree.now)) refl
-    (λ f right. (record { baselines = right.baselines; found = subst (λ es. AreRight (IsHomeOf (layout_view c.args.layout.now) f) (seen_notes found_home es)) (sym c.reserve.ensures.entries) right.found }, tt)))
+    (λ f right. (record { baselines = right.baselines; found = subst (λ es. AreRight (IsHomeOf (layout_view c.args.layout.now) f) (noted found_home es)) (sym c.reserve.ensures.entries) right.found }, tt)))
 
 pub returns-clause-learns : goal.returns-clause-learns
 returns-clause-learns g c =
     let start = layout_view c.args.layout.now in
-    let kept = c.keep.ensures.homes ∙ ap (λ es. seen_notes found_home es ++ (c.in_ok-key.key, found_home c.in_ok-found.found) ∷ []) c.reserve.ensures.entries in
+    let kept = c.keep.ensures.homes ∙ ap (λ es. noted found_home es ++ (c.in_ok-key.key, found_home c.in_ok-found.found) ∷ []) c.reserve.ensures.entries in
     learns_so (Ok tt) SaysNothing (AreHomes start c.args.self.now) (AreHomes start c.keep.new.self) refl (λ f right. right.baselines)
     (λ f before right says. (
       record {
@@ -52,4 +52,4 @@ returns-in_err-found-clause-learns g c =
     let p = err_from_is_err_and c.from_residual-in_err-found.result c.from_residual-in_err-found.ensures.1 in
     rw (p.1, p.2)
     (learns_so (Err c.in_err-found.field-0.0) SaysNothing (AreHomes start c.args.self.now) (AreHomes start (record { baselines = c.find_home.new.baselines; found = c.reserve.new.self })) refl (λ f right. right.baselines)
-    (λ f before right says. (record { baselines = right; found = subst (λ es. AreRight (IsHomeOf start f) (seen_notes found_home es)) (sym c.reserve.ensures.entries) before.found }, tt)) c.in_err-found.ensures)
+    (λ f before right says. (record { baselines = right; found = subst (λ es. AreRight (IsHomeOf start f) (noted found_home es)) (sym c.reserve.ensures.entries) before.found }, tt)) c.in_err-found.ensures)

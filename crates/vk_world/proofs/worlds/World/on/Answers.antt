@@ -1,7 +1,7 @@
 use Rattle.std.proofs.Common.{◌∙◌, sym, ap, subst, length}
 use Rattle.std.specs.Prelude.{IfSome}
 use Rattle.vk_files.specs.Kept.{IsOf}
-use Rattle.vk_world.proofs.WorldLemmas.{sound_on_start, origin_is}
+use Rattle.vk_world.proofs.WorldLemmas.{sound_on_start, origin_is, opened_at_start}
 use Rattle.vk_world.proofs.worlds.World.on.Goals as goal
 
 pub invariant_of-result : goal.invariant_of-result
@@ -11,3 +11,6 @@ invariant_of-result g c =
 
 pub returns-clause-origin : goal.returns-clause-origin
 returns-clause-origin g c = origin_is c.new.result (g.T.Tree.state c.args.tree) (c.new.ensures.opened ∙ ap length (sym c.new.ensures.files))
+
+pub returns-clause-opened : goal.returns-clause-opened
+returns-clause-opened g c = opened_at_start c.new.result _ c.new.ensures.opened c.new.ensures.files
