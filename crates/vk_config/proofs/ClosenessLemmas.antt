@@ -1,17 +1,16 @@
 -- The closest pattern is one that none beats.
-use Rattle.std.proofs.Common.{◌≡◌, ◌+◌, ◌<◌, ◌≤◌, ◌⊎◌, ℕ, zero, suc, Bool, true, false, not, cond, ltb, leb, List, [], ◌∷◌, ◌++◌, length, take, drop, map, max, bytes_eq, inl, inr, refl, ap, sym, ◌∙◌, append_assoc, arith}
-use Rattle.std.specs.Prelude.{Option, Some, None, slice_get, nat_le, if◌then◌else◌}
+use Rattle.std.proofs.Common.{◌≡◌, ◌+◌, ◌<◌, ◌≤◌, ℕ, Bool, true, false, List, [], ◌∷◌, ◌++◌, length, take, drop, max, bytes_eq, inl, inr, refl, ap, sym, ◌∙◌, append_assoc, arith}
+use Rattle.std.specs.Prelude.{Option, Some, None, if◌then◌else◌}
 use Rattle.std.specs.List.{Contains}
 use Rattle.std.proofs.lemmas.Bool.{cases_lt}
-use Rattle.std.proofs.lemmas.Bool.Decides.{nat_tests}
 use Rattle.std.proofs.Math.Seq.{take-append_seam}
 use Rattle.std.proofs.lemmas.List.{length-append, take-append-drop, append-nil}
 use Rattle.std.proofs.lemmas.List.Elements.{Contains-push, Contains-push_cases, Contains-append_left}
 use Rattle.std.proofs.lemmas.Slice.Eq.{bytes_eq-Decides}
 use Rattle.vk_spec.proofs.ListLemmas.{contains_nothing}
-use Rattle.vk_config.specs.Configs.{Pattern, exact, starting, Registry, Config}
-use Rattle.vk_config.specs.Serving.{Takes, Beats, HasPattern, IsBest, NoneTakes}
-use Rattle.vk_config.specs.Closeness.{closeness, closer, closest_from, closest, Found, closer_place, closest_place}
+use Rattle.vk_config.specs.Configs.{Pattern, exact, starting}
+use Rattle.vk_config.specs.Serving.{Takes, Beats}
+use Rattle.vk_config.specs.Closeness.{closeness, closer, closest_from, closest}
 
 max_right : (k n : ℕ) → k < n → max k n ≡ n
 max_right k n less = omega (arith, less)

@@ -5,8 +5,8 @@ use Rattle.std.proofs.lemmas.Bool.{cases_lt}
 use Rattle.std.proofs.lemmas.Bool.Decides.{nat_tests}
 use Rattle.std.proofs.lemmas.List.{length-append, append-nil}
 use Rattle.vk_config.specs.Configs.{Pattern, Registry, Config}
-use Rattle.vk_config.specs.Serving.{Takes, Beats, HasPattern, IsBest, NoneTakes, has_default, IsServedAt, by_pattern, by_default, IsUnserved}
-use Rattle.vk_config.specs.Closeness.{closeness, closest, Found, closer_place, closest_place, default_place, place_or, place_of}
+use Rattle.vk_config.specs.Serving.{patterns_of, HasPattern, IsBest, NoneTakes, has_default, IsServedAt, by_pattern, by_default, IsUnserved}
+use Rattle.vk_config.specs.Closeness.{closeness, closest, Found, closer_place, closest_place, place_or, place_of}
 use Rattle.vk_config.proofs.ClosenessLemmas.{IsClosest, closest_is, close_is, takes_close, takes_is, close_beats, beats_close}
 
 none_is : {A : Type 0} {x : A} → None ≡ Some x → ⊥
@@ -22,7 +22,7 @@ some_is e = (cc)
 
 -- how closely the registry at a place takes a port
 abbrev At : List ℕ → List Registry → ℕ → Option ℕ → Type 0
-At port registries place found = (registry : Registry) × (slice_get registries place ≡ Some registry) × (closest port registry.packages ≡ found)
+At port registries place found = (registry : Registry) × (slice_get registries place ≡ Some registry) × (closest port (patterns_of registry) ≡ found)
 
 -- no registry takes the port, or this is the first of those that take it most closely
 abbrev IsClosestPlace : List ℕ → List Registry → Option Found → Type 0
@@ -61,7 +61,7 @@ at_before port registries last place found at = (at.0, get_before registries las
 
 -- what is at a place of one registry more
 at_cases : (port : List ℕ) (registries : List Registry) (last : Registry) (place n : ℕ) → At port (registries ++ last ∷ []) place (Some n)
-    → At port registries place (Some n) × (place < length registries) ⊎ (place ≡ length registries) × (closest port last.packages ≡ Some n)
+    → At port registries place (Some n) × (place < length registries) ⊎ (place ≡ length registries) × (closest port (patterns_of last) ≡ Some n)
 at_cases port registries last place n at =
     elim (get_cases registries last at.0 place at.1) [
       | inl before ↦ inl ((at.0, before.0, at.2), before.1)
@@ -69,7 +69,7 @@ at_cases port registries last place n at =
     ]
 
 -- one registry more, which takes the port so closely or doesn't take it
-one_place : (port : List ℕ) (registries : List Registry) (last : Registry) (found : Option Found) (next : Option ℕ) → closest port last.packages ≡ next → IsClosestPlace port registries found
+one_place : (port : List ℕ) (registries : List Registry) (last : Registry) (found : Option Found) (next : Option ℕ) → closest port (patterns_of last) ≡ next → IsClosestPlace port registries found
     → IsClosestPlace port (registries ++ last ∷ []) (closer_place found (length registries) next)
 one_place port registries last None None is known = λ place n at.
     elim (at_cases port registries last place n at) [
@@ -92,7 +92,7 @@ one_place port registries last None (Some k) is known = (
 )
 one_place port registries last (Some f) (Some k) is known = two_places port registries last f k (nat_le k f.closeness) refl is known
   where
-    two_places : (port : List ℕ) (registries : List Registry) (last : Registry) (f : Found) (k : ℕ) (test : Bool) → nat_le k f.closeness ≡ test → closest port last.packages ≡ Some k → IsClosestPlace port registries (Some f)
+    two_places : (port : List ℕ) (registries : List Registry) (last : Registry) (f : Found) (k : ℕ) (test : Bool) → nat_le k f.closeness ≡ test → closest port (patterns_of last) ≡ Some k → IsClosestPlace port registries (Some f)
         → IsClosestPlace port (registries ++ last ∷ []) (if test then Some f else Some (record { place = length registries; closeness = k }))
     two_places port registries last f k true few is known =
         let most : k ≤ f.closeness = grind (arith, nat_tests) in (
@@ -116,7 +116,7 @@ places_after port before [] found known = rw (append-nil before) known
 places_after port before (registry ∷ registries) found known =
     let count : length (before ++ registry ∷ []) ≡ length before + 1 = length-append before (registry ∷ []) in
     rw (sym (append_assoc before (registry ∷ []) registries), ← count)
-    (places_after port (before ++ registry ∷ []) registries (closer_place found (length before) (closest port registry.packages)) (one_place port before registry found (closest port registry.packages) refl known))
+    (places_after port (before ++ registry ∷ []) registries (closer_place found (length before) (closest port (patterns_of registry))) (one_place port before registry found (closest port (patterns_of registry)) refl known))
 
 no_place : (port : List ℕ) → IsClosestPlace port [] None
 no_place port place n at = let e : None ≡ Some at.0 = at.1 in none_is e
@@ -130,9 +130,9 @@ place_is port registries = places_after port [] registries None (no_place port)
 taken_at : (port : List ℕ) (registries : List Registry) (place : ℕ) (pattern : Pattern) → HasPattern registries port place pattern → (n m : ℕ) × (closeness port pattern ≡ Some n) × At port registries place (Some m) × (n ≤ m)
 taken_at port registries place pattern has =
     let close = takes_close port pattern has.takes in
-    by (closest port has.registry.packages) refl (closest_is port has.registry.packages) close
+    by (closest port (patterns_of has.registry)) refl (closest_is port (patterns_of has.registry)) close
   where
-    by : (found : Option ℕ) → closest port has.registry.packages ≡ found → IsClosest port has.registry.packages found → (n : ℕ) × (closeness port pattern ≡ Some n) → (n m : ℕ) × (closeness port pattern ≡ Some n) × At port registries place (Some m) × (n ≤ m)
+    by : (found : Option ℕ) → closest port (patterns_of has.registry) ≡ found → IsClosest port (patterns_of has.registry) found → (n : ℕ) × (closeness port pattern ≡ Some n) → (n m : ℕ) × (closeness port pattern ≡ Some n) × At port registries place (Some m) × (n ≤ m)
     by None is known close = absurd (none_is_some close.0 (sym (known pattern has.listed) ∙ close.1))
     by (Some m) is known close = (close.0, m, close.1, (has.registry, has.stands, is), known.1 pattern close.0 has.listed close.1)
 
@@ -142,7 +142,7 @@ none_takes port registries known place pattern has = let t = taken_at port regis
 best_at : (port : List ℕ) (registries : List Registry) (found : Found) → IsClosestPlace port registries (Some found) → IsBest registries port found.place
 best_at port registries found known =
     let at = known.0 in
-    let closest_one : IsClosest port at.0.packages (Some found.closeness) = rw at.2 at (closest_is port at.0.packages) in
+    let closest_one : IsClosest port (patterns_of at.0) (Some found.closeness) = rw at.2 at (closest_is port (patterns_of at.0)) in
     let pattern = closest_one.0.0 in
     let close = close_is port pattern found.closeness closest_one.0.2 in
     record {

@@ -2,7 +2,7 @@
 use Rattle.std.specs.Prelude.{◌+◌, ℕ, List, [], ◌∷◌, length, take, max, Option, Some, None, nat_le, if◌then◌else◌}
 use Rattle.std.specs.Str.{bytes_eq}
 use Rattle.vk_config.specs.Configs.{Pattern, exact, starting, Registry, Config}
-use Rattle.vk_config.specs.Serving.{has_default}
+use Rattle.vk_config.specs.Serving.{patterns_of, has_default}
 
 -- the length of the beginning; one more than that of any for the name itself
 abbrev pub closeness : List ℕ → Pattern → Option ℕ
@@ -36,7 +36,7 @@ closer_place (Some found) place (Some next) = if nat_le next found.closeness the
 
 abbrev pub closest_place : List ℕ → Option Found → ℕ → List Registry → Option Found
 closest_place port found n [] = found
-closest_place port found n (registry ∷ registries) = closest_place port (closer_place found n (closest port registry.packages)) (n + 1) registries
+closest_place port found n (registry ∷ registries) = closest_place port (closer_place found n (closest port (patterns_of registry))) (n + 1) registries
 
 -- the default registry, if it serves ports
 abbrev pub default_place : Config → Option ℕ

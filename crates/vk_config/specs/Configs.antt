@@ -15,7 +15,7 @@ pub data Source : Type 0 where
   builtin : Source
   artifact : Source
 
--- an artifact registry has no patterns
+-- of an artifact registry no patterns are read
 pub record Registry : Type 0 where
   pub source : Source
   pub packages : List Pattern

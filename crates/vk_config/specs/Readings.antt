@@ -1,7 +1,6 @@
 -- The configuration that a document is, in the order in which it is read.
-use Rattle.std.specs.Prelude.{ℕ, List, [], Option, Some, None, Result, Ok, Err, codes, if◌then◌else◌}
+use Rattle.std.specs.Prelude.{ℕ, List, [], Option, Some, None, Result, Ok, codes, if◌then◌else◌}
 use Rattle.std.specs.Option.{is_some}
-use Rattle.serde_json.specs.Data.{Data}
 use Rattle.serde_json.specs.Find.{as_null}
 use Rattle.vk_spec.specs.Reading.{◌>>=◌}
 use Rattle.vk_spec.specs.Paths.{Path}

@@ -1,10 +1,8 @@
 -- The registry that an object is.
-use Rattle.std.specs.Prelude.{ℕ, List, [], Option, Some, None, Result, Ok, Err, codes, if◌then◌else◌}
+use Rattle.std.specs.Prelude.{ℕ, List, [], Option, Some, None, Ok, codes, if◌then◌else◌}
 use Rattle.std.specs.Str.{bytes_eq}
-use Rattle.serde_json.specs.Data.{Data}
 use Rattle.vk_spec.specs.Reading.{◌>>=◌, or_fault}
 use Rattle.vk_json.specs.declared.faults.Why.TheVariants as why
-use Rattle.vk_json.specs.Documents.{Fault}
 use Rattle.vk_json.specs.Places.{here}
 use Rattle.vk_json.specs.Readings.{Reading, text_at, object_at, wanted, optional_or, each_item}
 use Rattle.vk_fields.specs.Texts.{path_at}

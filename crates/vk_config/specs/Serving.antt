@@ -1,5 +1,5 @@
 -- Which registry a port comes from.
-use Rattle.std.specs.Prelude.{◌≡◌, ◌<◌, ◌++◌, ℕ, Bool, true, false, List, length, slice_get, Option, Some, None}
+use Rattle.std.specs.Prelude.{◌≡◌, ◌<◌, ◌++◌, ℕ, Bool, true, false, List, [], length, slice_get, Option, Some, None, if◌then◌else◌}
 use Rattle.std.specs.List.{Contains}
 use Rattle.vk_config.specs.Configs.{Pattern, exact, starting, Source, filesystem, git, builtin, artifact, Registry, Config}
 
@@ -15,11 +15,22 @@ Beats (exact name) (starting other) = Unit {0}
 Beats (starting text) (exact other) = ⊥
 Beats (starting text) (starting other) = length other < length text
 
--- the registry at this place has a pattern that takes the port
+-- an artifact registry serves no port; any other does, also one that the program can't read
+abbrev pub serves_ports : Source → Bool
+serves_ports (filesystem path baseline) = true
+serves_ports git = true
+serves_ports builtin = true
+serves_ports artifact = false
+
+-- the patterns by which a registry serves ports
+abbrev pub patterns_of : Registry → List Pattern
+patterns_of registry = if serves_ports registry.source then registry.packages else []
+
+-- the registry at this place serves ports, and has a pattern that takes this one
 pub record HasPattern (registries : List Registry) (port : List ℕ) (place : ℕ) (pattern : Pattern) : Type 0 where
   pub registry : Registry
   pub stands : slice_get registries place ≡ Some registry
-  pub listed : Contains registry.packages pattern
+  pub listed : Contains (patterns_of registry) pattern
   pub takes : Takes pattern port
 
 -- no pattern that takes the port beats this one, which stands in the first registry with one so good
@@ -32,13 +43,6 @@ pub record IsBest (registries : List Registry) (port : List ℕ) (place : ℕ) :
 -- no pattern takes the port
 abbrev pub NoneTakes : List Registry → List ℕ → Type 0
 NoneTakes registries port = (place : ℕ) (pattern : Pattern) → HasPattern registries port place pattern → ⊥
-
--- an artifact registry serves no port; any other does, also one that the program can't read
-abbrev pub serves_ports : Source → Bool
-serves_ports (filesystem path baseline) = true
-serves_ports git = true
-serves_ports builtin = true
-serves_ports artifact = false
 
 -- the same of one that may be missing
 abbrev pub serves_any : Option Source → Bool

@@ -1,8 +1,7 @@
 -- What contracts see of a configuration: plain data.
-use Rattle.std.specs.Prelude.{map, option_map, Option}
+use Rattle.std.specs.Prelude.{map, option_map}
 use Rattle.vk_config.specs.Configs as plain
 use Rattle.vk_config.specs.Registries as kind
-use Rattle.vk_config.specs.Closeness as close
 use Rattle.vk_config.specs.declared.patterns.Pattern.{Pattern}
 use Rattle.vk_config.specs.declared.patterns.Pattern.TheVariants as pattern
 use Rattle.vk_config.specs.declared.registries.Kind.{Kind}

@@ -1,5 +1,5 @@
 //! A configuration: in a file of its own, or in a root manifest.
-ghost use Rattle.std.specs.Prelude.{◌≡◌, List, Option, map, option_map};
+ghost use Rattle.std.specs.Prelude.{List, Option, map, option_map};
 ghost use Rattle.serde_json.specs.View.{view};
 ghost use Rattle.vk_spec.specs.Reading.{Gives};
 ghost use Rattle.vk_json.specs.DocumentView.{file_fault_of};

@@ -1,5 +1,5 @@
 //! Patterns: which ports a registry has.
-ghost use Rattle.std.specs.Prelude.{◌≡◌, ◌==◌, ◌&&◌, not, MatchOption, true, false, slice_index, Ok};
+ghost use Rattle.std.specs.Prelude.{◌≡◌, ◌==◌, ◌&&◌, MatchOption, true, false, slice_index, Ok};
 ghost use Rattle.std.specs.List.{list_any, list_all, before_first, after_first};
 ghost use Rattle.vk_spec.specs.Reading.{Gives};
 ghost use Rattle.vk_base.specs.Names as names;

@@ -38,7 +38,7 @@ pub enum Source {
 pub struct Registry {
     /// Where its ports come from.
     pub source: Source,
-    /// Which ports it has. An artifact registry has none.
+    /// Which ports it has. An artifact registry has none, whatever stands here.
     pub packages: List<Pattern>,
 }
 

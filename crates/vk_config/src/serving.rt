@@ -1,7 +1,7 @@
 //! Which registry a port comes from.
 ghost use Rattle.std.specs.Prelude.{◌≡◌, ◌↔◌, List, ℕ, None, Some, map, option_map, IfSome};
 ghost use Rattle.vk_config.specs.Configs as plain;
-ghost use Rattle.vk_config.specs.Serving.{serves_ports, IsServedAt, IsUnserved};
+ghost use Rattle.vk_config.specs.Serving.{serves_ports, patterns_of, IsServedAt, IsUnserved};
 ghost use Rattle.vk_config.specs.Closeness.{closeness, closer, closest, closer_place, closest_place, default_place, place_of};
 ghost use Rattle.vk_config.specs.Views.{pattern_view, source_view, registry_view, config_view};
 ghost use Rattle.vk_config.specs.FoundViews.{found_view};
@@ -61,6 +61,25 @@ fn closest(patterns: &[Pattern], port: &PortName) -> Option<usize>
     found
 }
 
+fn serves_ports(source: &Source) -> bool
+    ensures { result ≡ serves_ports (source_view source.now) }
+{
+    match source {
+        Source::Filesystem { .. } | Source::Git | Source::Builtin => true,
+        Source::Artifact => false,
+    }
+}
+
+// The patterns by which a registry serves ports.
+fn patterns_of(registry: &Registry) -> &[Pattern]
+    ensures { map pattern_view result.now ≡ patterns_of (registry_view registry.now) }
+{
+    if serves_ports(&registry.source) {
+        return registry.packages.as_slice();
+    }
+    &[]
+}
+
 #[derive(Clone, Copy)]
 struct Found {
     place: usize,
@@ -85,18 +104,9 @@ fn closest_place(registries: &[Registry], port: &PortName) -> Option<Found>
 {
     let mut found = None;
     for (n, registry) in registries.iter().enumerate() {
-        found = closer_place(found, n, closest(registry.packages.as_slice(), port));
+        found = closer_place(found, n, closest(patterns_of(registry), port));
     }
     found
-}
-
-fn serves_ports(source: &Source) -> bool
-    ensures { result ≡ serves_ports (source_view source.now) }
-{
-    match source {
-        Source::Filesystem { .. } | Source::Git | Source::Builtin => true,
-        Source::Artifact => false,
-    }
 }
 
 fn default_place(config: &Config) -> Option<usize>
@@ -119,8 +129,9 @@ fn place_of(config: &Config, port: &PortName) -> Option<usize>
 
 /// The registry that a port comes from: a place in `registries`, or their number for the default
 /// registry. A name beats every beginning, a longer beginning a shorter one, and the earlier of two
-/// registries the later one; what no pattern takes goes to the default registry. `None` exactly where
-/// neither serves the port. The answer may be a registry that the program can't read. Takes no memory.
+/// registries the later one; what no pattern takes goes to the default registry. An artifact registry
+/// serves no port. `None` exactly where neither serves the port. The answer may be a registry that the
+/// program can't read. Takes no memory.
 pub fn registry_of(config: &Config, port: &PortName) -> Option<usize>
     ensures place { result ≡ place_of (config_view config.now) port.now }
     ensures found { IfSome result (IsServedAt (config_view config.now) port.now) }
