@@ -20,9 +20,6 @@ use Rattle.vk_catalogue.specs.Shelves.{Shelved, no_page, page_or_none, page_amon
 pub no_page_is : IsPage no_page
 no_page_is = record { distinct = tt; own = tt; given_wrong = tt; row_wrongs = λ r h. absurd (contains_nothing r h) }
 
-pub none_are_pages : ArePages (page_on [])
-none_are_pages port = no_page_is
-
 -- a row that is found among views is the view of the row that is found
 pub row_view_found : (rows : List PageRow) (ask : Ask) → row_in (map row_view rows) ask ≡ option_map row_view (find (λ r. same_ask (ask_of r.version) ask) rows)
 row_view_found rows ask = find_by row_view (λ r. same_ask (ask_of r.version) ask) rows

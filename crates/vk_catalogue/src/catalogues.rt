@@ -17,7 +17,7 @@ pub trait Catalogue {
     ghost use Rattle.vk_catalogue.specs.Views.{given_answer, version_answer, manifest_answer};
 
     /// What is known of it: the pages, where it tells them; what it was made of; how many calls
-    /// failed, and whether none is to fail.
+    /// were made and how many failed, and whether none is to fail.
     ghost state: { Self → CatalogueState Tree };
 
     /// The given version of a port, or why there is none.

@@ -1,5 +1,4 @@
 //! The manifest of a port at its given version.
-ghost use Rattle.std.specs.Prelude.{◌≡◌};
 ghost use Rattle.vk_spec.specs.Catalogues.{Asks, OnPage, CanAskManifest, CanAskVersion};
 ghost use Rattle.vk_version.specs.AskViews.{ask_view};
 ghost use Rattle.vk_catalogue.specs.GivenManifests.{SaysAt, SaysAtGiven, at_answer};

@@ -9,7 +9,6 @@ ghost use Rattle.vk_catalogue.specs.MemCatalogues.{IsNewCatalogue, IsPageFor, Me
 
 use crate::catalogues::Catalogue;
 use crate::pages::Page;
-use crate::rows::row_for;
 use crate::shelves::Shelf;
 use crate::stops::CatStop;
 use crate::wrongs::{Given, Wrong};

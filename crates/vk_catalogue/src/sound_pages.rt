@@ -1,10 +1,10 @@
 //! Whether a page keeps what every page keeps.
-ghost use Rattle.std.specs.Prelude.{◌≡◌, ◌↔◌, ◌++◌, ◌∷◌, [], IsTrue, IfOk, IfErr, map, not, true};
+ghost use Rattle.std.specs.Prelude.{◌≡◌, ◌↔◌, ◌++◌, ◌∷◌, [], IsTrue, IfOk, map, not, true};
 ghost use Rattle.std.specs.List.{list_any, list_all};
 ghost use Rattle.vk_spec.specs.Versions.{ask_of, same_ask};
 ghost use Rattle.vk_spec.specs.Catalogues.{CanBeOfGiven, HasOwnAlone, IsPage};
 ghost use Rattle.vk_version.specs.AskViews.{ask_view};
-ghost use Rattle.vk_catalogue.specs.Views.{given_said, given_view, wrong_view};
+ghost use Rattle.vk_catalogue.specs.Views.{given_view, wrong_view};
 ghost use Rattle.vk_catalogue.specs.PageViews.{page_view, row_view};
 ghost use Rattle.vk_catalogue.specs.SoundPages.{FitsGiven, asks_in, can_be_of_row, distinct_after, is_row_right};
 

@@ -13,7 +13,6 @@ use Rattle.vk_files.specs.StopViews.{refusal_in, has_tree_failed, stop_after, ha
 use Rattle.vk_files.specs.Views.{kept_at, same_path}
 use Rattle.vk_files.specs.Readings.{Bad, IsFaultOf, told_at, ReadsAs}
 use Rattle.vk_files.specs.declared.stops.Stop.{Stop}
-use Rattle.vk_files.specs.declared.stops.Stop.TheVariants as stop
 use Rattle.vk_files.proofs.OnceLemmas.{nothing_read, once_then}
 use Rattle.vk_files.proofs.NoteLemmas.{right_more, right_found}
 use Rattle.vk_spec.proofs.OptionLemmas.{of_each}
@@ -44,10 +43,6 @@ reads_pure refusal view answer meaning h calm gives = record {
   once = rw calm (nothing_read h);
   content = of_each h.tree.told (λ t _. gives t.files);
 }
-
--- want of memory
-pub reads_memory : {X Y F P : Type 0} (refusal : F → P) (view : X → Y) (meaning : Files → Result Y P) (h : Held) → ReadsAs refusal view (Err stop.Memory) meaning h h
-reads_memory refusal view meaning h = reads_pure refusal view (Err stop.Memory) meaning h refl (λ f. tt)
 
 -- files were read, and then more
 pub reads_then : {X Y Z W F P : Type 0} {refusal : F → P} {view : X → Y} {next_view : Z → W} {x : X} {answer : Result Z (Stop F)} {meaning : Files → Result Y P} {a b c : Held} (next : Y → Files → Result W P)

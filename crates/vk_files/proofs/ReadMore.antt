@@ -41,7 +41,3 @@ noting_lacking {X = X} {refusal = refusal} {view = view} {answer = answer} {mean
   where
     lacking : ReadsNoting {X = X} refusal view (Err stop.Memory) meaning Before After a b
     lacking = record { once = once; content = of_each a.tree.told (λ t old before. (still t.files before, tt)) }
-
-pub noting_wanting : {X Y F P : Type 0} {refusal : F → P} {view : X → Y} {answer : Result X (Stop F)} {meaning : Files → Result Y P} {Known : Files → Type 0} {h : Held}
-    → IsErrAnd answer (λ e. e ≡ stop.Memory) → ReadsNoting refusal view answer meaning Known Known h h
-noting_wanting {h = h} is = noting_lacking (nothing_read h) is (λ f known. known)

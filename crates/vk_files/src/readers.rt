@@ -1,5 +1,5 @@
-ghost use Rattle.std.specs.Prelude.{◌≡◌, ◌<◌, ◌^◌, List, ℕ, Ok, Result, IfSome, IsSome, length, false};
-ghost use Rattle.vk_spec.specs.Reading.{Gives, Fails};
+ghost use Rattle.std.specs.Prelude.{◌≡◌, ◌<◌, ◌^◌, List, ℕ, Ok, Result, IfSome, length, false};
+ghost use Rattle.vk_spec.specs.Reading.{Gives};
 ghost use Rattle.vk_json.specs.Documents.{Fault};
 ghost use Rattle.vk_json.specs.DocumentView.{file_fault_of};
 ghost use Rattle.vk_files.specs.Views.{held, seen_view};
