@@ -10,8 +10,8 @@ use Rattle.vk_catalogue.specs.declared.shelves.Held.{Held}
 abbrev pub row_view : PageRow → plain.Row Tree
 row_view r = record { version = r.version; manifest = manifest_said r.manifest }
 
-abbrev pub page_view : Page → plain.Page Tree
-page_view p = record { given = given_said p.given; rows = map row_view p.rows }
-
 abbrev pub held_view : Held → plain.Page Tree
 held_view h = record { given = given_said h.given; rows = map row_view h.rows }
+
+abbrev pub page_view : Page → plain.Page Tree
+page_view p = held_view (record { given = p.given; rows = p.rows })

@@ -119,10 +119,8 @@ fn manifest_on(
     ensures told { IfOk (manifest_answer result) (SaysManifest (ask_view ask.now) (page_on shelf.now port.now)) }
     ensures calm { cat_failed result ≡ false }
 {
-    match shelf.row(port, ask) {
-        Some(row) => Ok(row.manifest.clone()?),
-        None => Ok(Err(Wrong::NoRegistry)),
-    }
+    let row = shelf.row(port, ask).unwrap();
+    Ok(row.manifest.clone()?)
 }
 
 impl Catalogue for MemCatalogue {

@@ -1,4 +1,4 @@
--- What was read of a tree, by path: each path is asked for once.
+-- What was found in a tree, by path: each path is found once.
 use Rattle.std.specs.Prelude.{◌≡◌, ◌++◌, ℕ, Bool, List, length, map, nat_lt, Option, Some, None, IfSome, if◌then◌else◌}
 use Rattle.std.specs.FinMap as files_map
 use Rattle.vk_spec.specs.Paths.{Path}
@@ -42,7 +42,7 @@ pub record Held : Type 0 where
   pub kept : Kept
   pub tree : State
 
--- these paths were asked for, none of them before, and what stands there is kept; nothing else was done
+-- these paths were found, and what stands there is kept after what was kept before; nothing else was done. That none of them was kept before is what every cache keeps (`FileCache::known`)
 pub record ReadOnce (failed : Bool) (before after : Held) : Type 0 where
   pub more : Kept
   pub kept : after.kept ≡ before.kept ++ more

@@ -63,7 +63,7 @@ is_there readable = true
 abbrev pub is_at : Files → Path → Bool
 is_at files path = is_there (standing_at path files)
 
--- nothing but reading was done, each path for the first time; and where the files are told and what was kept is theirs, the answer is what they give
+-- nothing but reading was done, and what was found is kept; and where the files are told and what was kept is theirs, the answer is what they give
 pub record ReadsAs {X Y F P : Type 0} (refusal : F → P) (view : X → Y) (answer : Result X (Stop F)) (meaning : Files → Result Y P) (before after : Held) : Type 0 where
   pub once : ReadOnce (has_tree_failed answer) before after
   pub content : IfSome before.tree.told (λ t. IsOf t.files before.kept → Gives view (refusal_in refusal) answer (meaning t.files))

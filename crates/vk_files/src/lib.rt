@@ -1,4 +1,4 @@
-//! The files of a tree, each asked for once: what stands at a path is kept, and readers say what it
+//! The files of a tree, each found once: what stands at a path is kept, and readers say what it
 //! means. It promises upwards that an answer is what the files say, and that no path is read twice.
 #![tactic(auto)]
 

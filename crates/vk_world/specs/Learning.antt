@@ -8,7 +8,7 @@ use Rattle.vk_catalogue.specs.declared.stops.CatStop.{CatStop}
 use Rattle.vk_catalogue.specs.declared.stops.CatStop.TheVariants as cat
 use Rattle.vk_catalogue.specs.Views.{cat_failed}
 
--- nothing but reading was done, each path for the first time; and where the files are told and the notes were right of them, the notes are right after it, and what is answered holds
+-- nothing but reading was done, and what was found is kept; and where the files are told and the notes were right of them, the notes are right after it, and what is answered holds
 pub record Learns {X : Type 0} (answer : Result X CatStop) (Says : Files → X → Type 0) (Before After : Files → Type 0) (before after : Held) : Type 0 where
   pub once : ReadOnce (cat_failed answer) before after
   pub content : IfSome before.tree.told (λ t. IsOf t.files before.kept → Before t.files → After t.files × IfOk answer (Says t.files))
