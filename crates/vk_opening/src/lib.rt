@@ -16,6 +16,7 @@ mod triplet_files;
 pub use laws::{early_files, first_triplet, two_places};
 pub use opens::{OpenStop, Opened, open};
 pub use projects::{from_folder, manifest_path};
+pub use roots::PortFile;
 pub use starts::{Overlay, Start};
 
 #[cfg(test)]

@@ -40,7 +40,7 @@ impl FileReader for RootFile {
     }
 }
 
-/// Reads the manifest of a port.
+/// Reads the manifest of a port, which needs a name and a version.
 #[derive(Drop)]
 pub struct PortFile;
 

@@ -25,7 +25,8 @@ use Rattle.vk_files.specs.Readings.{Bad, seen_file, told_at, file_at}
 use Rattle.vk_opening.specs.Projects.{manifest_path}
 use Rattle.vk_opening.specs.Starts.{Overlay, is_port, has_ports, Start}
 use Rattle.vk_pages.specs.RegistryFiles.{table_path}
-use Rattle.vk_pages.specs.Wrongs.{or_wrong, port_manifest, manifest_file, version_in}
+use Rattle.vk_pages.specs.Wrongs.{or_wrong, manifest_file, stated_version}
+use Rattle.vk_opening.specs.Roots.{port_in}
 use Rattle.vk_pages.specs.Agreement.{class_word, name_text, same_in, named, version_agrees, agreeing}
 use Rattle.vk_pages.specs.Homes.{Home, in_overlay, in_registry, Served, served_by, served_for, override_for, baseline_file, baseline_given, given_by, table_in, overlay_home, named_home, port_folder, home_in, home_with, served_home, registry_home, overlay_for, home_by, home_of}
 use Rattle.vk_pages.specs.Pages.{row_folder, row_manifest, page_row, page_at, page_of}
@@ -89,7 +90,7 @@ always (Err e) = tt
 overlay_sound : (folder : Path) (m : Manifest Tree) → IsSound (overlay_home folder m)
 unfolding overlay_home
 overlay_sound folder m =
-    sound_then (λ x. Unit {0}) (version_in (manifest_path folder) m) (λ v. Ok (in_overlay folder v m)) (fault_wrong CanBeOfGiven (no_version (manifest_path folder)) m.version tt) (always (version_in (manifest_path folder) m)) (λ v is. tt)
+    sound_then (λ x. Unit {0}) (stated_version (manifest_path folder) m) (λ v. Ok (in_overlay folder v m)) (fault_wrong CanBeOfGiven (no_version (manifest_path folder)) m.version tt) (always (stated_version (manifest_path folder) m)) (λ v is. tt)
 
 named_sound : (port : List ℕ) (folder : Path) (m : Manifest Tree) → IsSound (named_home port folder m)
 unfolding named_home
@@ -161,7 +162,7 @@ home_sound start port files = by_sound (overlay_for start.overlays port files) s
 
 -- ---- pages
 
-version_row_wrong : (path : Path) (m : Manifest Tree) → IfErr (version_in path m) CanBeOfRow
+version_row_wrong : (path : Path) (m : Manifest Tree) → IfErr (stated_version path m) CanBeOfRow
 version_row_wrong path m = fault_wrong CanBeOfRow (no_version path) m.version tt
 
 agrees_wrong : (path : Path) (v w : Version) → IfErr (version_agrees path v w) CanBeOfRow
@@ -176,14 +177,14 @@ agreeing_wrong : (path : Path) (port : List ℕ) (v : Version) (m : Manifest Tre
 unfolding agreeing
 agreeing_wrong path port v m =
     let last = λ (w : Version). version_agrees path v w in
-    wrong_then CanBeOfRow (named path port m) (λ (one : Unit {0}). version_in path m >>= last) (same_wrong path the.name port (name_text m.name))
-    (λ one. wrong_then CanBeOfRow (version_in path m) last (version_row_wrong path m) (λ w. agrees_wrong path v w))
+    wrong_then CanBeOfRow (named path port m) (λ (one : Unit {0}). stated_version path m >>= last) (same_wrong path the.name port (name_text m.name))
+    (λ one. wrong_then CanBeOfRow (stated_version path m) last (version_row_wrong path m) (λ w. agrees_wrong path v w))
 
 row_wrong : (port : List ℕ) (registry : Path) (row : Row) (files : Files) → IfErr (row_manifest port registry row files) CanBeOfRow
 unfolding row_manifest
 row_wrong port registry row files =
     let path = manifest_path (row_folder registry row) in
-    wrong_then CanBeOfRow (manifest_file path files) (λ m. agreeing path port row.version m >>= λ same. Ok m) (file_row_wrong (file_at port_manifest path files))
+    wrong_then CanBeOfRow (manifest_file path files) (λ m. agreeing path port row.version m >>= λ same. Ok m) (file_row_wrong (file_at port_in path files))
     (λ m. wrong_then CanBeOfRow (agreeing path port row.version m) (λ same. Ok m) (agreeing_wrong path port row.version m) (λ same. tt))
 
 rows_wrong : (port : List ℕ) (registry : Path) (files : Files) (rows : List Row) (r : the.Row Tree) → Contains (map (page_row port registry files) rows) r → IfErr r.manifest CanBeOfRow

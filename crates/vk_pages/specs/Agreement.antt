@@ -7,7 +7,7 @@ use Rattle.vk_spec.specs.Manifests.{Manifest}
 use Rattle.vk_spec.specs.Pages as the
 use Rattle.vk_spec.specs.Pages.{Wrong, disagrees, Field}
 use Rattle.vk_expr.specs.Trees.{Tree}
-use Rattle.vk_pages.specs.Wrongs.{version_in}
+use Rattle.vk_pages.specs.Wrongs.{stated_version}
 
 -- the printed word of a class
 abbrev pub class_word : Class → List ℕ
@@ -39,5 +39,5 @@ version_agrees path said found = do
 unfoldable pub agreeing : Path → List ℕ → Version → Manifest Tree → Result (Unit {0}) Wrong
 agreeing path port version m = do
   same_name ← named path port m
-  found ← version_in path m
+  found ← stated_version path m
   version_agrees path version found

@@ -17,7 +17,7 @@ use Rattle.vk_files.specs.Readings.{Bad, is_at, file_at}
 use Rattle.vk_opening.specs.Projects.{manifest_path}
 use Rattle.vk_opening.specs.Starts.{Overlay, is_port, has_ports, Start}
 use Rattle.vk_pages.specs.RegistryFiles.{baseline_path, table_path}
-use Rattle.vk_pages.specs.Wrongs.{or_wrong, file_or_wrong, manifest_file, version_in}
+use Rattle.vk_pages.specs.Wrongs.{or_wrong, file_or_wrong, manifest_file, stated_version}
 use Rattle.vk_pages.specs.Agreement.{named}
 
 -- an overlay has the port, in this folder, at its one version; or a registry does: what is given, the registry's folder, and its table
@@ -46,7 +46,7 @@ overlay_for overlays port files = find (has_port port files) overlays
 
 -- the overlay's port, with the version of its manifest
 unfoldable pub overlay_home : Path → Manifest Tree → Result Home Wrong
-overlay_home folder m = version_in (manifest_path folder) m >>= λ v. Ok (in_overlay folder v m)
+overlay_home folder m = stated_version (manifest_path folder) m >>= λ v. Ok (in_overlay folder v m)
 
 -- the same of a manifest that has to have the port's name
 unfoldable pub named_home : List ℕ → Path → Manifest Tree → Result Home Wrong

@@ -1,5 +1,5 @@
 -- What is wrong with a port, by its files.
-use Rattle.std.specs.Prelude.{false, ℕ, List, [], Result, Ok, Err}
+use Rattle.std.specs.Prelude.{ℕ, List, [], Result, Ok, Err}
 use Rattle.vk_spec.specs.Paths.{Path}
 use Rattle.vk_spec.specs.Files.{Files}
 use Rattle.vk_spec.specs.Reading.{or_fault}
@@ -10,8 +10,8 @@ use Rattle.vk_expr.specs.Trees.{Tree}
 use Rattle.vk_json.specs.Documents.{Fault}
 use Rattle.vk_json.specs.Words.{word_of}
 use Rattle.vk_json.specs.declared.faults.Why.TheVariants as why
-use Rattle.vk_manifest.specs.Manifests.{manifest_of}
 use Rattle.vk_files.specs.Readings.{Bad, file_at}
+use Rattle.vk_opening.specs.Roots.{port_in}
 
 -- a file that isn't as it has to be, with the word for it
 abbrev pub wrong_of : Bad → Wrong
@@ -25,13 +25,10 @@ or_wrong (Err bad) = Err (wrong_of bad)
 abbrev pub file_or_wrong : {A : Type 0} → (List ℕ → Result A Fault) → Path → Files → Result A Wrong
 file_or_wrong reading path files = or_wrong (file_at reading path files)
 
--- a port's manifest, by its bytes
-abbrev pub port_manifest : List ℕ → Result (Manifest Tree) Fault
-port_manifest bytes = manifest_of bytes false
-
+-- a port's manifest
 abbrev pub manifest_file : Path → Files → Result (Manifest Tree) Wrong
-manifest_file path files = file_or_wrong port_manifest path files
+manifest_file path files = file_or_wrong port_in path files
 
 -- the version of a port's manifest; every port's has one
-abbrev pub version_in : Path → Manifest Tree → Result Version Wrong
-version_in path m = or_fault (bad_file path [] (word_of why.NoVersion)) m.version
+abbrev pub stated_version : Path → Manifest Tree → Result Version Wrong
+stated_version path m = or_fault (bad_file path [] (word_of why.NoVersion)) m.version

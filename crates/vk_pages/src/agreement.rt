@@ -9,7 +9,7 @@ ghost use Rattle.vk_version.specs.Views.{class_view};
 ghost use Rattle.vk_model.specs.Views.{manifest_view};
 ghost use Rattle.vk_catalogue.specs.Views.{field_view, wrong_view};
 ghost use Rattle.vk_files.specs.StopViews.{refusal_in, has_tree_failed};
-ghost use Rattle.vk_pages.specs.Wrongs.{version_in};
+ghost use Rattle.vk_pages.specs.Wrongs.{stated_version};
 ghost use Rattle.vk_pages.specs.Agreement.{class_word, name_text, same_in, named, version_agrees, agreeing};
 
 use std::alloc::Global;
@@ -99,12 +99,12 @@ fn no_version(alloc: Global, path: &TreePath) -> Result<Wrong, Memory>
 }
 
 /// The version of the manifest at a path. `Refused` says that it has none.
-pub fn version_in<'a>(
+pub fn stated_version<'a>(
     alloc: Global,
     path: &TreePath,
     manifest: &'a Manifest,
 ) -> Result<&'a Version, Stop<Wrong>>
-    ensures told { Gives (λ v. v.now) (refusal_in wrong_view) result (version_in path.now (manifest_view manifest.now)) }
+    ensures told { Gives (λ v. v.now) (refusal_in wrong_view) result (stated_version path.now (manifest_view manifest.now)) }
     ensures calm { has_tree_failed result ≡ false }
 {
     match &manifest.version {
@@ -155,6 +155,6 @@ pub fn agree(
     ensures calm { has_tree_failed result ≡ false }
 {
     named(alloc, path, port, manifest)?;
-    let found = version_in(alloc, path, manifest)?;
+    let found = stated_version(alloc, path, manifest)?;
     version_agrees(alloc, path, version, found)
 }

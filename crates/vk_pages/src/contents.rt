@@ -1,8 +1,5 @@
 //! What files of ports and registries mean, or what is wrong with them.
 ghost use Rattle.std.specs.Prelude.{◌≡◌, Ok, List, option_map};
-ghost use Rattle.vk_spec.specs.Manifests as plain;
-ghost use Rattle.vk_expr.specs.Trees as trees;
-ghost use Rattle.vk_model.specs.Views.{manifest_view};
 ghost use Rattle.vk_registry.specs.Baselines as plain_baseline;
 ghost use Rattle.vk_registry.specs.Baselines.{baseline_by};
 ghost use Rattle.vk_registry.specs.Tables as plain_table;
@@ -11,35 +8,15 @@ ghost use Rattle.vk_catalogue.specs.Views.{wrong_view};
 ghost use Rattle.vk_files.specs.Views.{held};
 ghost use Rattle.vk_files.specs.StopViews.{refusal_in, is_tree_failed};
 ghost use Rattle.vk_files.specs.Readings.{ReadsAs, bad_view, is_at};
-ghost use Rattle.vk_pages.specs.Wrongs.{wrong_of, file_or_wrong, port_manifest};
+ghost use Rattle.vk_pages.specs.Wrongs.{wrong_of, file_or_wrong};
 
 use std::alloc::Global;
 use vk_base::{Text, TreePath};
 use vk_catalogue::Wrong;
 use vk_files::{BadFile, FileCache, FileReader, Stop, file_standing, read_file};
 use vk_json::FileFault;
-use vk_manifest::read_manifest;
-use vk_model::Manifest;
 use vk_registry::{Baseline, Table, read_baseline, read_table};
 use vk_tree::Tree;
-
-/// Reads a port's manifest, which needs a name and a version.
-#[derive(Drop)]
-pub struct PortManifest;
-
-impl FileReader for PortManifest {
-    type Out = Manifest;
-
-    ghost Plain = { plain.Manifest trees.Tree };
-
-    ghost plain = { manifest_view };
-
-    ghost reads = { λ r. port_manifest };
-
-    fn read(&self, alloc: Global, bytes: &[u8]) -> Result<Manifest, FileFault> {
-        read_manifest(alloc, bytes, false)
-    }
-}
 
 /// Reads the baseline of this name in a baseline file.
 #[derive(Drop)]

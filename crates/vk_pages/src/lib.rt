@@ -1,6 +1,6 @@
 //! What the files of a project say of a port: where its versions are, what is given for it, and the
-//! manifest of each version. It promises upwards that an answer is what the port's page says, and
-//! that a baseline is read once.
+//! manifest of each version. It promises upwards that a port's home and a manifest's disagreement are
+//! those of the files, that what files say of a port is a page, and that a baseline is read once.
 #![tactic(auto)]
 
 mod agreement;
@@ -15,7 +15,7 @@ mod served;
 
 pub use agreement::agree;
 pub use baselines::Baselines;
-pub use contents::{PortManifest, content};
+pub use contents::content;
 pub use homes::{Home, Layout, home_of};
 pub use laws::{overlay_rule, override_rule, page_rule};
 pub use paths::row_folder;

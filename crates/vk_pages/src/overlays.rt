@@ -11,8 +11,8 @@ ghost use Rattle.vk_opening.specs.Views.{overlay_view};
 ghost use Rattle.vk_pages.specs.Homes.{is_named, port_folder, has_port, overlay_for, overlay_home, named_home, folder_home, home_in};
 ghost use Rattle.vk_pages.specs.HomeViews.{home_view};
 
-use crate::agreement::{named, version_in};
-use crate::contents::{PortManifest, content, stands};
+use crate::agreement::{named, stated_version};
+use crate::contents::{content, stands};
 use crate::homes::Home;
 use crate::paths::port_folder;
 use std::alloc::Global;
@@ -21,7 +21,7 @@ use vk_base::{PortName, TreePath};
 use vk_catalogue::Wrong;
 use vk_files::{FileCache, Stop};
 use vk_model::Manifest;
-use vk_opening::{Overlay, manifest_path};
+use vk_opening::{Overlay, PortFile, manifest_path};
 use vk_tree::Tree;
 
 fn is_named(manifest: &Manifest, port: &PortName) -> bool
@@ -92,7 +92,7 @@ fn overlay_home(
     ensures calm { has_tree_failed result ≡ false }
 {
     let path = manifest_path(alloc, &folder)?;
-    let version = version_in(alloc, &path, &manifest)?.clone()?;
+    let version = stated_version(alloc, &path, &manifest)?.clone()?;
     Ok(Home::Overlay {
         folder,
         version,
@@ -136,7 +136,7 @@ fn folder_home<T: Tree>(
     ensures { ReadsAs wrong_view home_view result (folder_home port.now folder) (held files.old (T.state tree.old)) (held files.new (T.state tree.new)) }
 {
     let path = manifest_path(alloc, &folder)?;
-    let manifest = content(alloc, files, tree, &path, &PortManifest)?;
+    let manifest = content(alloc, files, tree, &path, &PortFile)?;
     named_home(alloc, &path, folder, manifest, port)
 }
 

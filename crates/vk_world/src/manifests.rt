@@ -18,7 +18,8 @@ use vk_base::TreePath;
 use vk_catalogue::{CatStop, Wrong};
 use vk_files::{FileCache, Stop};
 use vk_model::Manifest;
-use vk_pages::{PortManifest, content};
+use vk_opening::PortFile;
+use vk_pages::content;
 use vk_tree::Tree;
 
 /// What the files of ports' manifests mean, by their paths: a manifest, or what is wrong.
@@ -37,7 +38,7 @@ fn shared_manifest<T: Tree>(
 ) -> Result<Rc<Manifest>, Stop<Wrong>>
     ensures { ReadsAs wrong_view (λ m. manifest_view m.value) result (manifest_file path.now) (held files.old (T.state tree.old)) (held files.new (T.state tree.new)) }
 {
-    let manifest = content(alloc, files, tree, path, &PortManifest)?;
+    let manifest = content(alloc, files, tree, path, &PortFile)?;
     Ok(Rc::new(alloc, manifest)?)
 }
 
