@@ -13,7 +13,7 @@ use Rattle.vk_spec.specs.Catalogues.{OnlyAsked}
 use Rattle.vk_spec.proofs.OptionLemmas.{of_each, of_both}
 use Rattle.vk_spec.proofs.StateLemmas.{looks_nothing, looks_then, told_before}
 use Rattle.vk_spec.proofs.ReadingLemmas.{fails_on}
-use Rattle.vk_expr.specs.Trees.{Tree}
+use Rattle.vk_spec.specs.Conditions.{Condition}
 use Rattle.vk_model.specs.EarlyViews.{early_view}
 use Rattle.vk_model.specs.declared.earlies.Early.{Early}
 use Rattle.vk_model.specs.declared.projects.Project.{Project}
@@ -62,20 +62,20 @@ items_err before after l now ports s told only same fails located says =
 
 -- ---- the report of an opened project
 
-pub ports_fail : (triplet : List ℕ) (folder : Path) (root : Manifest Tree) (start : the.Start) (s : PlanStop) (told : Option Told) → Fails (refused_of s) (ports_of folder root) → IfSome told (λ t. Fails (refused_of s) (report_for triplet folder root start t.files))
+pub ports_fail : (triplet : List ℕ) (folder : Path) (root : Manifest Condition) (start : the.Start) (s : PlanStop) (told : Option Told) → Fails (refused_of s) (ports_of folder root) → IfSome told (λ t. Fails (refused_of s) (report_for triplet folder root start t.files))
 ports_fail triplet folder root start s told fails = of_each told (λ t.
     fails_on (refused_of s) (ports_of folder root >>= λ ports. items_for start ports t.files) (λ items. Ok (planned_report triplet items)) (fails_on (refused_of s) (ports_of folder root) (λ ports. items_for start ports t.files) fails))
 
-pub items_fail : (triplet : List ℕ) (folder : Path) (root : Manifest Tree) (start : the.Start) (ports : List (List ℕ)) (s : PlanStop) (told : Option Told) → ports_of folder root ≡ Ok ports
+pub items_fail : (triplet : List ℕ) (folder : Path) (root : Manifest Condition) (start : the.Start) (ports : List (List ℕ)) (s : PlanStop) (told : Option Told) → ports_of folder root ≡ Ok ports
     → IfSome told (λ t. Fails (refused_of s) (items_for start ports t.files)) → IfSome told (λ t. Fails (refused_of s) (report_for triplet folder root start t.files))
 items_fail triplet folder root start ports s told is fails = IfSome_then told fails (λ t h.
     rw is (fails_on (refused_of s) (items_for start ports t.files) (λ items. Ok (planned_report triplet items)) h))
 
-pub report_done : (triplet : List ℕ) (folder : Path) (root : Manifest Tree) (start : the.Start) (ports : List (List ℕ)) (items : List Item) (bytes : List ℕ) (told : Option Told) → ports_of folder root ≡ Ok ports
+pub report_done : (triplet : List ℕ) (folder : Path) (root : Manifest Condition) (start : the.Start) (ports : List (List ℕ)) (items : List Item) (bytes : List ℕ) (told : Option Told) → ports_of folder root ≡ Ok ports
     → IfSome told (λ t. items_for start ports t.files ≡ Ok items) → bytes ≡ planned_report triplet items → IfSome told (λ t. report_for triplet folder root start t.files ≡ Ok bytes)
 report_done triplet folder root start ports items bytes told is items_are bytes_are = IfSome_then told items_are (λ t h. rw (is, h, bytes_are) refl)
 
-pub report_lacking : (triplet : List ℕ) (folder : Path) (root : Manifest Tree) (start : the.Start) (told : Option Told) → IfSome told (λ t. Fails {Y = List ℕ} {F = Refused} None (report_for triplet folder root start t.files))
+pub report_lacking : (triplet : List ℕ) (folder : Path) (root : Manifest Condition) (start : the.Start) (told : Option Told) → IfSome told (λ t. Fails {Y = List ℕ} {F = Refused} None (report_for triplet folder root start t.files))
 report_lacking triplet folder root start told = of_each told (λ t. tt)
 
 -- ---- opening, and then the rest

@@ -2,7 +2,7 @@
 use Rattle.std.specs.Prelude.{Bool, true, false, Option, Some, None, IfSome, Result, Ok, Err}
 use Rattle.vk_spec.specs.Reading.{Gives}
 use Rattle.vk_spec.specs.Catalogues.{Pages, CatalogueState, OnlyAsked}
-use Rattle.vk_expr.specs.Trees.{Tree}
+use Rattle.vk_spec.specs.Conditions.{Condition}
 use Rattle.vk_version.specs.AskViews.{ask_view}
 use Rattle.vk_catalogue.specs.Views.{wrong_view}
 use Rattle.vk_app.specs.PortPlans as plain
@@ -37,6 +37,6 @@ has_failed (Ok x) = false
 has_failed (Err s) = is_failed s
 
 -- nothing but asking was done; and where the pages are told, the answer is what they give
-pub record AsksAs {X Y : Type 0} (view : X → Y) (answer : Result X PortStop) (meaning : Pages Tree → Result Y plain.Trouble) (before after : CatalogueState Tree) : Type 0 where
+pub record AsksAs {X Y : Type 0} (view : X → Y) (answer : Result X PortStop) (meaning : Pages Condition → Result Y plain.Trouble) (before after : CatalogueState Condition) : Type 0 where
   pub only : OnlyAsked (has_failed answer) before after
   pub content : IfSome before.pages (λ pages. Gives view trouble_of answer (meaning pages))

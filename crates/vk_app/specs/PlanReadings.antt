@@ -5,7 +5,7 @@ use Rattle.vk_spec.specs.Paths.{Path}
 use Rattle.vk_spec.specs.Files.{Files}
 use Rattle.vk_spec.specs.Manifests.{Manifest}
 use Rattle.vk_spec.specs.States.{State}
-use Rattle.vk_expr.specs.Trees.{Tree}
+use Rattle.vk_spec.specs.Conditions.{Condition}
 use Rattle.vk_opening.specs.Starts.{Start}
 use Rattle.vk_opening.specs.Views.{start_view, opened_files}
 use Rattle.vk_opening.specs.declared.opens.Opened.{Opened}
@@ -51,7 +51,7 @@ abbrev pub reported : List ℕ → Result (List Item) Refused → Result (List �
 reported triplet read = read >>= λ items. Ok (planned_report triplet items)
 
 -- the report of the plan of an opened project
-abbrev pub report_for : List ℕ → Path → Manifest Tree → Start → Files → Result (List ℕ) Refused
+abbrev pub report_for : List ℕ → Path → Manifest Condition → Start → Files → Result (List ℕ) Refused
 report_for triplet folder root start files = reported triplet (ports_of folder root >>= λ ports. items_for start ports files)
 
 -- the report of the plan that files have, or the refusal that stands in its place

@@ -7,7 +7,7 @@ use Rattle.vk_spec.specs.Versions.{Version}
 use Rattle.vk_spec.specs.Manifests.{Manifest}
 use Rattle.vk_spec.specs.Pages.{Wrong}
 use Rattle.vk_spec.specs.Earlies.{Early}
-use Rattle.vk_expr.specs.Trees.{Tree}
+use Rattle.vk_spec.specs.Conditions.{Condition}
 use Rattle.vk_model.specs.declared.projects.Project.{Project}
 use Rattle.vk_opening.specs.Projects.{manifest_path}
 use Rattle.vk_opening.specs.Starts.{Start}
@@ -41,7 +41,7 @@ or_early (Ok x) = Ok x
 or_early (Err e) = Err (early e)
 
 -- the ports that a root lists, each once, where a plan is made from it today
-abbrev pub ports_of : Path → Manifest Tree → Result (List (List ℕ)) Refused
+abbrev pub ports_of : Path → Manifest Condition → Result (List (List ℕ)) Refused
 ports_of folder root = if is_plain_root root then Ok (in_order (map (λ d. d.name) root.dependencies)) else Err (unbuilt (manifest_path folder))
 
 -- the folder of a port's version, where it has one

@@ -5,7 +5,7 @@ use Rattle.vk_spec.specs.Versions.{Version, Ask, ask_of}
 use Rattle.vk_spec.specs.Manifests.{Manifest}
 use Rattle.vk_spec.specs.Pages.{Wrong, Given, given_ask, version_in, manifest_in}
 use Rattle.vk_spec.specs.Catalogues.{Pages}
-use Rattle.vk_expr.specs.Trees.{Tree}
+use Rattle.vk_spec.specs.Conditions.{Condition}
 use Rattle.vk_app.specs.PlainManifests.{wants_nothing}
 
 -- a planned port
@@ -24,36 +24,36 @@ or_trouble port (Ok x) = Ok x
 or_trouble port (Err w) = Err (wrong port w)
 
 -- what is given for a port
-abbrev pub given_for : List ℕ → Pages Tree → Result Given Trouble
+abbrev pub given_for : List ℕ → Pages Condition → Result Given Trouble
 given_for port pages = or_trouble port (pages port).given
 
 -- the version that an ask means
-abbrev pub version_for : List ℕ → Ask → Pages Tree → Result Version Trouble
+abbrev pub version_for : List ℕ → Ask → Pages Condition → Result Version Trouble
 version_for port ask pages = or_fault (no_version port ask) (version_in (pages port) ask)
 
 -- its manifest, where there is a version for the ask
-abbrev pub listed : List ℕ → Ask → Option (Result (Manifest Tree) Wrong) → Result (Manifest Tree) Trouble
+abbrev pub listed : List ℕ → Ask → Option (Result (Manifest Condition) Wrong) → Result (Manifest Condition) Trouble
 listed port ask None = Err (no_version port ask)
 listed port ask (Some found) = or_trouble port found
 
-abbrev pub manifest_for : List ℕ → Ask → Pages Tree → Result (Manifest Tree) Trouble
+abbrev pub manifest_for : List ℕ → Ask → Pages Condition → Result (Manifest Condition) Trouble
 manifest_for port ask pages = listed port ask (manifest_in (pages port) ask)
 
 -- the port at this version, whose manifest has to want nothing
-abbrev pub item_with : List ℕ → Version → Manifest Tree → Result Item Trouble
+abbrev pub item_with : List ℕ → Version → Manifest Condition → Result Item Trouble
 item_with port v m = if wants_nothing m then Ok (record { port = port; ask = ask_of v }) else Err (wants_more port v)
 
 -- the item of a port at an ask
-unfoldable pub item_at : List ℕ → Ask → Pages Tree → Result Item Trouble
+unfoldable pub item_at : List ℕ → Ask → Pages Condition → Result Item Trouble
 item_at port ask pages = do
   v ← version_for port ask pages
   m ← manifest_for port ask pages
   item_with port v m
 
 -- the item of a port at its given version
-unfoldable pub item_of : List ℕ → Pages Tree → Result Item Trouble
+unfoldable pub item_of : List ℕ → Pages Condition → Result Item Trouble
 item_of port pages = given_for port pages >>= λ given. item_at port (given_ask given) pages
 
 -- the items of ports, in their order
-abbrev pub items_of : List (List ℕ) → Pages Tree → Result (List Item) Trouble
+abbrev pub items_of : List (List ℕ) → Pages Condition → Result (List Item) Trouble
 items_of ports pages = read_each (λ _ port. item_of port pages) 0 ports

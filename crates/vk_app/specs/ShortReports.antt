@@ -1,19 +1,13 @@
 -- The bytes of the short report.
 use Rattle.std.specs.Prelude.{◌+◌, ◌++◌, ℕ, List, [], ◌∷◌, length, codes, decimal}
-use Rattle.vk_spec.specs.Paths.{Path}
-use Rattle.vk_spec.specs.Versions.{Ask}
 use Rattle.vk_spec.specs.Earlies as the_early
 use Rattle.vk_spec.specs.Earlies.{Early, two_configurations, no_triplet}
-use Rattle.vk_spec.specs.Pages.{Wrong, no_registry, no_baseline, bad_file, disagrees, Field, name, class, text, port}
-use Rattle.vk_json.specs.Places.{place_text}
+use Rattle.vk_spec.specs.Pages.{Wrong, no_registry, no_baseline, bad_file, disagrees}
 use Rattle.vk_base.specs.Tokens.{token_of}
-use Rattle.vk_base.specs.Paths.{text_of_path}
+use Rattle.vk_base.specs.Printed.{version_text, path_text, field_word}
+use Rattle.vk_json.specs.Places.{file_line}
 use Rattle.vk_app.specs.PortPlans.{Item}
 use Rattle.vk_app.specs.Refusals.{Refused, early, unbuilt, wrong, no_version}
-
--- a version as it is printed: `text#port-version`
-abbrev pub version_text : Ask → List ℕ
-version_text ask = token_of ask.text ++ codes "#" ++ decimal ask.port
 
 -- `number port triplet version`, the triplet as it is printed
 abbrev pub item_line : List ℕ → ℕ → Item → List ℕ
@@ -24,20 +18,6 @@ item_line triplet number item =
 unfoldable pub item_lines : List ℕ → ℕ → List Item → List ℕ
 item_lines triplet number [] = []
 item_lines triplet number (item ∷ items) = item_line triplet number item ++ item_lines triplet (number + 1) items
-
-abbrev pub path_text : Path → List ℕ
-path_text path = token_of (text_of_path path)
-
--- a file, a place in it, and the word for what is wrong there
-abbrev pub file_line : Path → List ℕ → List ℕ → List ℕ
-file_line path place word = codes "bad-file " ++ path_text path ++ codes " " ++ place_text place ++ codes " " ++ word
-
--- the printed word of a field
-abbrev pub field_word : Field → List ℕ
-field_word name = codes "name"
-field_word class = codes "class"
-field_word text = codes "text"
-field_word port = codes "port-version"
 
 abbrev pub early_line : Early → List ℕ
 early_line (the_early.bad_file path place word) = file_line path place word

@@ -1,7 +1,7 @@
 //! The manifests that a plan is made from today.
 ghost use Rattle.std.specs.Prelude.{◌≡◌, IfOk, map};
 ghost use Rattle.std.specs.List.{list_all};
-ghost use Rattle.vk_expr.specs.Views.{tree_of};
+ghost use Rattle.vk_expr.specs.Views.{condition_of};
 ghost use Rattle.vk_model.specs.Views.{dependency_view, manifest_view};
 ghost use Rattle.vk_app.specs.PlainManifests.{is_always, is_plain, has_no_features, is_plain_root, wants_nothing};
 
@@ -11,7 +11,7 @@ use vk_expr::Expr;
 use vk_model::{Dependency, Manifest};
 
 fn is_always(condition: &Expr) -> bool
-    ensures { result ≡ is_always (tree_of condition.now) }
+    ensures { result ≡ is_always (condition_of condition.now) }
 {
     match condition {
         Expr::Always => true,

@@ -1,13 +1,15 @@
 //! The bytes of the short report.
 ghost use Rattle.std.specs.Prelude.{◌≡◌, ◌++◌, codes, map, IfOk, OnOk};
 ghost use Rattle.vk_base.specs.Tokens.{token_of};
+ghost use Rattle.vk_base.specs.Printed.{version_text, path_text, field_word};
+ghost use Rattle.vk_json.specs.Places.{file_line};
 ghost use Rattle.vk_version.specs.AskViews.{ask_view};
 ghost use Rattle.vk_json.specs.Words.{word_of};
 ghost use Rattle.vk_model.specs.EarlyViews.{early_view};
 ghost use Rattle.vk_catalogue.specs.Views.{field_view, wrong_view};
 ghost use Rattle.vk_app.specs.AskReadings.{item_view};
 ghost use Rattle.vk_app.specs.RefusalViews.{refusal_view};
-ghost use Rattle.vk_app.specs.ShortReports.{path_text, version_text, item_line, item_lines, planned_report, file_line, field_word, early_line, wrong_line, refused_line, refused_report};
+ghost use Rattle.vk_app.specs.ShortReports.{item_line, item_lines, planned_report, early_line, wrong_line, refused_line, refused_report};
 
 use crate::items::Item;
 use crate::refusals::Refusal;

@@ -6,4 +6,5 @@ pub mod PathReading
 pub mod PathFaults
 pub mod PathHash
 pub mod Tokens
+pub mod Printed
 pub mod Schedules

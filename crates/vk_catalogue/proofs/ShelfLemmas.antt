@@ -10,7 +10,7 @@ use Rattle.vk_spec.specs.Pages.{row_in}
 use Rattle.vk_spec.specs.Pages as plain
 use Rattle.vk_spec.specs.Catalogues.{IsPage, ArePages}
 use Rattle.vk_spec.proofs.ListLemmas.{contains_nothing, find_by}
-use Rattle.vk_expr.specs.Trees.{Tree}
+use Rattle.vk_spec.specs.Conditions.{Condition}
 use Rattle.vk_catalogue.specs.declared.shelves.Held.{Held}
 use Rattle.vk_catalogue.specs.declared.pages.PageRow.{PageRow}
 use Rattle.vk_catalogue.specs.PageViews.{held_view, row_view}
@@ -25,7 +25,7 @@ pub row_view_found : (rows : List PageRow) (ask : Ask) → row_in (map row_view 
 row_view_found rows ask = find_by row_view (λ r. same_ask (ask_of r.version) ask) rows
 
 -- a page of one more is the page that was put, or one of those before
-page_of_more : (P : plain.Page Tree → Type 0) (put : Shelved (plain.Page Tree)) (port q : List ℕ) (page : plain.Page Tree)
+page_of_more : (P : plain.Page Condition → Type 0) (put : Shelved (plain.Page Condition)) (port q : List ℕ) (page : plain.Page Condition)
     → P page → ((r : List ℕ) → P (page_among put r)) → P no_page → P (page_among (put ++ (port, page) ∷ []) q)
 page_of_more P put port q page new old none = by put (old q)
   where
@@ -33,16 +33,16 @@ page_of_more P put port q page new old none = by put (old q)
     last true = new
     last false = none
 
-    at : (b : Bool) (first : plain.Page Tree) (es : Shelved (plain.Page Tree)) → (P (page_among es q) → P (page_among (es ++ (port, page) ∷ []) q))
+    at : (b : Bool) (first : plain.Page Condition) (es : Shelved (plain.Page Condition)) → (P (page_among es q) → P (page_among (es ++ (port, page) ∷ []) q))
         → P (page_or_none (cond b (Some first) (lookup (bytes_eq q) es))) → P (page_or_none (cond b (Some first) (lookup (bytes_eq q) (es ++ (port, page) ∷ []))))
     at true first es f h = h
     at false first es f h = f h
 
-    by : (es : Shelved (plain.Page Tree)) → P (page_among es q) → P (page_among (es ++ (port, page) ∷ []) q)
+    by : (es : Shelved (plain.Page Condition)) → P (page_among es q) → P (page_among (es ++ (port, page) ∷ []) q)
     by [] h = last (bytes_eq q port)
     by (e ∷ es) h = at (bytes_eq q e.0) e.1 es (by es) h
 
-pub more_are_pages : (put : Shelved (plain.Page Tree)) (port : List ℕ) (page : plain.Page Tree) → IsPage page → ArePages (page_among put) → ArePages (page_among (put ++ (port, page) ∷ []))
+pub more_are_pages : (put : Shelved (plain.Page Condition)) (port : List ℕ) (page : plain.Page Condition) → IsPage page → ArePages (page_among put) → ArePages (page_among (put ++ (port, page) ∷ []))
 more_are_pages put port page new old q = page_of_more IsPage put port q page new old no_page_is
 
 -- what is put is seen after what was there

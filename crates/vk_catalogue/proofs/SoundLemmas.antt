@@ -10,7 +10,7 @@ use Rattle.vk_spec.specs.Versions.{Ask, ask_of, same_ask}
 use Rattle.vk_spec.specs.Pages.{Wrong, no_registry, no_baseline, bad_file, disagrees, Row}
 use Rattle.vk_spec.specs.Catalogues.{IsPage, CanBeOfRow}
 use Rattle.vk_spec.proofs.VersionLemmas.{is_new, is_found}
-use Rattle.vk_expr.specs.Trees.{Tree}
+use Rattle.vk_spec.specs.Conditions.{Condition}
 use Rattle.vk_catalogue.specs.declared.pages.PageRow.{PageRow}
 use Rattle.vk_catalogue.specs.declared.pages.Page as rust
 use Rattle.vk_version.specs.declared.asks.Ask as rust_ask
@@ -72,21 +72,21 @@ and_true true true e = (refl, refl)
 and_true true false e = (cc)
 and_true false b e = (cc)
 
-rows_are_right : (rows : List PageRow) → list_all (λ r. is_row_right (row_view r)) rows ≡ true → (r : Row Tree) → Contains (map row_view rows) r → IfErr r.manifest CanBeOfRow
+rows_are_right : (rows : List PageRow) → list_all (λ r. is_row_right (row_view r)) rows ≡ true → (r : Row Condition) → Contains (map row_view rows) r → IfErr r.manifest CanBeOfRow
 rows_are_right [] e r h = absurd (contains_nothing r h)
 rows_are_right (q ∷ rows) e r h =
     let two = and_true (is_row_right (row_view q)) (list_all (λ p. is_row_right (row_view p)) rows) e in
     elim (contains_cases (row_view q) r (map row_view rows) h) [
-      | inl same ↦ subst (λ (p : Row Tree). IfErr p.manifest CanBeOfRow) same (row_right (row_view q).manifest two.0)
+      | inl same ↦ subst (λ (p : Row Condition). IfErr p.manifest CanBeOfRow) same (row_right (row_view q).manifest two.0)
       | inr later ↦ rows_are_right rows two.1 r later
     ]
 
-right_are_rows : (rows : List PageRow) → ((r : Row Tree) → Contains (map row_view rows) r → IfErr r.manifest CanBeOfRow) → list_all (λ r. is_row_right (row_view r)) rows ≡ true
+right_are_rows : (rows : List PageRow) → ((r : Row Condition) → Contains (map row_view rows) r → IfErr r.manifest CanBeOfRow) → list_all (λ r. is_row_right (row_view r)) rows ≡ true
 right_are_rows [] h = refl
 right_are_rows (q ∷ rows) h =
     rw (right_row (row_view q).manifest (h (row_view q) (contains_first (row_view q) (map row_view rows)))) (right_are_rows rows (λ r there. h r (contains_later (row_view q) r (map row_view rows) there)))
 
-asks_seen : (rows : List PageRow) → map (λ (r : Row Tree). ask_of r.version) (map row_view rows) ≡ asks_in rows
+asks_seen : (rows : List PageRow) → map (λ (r : Row Condition). ask_of r.version) (map row_view rows) ≡ asks_in rows
 asks_seen [] = refl
 asks_seen (r ∷ rows) = ap (λ asks. ask_of r.version ∷ asks) (asks_seen rows)
 

@@ -4,7 +4,7 @@ use Rattle.vk_spec.specs.Calls.{Answer}
 use Rattle.vk_spec.specs.Versions.{Ask}
 use Rattle.vk_spec.specs.Manifests.{Manifest}
 use Rattle.vk_spec.specs.Pages.{Wrong, Given, Page, given_ask, manifest_in}
-use Rattle.vk_expr.specs.Trees.{Tree}
+use Rattle.vk_spec.specs.Conditions.{Condition}
 use Rattle.vk_version.specs.AskViews.{ask_view}
 use Rattle.vk_model.specs.Views.{manifest_view}
 use Rattle.vk_catalogue.specs.Views.{wrong_view, seen_by}
@@ -13,28 +13,28 @@ use Rattle.vk_catalogue.specs.declared.given_manifests.GivenManifest.{GivenManif
 use Rattle.vk_catalogue.specs.declared.given_manifests.GivenManifest.TheVariants as given
 
 pub data Found : Type 0 where
-  found : Manifest Tree → Found
+  found : Manifest Condition → Found
   no_version : Ask → Found
   bad : Wrong → Found
 
 -- there is a row for the ask or not, and its manifest is there or something is wrong with it
-abbrev pub found_in : Ask → Option (Result (Manifest Tree) Wrong) → Found
+abbrev pub found_in : Ask → Option (Result (Manifest Condition) Wrong) → Found
 found_in ask None = no_version ask
 found_in ask (Some (Ok m)) = found m
 found_in ask (Some (Err e)) = bad e
 
-abbrev pub found_for : Ask → Page Tree → Found
+abbrev pub found_for : Ask → Page Condition → Found
 found_for ask page = found_in ask (manifest_in page ask)
 
 -- what a page has for what is given
-abbrev pub found_by : Result Given Wrong → Page Tree → Found
+abbrev pub found_by : Result Given Wrong → Page Condition → Found
 found_by (Ok g) page = found_for (given_ask g) page
 found_by (Err e) page = bad e
 
-abbrev pub SaysAt : Ask → Page Tree → Found → Type 0
+abbrev pub SaysAt : Ask → Page Condition → Found → Type 0
 SaysAt ask page x = x ≡ found_for ask page
 
-abbrev pub SaysAtGiven : Page Tree → Found → Type 0
+abbrev pub SaysAtGiven : Page Condition → Found → Type 0
 SaysAtGiven page x = x ≡ found_by page.given page
 
 abbrev pub found_view : GivenManifest → Found

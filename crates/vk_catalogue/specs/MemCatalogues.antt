@@ -2,7 +2,7 @@
 use Rattle.std.specs.Prelude.{◌≡◌, Bool, true, [], Some, None}
 use Rattle.vk_spec.specs.Pages as plain
 use Rattle.vk_spec.specs.Catalogues.{Origin, CatalogueState}
-use Rattle.vk_expr.specs.Trees.{Tree}
+use Rattle.vk_spec.specs.Conditions.{Condition}
 pub use Rattle.vk_catalogue.specs.Shelves.{IsPageFor}
 use Rattle.vk_catalogue.specs.Shelves.{Shelved, page_among, pages_of}
 use Rattle.vk_base.specs.Schedules.{turn_of, is_calm, is_wrong, with_call, raised}
@@ -10,7 +10,7 @@ use Rattle.vk_catalogue.specs.declared.mem_catalogues.MemCatalogue.{MemCatalogue
 use Rattle.vk_base.specs.declared.schedules.Schedule.{Schedule}
 
 -- the pages that were put, by their ports, in order
-abbrev pub pages_put : MemCatalogue → Shelved (plain.Page Tree)
+abbrev pub pages_put : MemCatalogue → Shelved (plain.Page Condition)
 pages_put m = pages_of m.shelf
 
 -- which calls are to fail
@@ -22,7 +22,7 @@ abbrev pub no_origin : Origin
 no_origin = record { files = None; log = None; changes = 0 }
 
 -- what is known of it
-abbrev pub mem_state : MemCatalogue → CatalogueState Tree
+abbrev pub mem_state : MemCatalogue → CatalogueState Condition
 mem_state m = record {
   pages = Some (page_among (pages_put m));
   origin = no_origin;

@@ -4,7 +4,7 @@ use Rattle.std.specs.List.{list_any}
 use Rattle.vk_spec.specs.Versions.{Ask, ask_of, same_ask}
 use Rattle.vk_spec.specs.Pages.{Wrong, no_registry, no_baseline, bad_file, disagrees, Row, Page}
 use Rattle.vk_spec.specs.Catalogues.{CanBeOfGiven, HasOwnAlone}
-use Rattle.vk_expr.specs.Trees.{Tree}
+use Rattle.vk_spec.specs.Conditions.{Condition}
 use Rattle.vk_catalogue.specs.declared.pages.PageRow.{PageRow}
 
 -- none of these asks stands twice, or is one of those before
@@ -16,7 +16,7 @@ abbrev pub asks_in : List PageRow → List Ask
 asks_in rows = map (λ r. ask_of r.version) rows
 
 -- what is given, or what is wrong with it, is right
-pub record FitsGiven (page : Page Tree) : Type 0 where
+pub record FitsGiven (page : Page Condition) : Type 0 where
   pub own : IfOk page.given (HasOwnAlone page.rows)
   pub wrong : IfErr page.given CanBeOfGiven
 
@@ -30,5 +30,5 @@ abbrev pub is_manifest_right : {A : Type 0} → Result A Wrong → Bool
 is_manifest_right (Ok m) = true
 is_manifest_right (Err e) = can_be_of_row e
 
-abbrev pub is_row_right : Row Tree → Bool
+abbrev pub is_row_right : Row Condition → Bool
 is_row_right r = is_manifest_right r.manifest

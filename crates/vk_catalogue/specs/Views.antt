@@ -6,7 +6,7 @@ use Rattle.vk_spec.specs.Versions as versions
 use Rattle.vk_spec.specs.Manifests as manifests
 use Rattle.vk_json.specs.Words.{word_of}
 use Rattle.vk_version.specs.AskViews.{ask_view}
-use Rattle.vk_expr.specs.Trees.{Tree}
+use Rattle.vk_spec.specs.Conditions.{Condition}
 use Rattle.vk_model.specs.Views.{manifest_view}
 use Rattle.vk_model.specs.declared.manifests.Manifest.{Manifest}
 use Rattle.vk_version.specs.declared.versions.Version.{Version}
@@ -45,7 +45,7 @@ or_wrong view (Err e) = Err (wrong_view e)
 abbrev pub given_said : Result Given Wrong → Result plain.Given plain.Wrong
 given_said = or_wrong given_view
 
-abbrev pub manifest_said : {Z : Type 0} → Result (Rc Manifest Z) Wrong → Result (manifests.Manifest Tree) plain.Wrong
+abbrev pub manifest_said : {Z : Type 0} → Result (Rc Manifest Z) Wrong → Result (manifests.Manifest Condition) plain.Wrong
 manifest_said = or_wrong (λ m. manifest_view m.value)
 
 -- why there was no answer
@@ -64,7 +64,7 @@ given_answer = seen_by given_said
 abbrev pub version_answer : Result (Option Version) CatStop → Answer (Option versions.Version)
 version_answer = seen_by (λ v. v)
 
-abbrev pub manifest_answer : {Z : Type 0} → Result (Result (Rc Manifest Z) Wrong) CatStop → Answer (Result (manifests.Manifest Tree) plain.Wrong)
+abbrev pub manifest_answer : {Z : Type 0} → Result (Result (Rc Manifest Z) Wrong) CatStop → Answer (Result (manifests.Manifest Condition) plain.Wrong)
 manifest_answer = seen_by manifest_said
 
 -- the catalogue failed

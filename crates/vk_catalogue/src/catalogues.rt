@@ -1,7 +1,7 @@
 ghost use Rattle.std.specs.Prelude.{◌≡◌};
 ghost use Rattle.vk_spec.specs.Catalogues.{CatalogueState, Asks, OnPage, CanAskVersion, CanAskManifest, SaysGiven, SaysVersion, SaysManifest};
 ghost use Rattle.vk_version.specs.AskViews.{ask_view};
-ghost use Rattle.vk_expr.specs.Trees.{Tree};
+ghost use Rattle.vk_spec.specs.Conditions.{Condition};
 
 use crate::stops::CatStop;
 use crate::wrongs::{Given, Wrong};
@@ -18,7 +18,7 @@ pub trait Catalogue {
 
     /// What is known of it: the pages, where it tells them; what it was made of; how many calls
     /// were made and how many failed, and whether none is to fail.
-    ghost state: { Self → CatalogueState Tree };
+    ghost state: { Self → CatalogueState Condition };
 
     /// The given version of a port, or why there is none.
     fn given(&mut self, port: &PortName) -> Result<Result<Given, Wrong>, CatStop>

@@ -3,7 +3,7 @@ use Rattle.std.proofs.Common.{◌≡◌, ℕ, List, [], ◌∷◌, ◌++◌, len
 use Rattle.std.specs.Prelude.{Result, Ok, Err, Bool, true, false}
 use Rattle.std.specs.List.{list_all}
 use Rattle.std.proofs.lemmas.List.{append-nil}
-use Rattle.vk_expr.specs.Trees.{Tree, always}
+use Rattle.vk_spec.specs.Conditions.{Condition, always}
 use Rattle.vk_expr.specs.Tokens.{Token, is_blank, tokens_of}
 use Rattle.vk_expr.specs.Grammar.{Reads, blank, CanGoOn}
 use Rattle.vk_expr.specs.Reading.{Fault, State, step, steps, at_end, start, reading_of}
@@ -22,7 +22,7 @@ stopped text f stop =
     (told_by text stop.before stop.reached stop.at f reaches stop.fails)
 
 -- after its tokens, the end of a text that isn't blank tells a fault or gives a tree
-ended_by : (text : List ℕ) (s : State) (r : Result Tree Fault) → list_all is_blank text ≡ false → steps start (tokens_of text) ≡ Ok s → at_end (length text) s ≡ r → reading_of text ≡ r
+ended_by : (text : List ℕ) (s : State) (r : Result Condition Fault) → list_all is_blank text ≡ false → steps start (tokens_of text) ≡ Ok s → at_end (length text) s ≡ r → reading_of text ≡ r
 unfolding reading_of
 ended_by text s r some runs e = rw (some, runs) e
 
@@ -53,7 +53,7 @@ pub first_fault : (text : List ℕ) (f : Fault) → reading_of text ≡ Err f �
 first_fault text f fails = first_by text f (list_all is_blank text) refl fails
 
 -- a readable text has no first fault
-readable_has_none : (text : List ℕ) (t : Tree) (f : Fault) → Reads text t → IsFirstFault text f → ⊥
+readable_has_none : (text : List ℕ) (t : Condition) (f : Fault) → Reads text t → IsFirstFault text f → ⊥
 readable_has_none _ t _ reads (standing.at_token text before after here f split goes stops told) = stops record {
   text = text;
   rest = after;
@@ -82,13 +82,13 @@ token_by text before after here f (Ok s) some split goes stops told e = here_by 
 token_by text before after here f (Err g) some split goes stops told e = absurd (cannot_go_on before g e goes)
 
 -- a first fault at the end is read
-last_by : (text : List ℕ) (f : Fault) (s : State) (r : Result Tree Fault) → list_all is_blank text ≡ false → ((t : Tree) → Reads text t → ⊥) → IsToldByEnd (length text) (tokens_of text) f → steps start (tokens_of text) ≡ Ok s → at_end (length text) s ≡ r → reading_of text ≡ Err f
+last_by : (text : List ℕ) (f : Fault) (s : State) (r : Result Condition Fault) → list_all is_blank text ≡ false → ((t : Condition) → Reads text t → ⊥) → IsToldByEnd (length text) (tokens_of text) f → steps start (tokens_of text) ≡ Ok s → at_end (length text) s ≡ r → reading_of text ≡ Err f
 last_by text f s (Ok t) some unread told runs e = absurd (unread t (is_reads text t (ended_by text s (Ok t) some runs e)))
 last_by text f s (Err g) some unread told runs e =
     let same : g ≡ f = end_told_once (length text) (tokens_of text) g f (told_by_end (length text) (tokens_of text) s g runs e) told in
     ended_by text s (Err g) some runs e ∙ ap Err same
 
-end_by : (text : List ℕ) (f : Fault) (r : Result State Fault) → list_all is_blank text ≡ false → CanGoOn (tokens_of text) → ((t : Tree) → Reads text t → ⊥) → IsToldByEnd (length text) (tokens_of text) f → steps start (tokens_of text) ≡ r → reading_of text ≡ Err f
+end_by : (text : List ℕ) (f : Fault) (r : Result State Fault) → list_all is_blank text ≡ false → CanGoOn (tokens_of text) → ((t : Condition) → Reads text t → ⊥) → IsToldByEnd (length text) (tokens_of text) f → steps start (tokens_of text) ≡ r → reading_of text ≡ Err f
 end_by text f (Ok s) some goes unread told e = last_by text f s (at_end (length text) s) some unread told e refl
 end_by text f (Err g) some goes unread told e = absurd (cannot_go_on (tokens_of text) g e goes)
 

@@ -3,7 +3,7 @@ use Rattle.std.proofs.Common.{◌≡◌, ◌+◌, ℕ, List, [], ◌∷◌, ◌+
 use Rattle.std.specs.Prelude.{Result, Ok, Err, Bool, true, false, cond, nat_lt, codes}
 use Rattle.std.proofs.lemmas.List.{append-nil}
 use Rattle.vk_spec.specs.Reading.{◌>>=◌}
-use Rattle.vk_expr.specs.Trees.{Tree, mark, negation}
+use Rattle.vk_spec.specs.Conditions.{Condition, mark, negation}
 use Rattle.vk_expr.specs.Tokens.{Joint, both, either, Sign, Token, token, name, negates, joins, opens, closes, stray, sign_of_word, sign_of_byte, sign_begun, tokens_from, tokens_of}
 use Rattle.vk_expr.specs.Grammar.{IsExpr, Reads, blank, whole, CanGoOn}
 use Rattle.vk_expr.specs.Reading.{Fault, unexpected, mixed, deep, Chain, single, joined, Frame, pending, around, State, wanted, ended, value_of, settled, same_joint, step, steps, at_end, start}
@@ -23,7 +23,7 @@ abbrev AreProper : Result State Fault → Type 0
 AreProper (Ok s) = IsProper s
 AreProper (Err f) = Unit {0}
 
-settled_proper : (fs : List Frame) (c : Chain) (t : Tree) → IsProper (settled fs c t)
+settled_proper : (fs : List Frame) (c : Chain) (t : Condition) → IsProper (settled fs c t)
 unfolding settled
 settled_proper [] c t = refl
 settled_proper (pending ∷ fs) c t = settled_proper fs c (negation t)
@@ -66,11 +66,11 @@ reached_proper ts s e = subst AreProper e (steps_proper start ts tt)
 -- a text whose tokens lead from a state to the end, wherever it stands
 record Finishes (s : State) : Type 0 where
   text : List ℕ
-  tree : Tree
+  tree : Condition
   ends : (n : ℕ) → (steps s (tokens_from n false text) >>= at_end 0) ≡ Ok tree
 
 -- closing parentheses end what is open after a unary
-closings : (fs : List Frame) (c : Chain) (t : Tree) → Finishes (settled fs c t)
+closings : (fs : List Frame) (c : Chain) (t : Condition) → Finishes (settled fs c t)
 unfolding settled steps step at_end tokens_from sign_begun sign_of_byte
 closings [] c t = record { text = []; tree = value_of c t; ends = λ n. refl }
 closings (pending ∷ fs) c t = closings fs c (negation t)
@@ -133,14 +133,14 @@ can_go_on text before s r =
     }
 
 -- the tokens of an expression have no fault
-readable_by : (tokens : List Token) (t : Tree) (f : Fault) → IsExpr 0 tokens [] t → steps start tokens ≡ Err f → ⊥
+readable_by : (tokens : List Token) (t : Condition) (f : Fault) → IsExpr 0 tokens [] t → steps start tokens ≡ Err f → ⊥
 readable_by tokens t f e fails =
     let reads : (steps start tokens >>= at_end 0) ≡ Ok t = expr_read 0 tokens t e in
     let broken : (steps start tokens >>= at_end 0) ≡ Err f = ap (λ r. r >>= at_end 0) fails in
     cc
 
 -- the tokens of a readable text have no fault
-readable_runs : (text : List ℕ) (t : Tree) (f : Fault) → Reads text t → steps start (tokens_of text) ≡ Err f → ⊥
+readable_runs : (text : List ℕ) (t : Condition) (f : Fault) → Reads text t → steps start (tokens_of text) ≡ Err f → ⊥
 unfolding steps
 readable_runs _ _ f (blank text every) fails =
     let none : steps start [] ≡ Err f = subst (λ l. steps start l ≡ Err f) (blank_tokens text 0 false every) fails in

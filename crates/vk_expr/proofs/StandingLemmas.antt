@@ -2,7 +2,7 @@
 use Rattle.std.proofs.Common.{◌≡◌, ℕ, List, [], ◌∷◌, ◌++◌, length, refl, subst}
 use Rattle.std.specs.Prelude.{Result, Ok, Err, Bool, true, false, cond, nat_lt, codes}
 use Rattle.vk_spec.specs.Reading.{◌>>=◌}
-use Rattle.vk_expr.specs.Trees.{Tree, mark, negation}
+use Rattle.vk_spec.specs.Conditions.{Condition, mark, negation}
 use Rattle.vk_expr.specs.Tokens.{Joint, both, either, Sign, Token, token, name, negates, joins, opens, closes, stray}
 use Rattle.vk_expr.specs.Reading.{Fault, unexpected, mixed, deep, Chain, single, joined, Frame, pending, around, State, wanted, ended, value_of, settled, same_joint, step, steps, at_end, cut_off, start}
 use Rattle.vk_expr.specs.Standing.{CanStandAfter, other_than, IsMixed, WantsUnary, IsTooDeep, IsToldBy, mixes, too_deep, misplaced, open_after, open_places, IsToldByEnd, too_short, inside}
@@ -15,7 +15,7 @@ unfolding step
 unary_wanted text before fs c r = (codes "a", can_stand text before (wanted fs c) (settled fs c (mark (codes "a"))) (codes "a") (name (codes "a")) r name_spelled (λ n. refl))
 
 -- after a chain, its own operator can stand
-joint_stands : (text : List ℕ) (before : List Token) (fs : List Frame) (joint : Joint) (xs : List Tree) (t : Tree) → Reaches text before (ended fs (joined joint xs) t) → CanStandAfter before (joins joint)
+joint_stands : (text : List ℕ) (before : List Token) (fs : List Frame) (joint : Joint) (xs : List Condition) (t : Condition) → Reaches text before (ended fs (joined joint xs) t) → CanStandAfter before (joins joint)
 unfolding step
 joint_stands text before fs joint xs t r = can_stand text before (ended fs (joined joint xs) t) (wanted fs (joined joint (xs ++ t ∷ []))) (joint_word joint) (joins joint) r (joint_spelled joint) (λ n. rw (same joint) refl)
 
@@ -25,7 +25,7 @@ unfolding step
 no_joint before fs c joint runs = cannot_stand before (wanted fs c) (joins joint) runs (λ n. refl)
 
 -- after a unary, no name can stand
-no_unary : (before : List Token) (fs : List Frame) (c : Chain) (t : Tree) → steps start before ≡ Ok (ended fs c t) → WantsUnary before → ⊥
+no_unary : (before : List Token) (fs : List Frame) (c : Chain) (t : Condition) → steps start before ≡ Ok (ended fs c t) → WantsUnary before → ⊥
 unfolding step
 no_unary before fs c t runs wants = cannot_stand before (ended fs c t) (name wants.0) runs (λ n. refl) wants.1
 
@@ -99,7 +99,7 @@ abbrev HasPlaces : List ℕ → Result State Fault → Type 0
 HasPlaces ps (Ok s) = ps ≡ places_of s
 HasPlaces ps (Err f) = Unit {0}
 
-settled_places : (fs : List Frame) (c : Chain) (t : Tree) → places_in fs ≡ places_of (settled fs c t)
+settled_places : (fs : List Frame) (c : Chain) (t : Condition) → places_in fs ≡ places_of (settled fs c t)
 unfolding settled
 settled_places [] c t = refl
 settled_places (pending ∷ fs) c t = settled_places fs c (negation t)

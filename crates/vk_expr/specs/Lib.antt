@@ -1,4 +1,3 @@
-pub mod Trees
 pub mod Tokens
 pub mod Grammar
 pub mod Reading

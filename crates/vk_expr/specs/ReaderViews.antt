@@ -2,7 +2,7 @@
 use Rattle.std.specs.Prelude.{Bool, true, false, List, [], ◌∷◌, map, reverse}
 use Rattle.vk_expr.specs.Tokens as the
 use Rattle.vk_expr.specs.Reading as reading
-use Rattle.vk_expr.specs.Views.{tree_of}
+use Rattle.vk_expr.specs.Views.{condition_of}
 use Rattle.vk_expr.specs.declared.tokens.Joint.{Joint}
 use Rattle.vk_expr.specs.declared.tokens.Joint.TheVariants as joint
 use Rattle.vk_expr.specs.declared.tokens.Sign.{Sign}
@@ -28,7 +28,7 @@ sign_of sign.Stray = the.stray
 
 abbrev pub chain_of : Chain → reading.Chain
 chain_of chain.Single = reading.single
-chain_of (chain.Joined joint members) = reading.joined (joint_of joint) (map tree_of members)
+chain_of (chain.Joined joint members) = reading.joined (joint_of joint) (map condition_of members)
 
 abbrev pub frame_of : Frame → reading.Frame
 frame_of frame.Pending = reading.pending
@@ -40,7 +40,7 @@ frames_of frames = reverse (map frame_of frames)
 
 abbrev pub state_of : State → reading.State
 state_of (state.Wanted frames chain) = reading.wanted (frames_of frames) (chain_of chain)
-state_of (state.Ended frames chain value) = reading.ended (frames_of frames) (chain_of chain) (tree_of value)
+state_of (state.Ended frames chain value) = reading.ended (frames_of frames) (chain_of chain) (condition_of value)
 
 -- whether a NOT is the innermost that is pending
 abbrev pub is_pending : reading.Frame → Bool

@@ -2,7 +2,7 @@
 use Rattle.std.specs.Prelude.{◌++◌, if◌then◌else◌, ℕ, Bool, true, false, List, [], ◌∷◌, length, nat_lt, Result, Ok, Err}
 use Rattle.std.specs.List.{list_all}
 use Rattle.vk_spec.specs.Reading.{◌>>=◌}
-use Rattle.vk_expr.specs.Trees.{Tree, always, mark, negation}
+use Rattle.vk_spec.specs.Conditions.{Condition, always, mark, negation}
 use Rattle.vk_expr.specs.Tokens.{Joint, both, either, Token, token, name, negates, joins, opens, closes, stray, is_blank, tokens_of}
 use Rattle.vk_expr.specs.Grammar.{joined_by}
 
@@ -16,7 +16,7 @@ pub data Fault : Type 0 where
 -- the members of a level that ended with an operator: none, or so many, which are joined in one way
 pub data Chain : Type 0 where
   single : Chain
-  joined : Joint → List Tree → Chain
+  joined : Joint → List Condition → Chain
 
 -- what is pending: a NOT, or a parenthesis at a place, and the chain that it stands in
 pub data Frame : Type 0 where
@@ -26,15 +26,15 @@ pub data Frame : Type 0 where
 -- after some tokens a unary is wanted, or one has ended. What is pending begins with the innermost.
 pub data State : Type 0 where
   wanted : List Frame → Chain → State
-  ended : List Frame → Chain → Tree → State
+  ended : List Frame → Chain → Condition → State
 
 -- the value of a level whose last member is t
-abbrev pub value_of : Chain → Tree → Tree
+abbrev pub value_of : Chain → Condition → Condition
 value_of single t = t
 value_of (joined joint ts) t = joined_by joint (ts ++ t ∷ [])
 
 -- a unary means t: so many NOTs end with it
-unfoldable pub settled : List Frame → Chain → Tree → State
+unfoldable pub settled : List Frame → Chain → Condition → State
 settled [] c t = ended [] c t
 settled (pending ∷ fs) c t = settled fs c (negation t)
 settled (around at outer ∷ fs) c t = ended (around at outer ∷ fs) c t
@@ -50,12 +50,12 @@ abbrev pub deeper : List Frame → Frame → Chain → Result State Fault
 deeper fs f c = if nat_lt (length fs) 64 then Ok (wanted (f ∷ fs) c) else Err deep
 
 -- an operator after a unary goes on with the chain of its own kind alone
-abbrev pub joined_on : ℕ → Joint → List Frame → Chain → Tree → Result State Fault
+abbrev pub joined_on : ℕ → Joint → List Frame → Chain → Condition → Result State Fault
 joined_on at joint fs single t = Ok (wanted fs (joined joint (t ∷ [])))
 joined_on at joint fs (joined other ts) t = if same_joint joint other then Ok (wanted fs (joined other (ts ++ t ∷ []))) else Err (mixed at)
 
 -- a closing parenthesis after a unary ends the innermost open one
-abbrev pub closed_on : ℕ → List Frame → Chain → Tree → Result State Fault
+abbrev pub closed_on : ℕ → List Frame → Chain → Condition → Result State Fault
 closed_on at (around place outer ∷ fs) c t = Ok (settled fs outer (value_of c t))
 closed_on at (pending ∷ fs) c t = Err (unexpected at)
 closed_on at [] c t = Err (unexpected at)
@@ -87,7 +87,7 @@ cut_off length (pending ∷ fs) = cut_off length fs
 cut_off length (around at outer ∷ fs) = unclosed at
 
 -- what the end of a text of this length makes of it
-unfoldable pub at_end : ℕ → State → Result Tree Fault
+unfoldable pub at_end : ℕ → State → Result Condition Fault
 at_end length (ended [] c t) = Ok (value_of c t)
 at_end length (ended (f ∷ fs) c t) = Err (cut_off length (f ∷ fs))
 at_end length (wanted fs c) = Err (cut_off length fs)
@@ -96,5 +96,5 @@ abbrev pub start : State
 start = wanted [] single
 
 -- what a text reads as, or its first fault
-unfoldable pub reading_of : List ℕ → Result Tree Fault
+unfoldable pub reading_of : List ℕ → Result Condition Fault
 reading_of text = if list_all is_blank text then Ok always else steps start (tokens_of text) >>= at_end (length text)

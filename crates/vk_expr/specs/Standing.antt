@@ -1,6 +1,6 @@
 -- Where a text's first fault stands, in terms of which texts are readable.
 use Rattle.std.specs.Prelude.{◌≡◌, ◌++◌, ℕ, List, [], ◌∷◌, length}
-use Rattle.vk_expr.specs.Trees.{Tree}
+use Rattle.vk_spec.specs.Conditions.{Condition}
 use Rattle.vk_expr.specs.Tokens.{Sign, Joint, both, either, Token, token, name, negates, joins, opens, closes, stray, tokens_of}
 use Rattle.vk_expr.specs.Grammar.{Reads, CanGoOn}
 use Rattle.vk_expr.specs.Reading.{Fault, unexpected, mixed, unclosed, deep}
@@ -70,4 +70,4 @@ pub data IsToldByEnd : ℕ → List Token → Fault → Type 0 where
 -- to it; or at the end of a text that isn't readable, where a readable text begins with all its tokens
 pub data IsFirstFault : List ℕ → Fault → Type 0 where
   at_token : (text : List ℕ) (before after : List Token) (here : Token) (fault : Fault) → tokens_of text ≡ before ++ here ∷ after → CanGoOn before → (CanGoOn (before ++ here ∷ []) → ⊥) → IsToldBy before here fault → IsFirstFault text fault
-  at_end : (text : List ℕ) (fault : Fault) → CanGoOn (tokens_of text) → ((t : Tree) → Reads text t → ⊥) → IsToldByEnd (length text) (tokens_of text) fault → IsFirstFault text fault
+  at_end : (text : List ℕ) (fault : Fault) → CanGoOn (tokens_of text) → ((t : Condition) → Reads text t → ⊥) → IsToldByEnd (length text) (tokens_of text) fault → IsFirstFault text fault

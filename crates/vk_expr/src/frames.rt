@@ -2,7 +2,7 @@ ghost use Rattle.std.specs.Prelude.{◌≡◌, Ok, Some, map};
 ghost use Rattle.vk_spec.specs.Reading.{Gives};
 ghost use Rattle.vk_expr.specs.Grammar.{joined_by};
 ghost use Rattle.vk_expr.specs.Reading.{value_of, cut_off};
-ghost use Rattle.vk_expr.specs.Views.{tree_of};
+ghost use Rattle.vk_expr.specs.Views.{condition_of};
 ghost use Rattle.vk_expr.specs.Faults.{expr_fault_of};
 ghost use Rattle.vk_expr.specs.ReaderViews.{joint_of, chain_of, frame_of, frames_of, is_pending, is_negated};
 
@@ -27,7 +27,7 @@ pub(crate) enum Frame {
 
 /// Members that are joined.
 fn joined(joint: Joint, members: List<Expr>) -> Expr
-    ensures { tree_of result ≡ joined_by (joint_of joint) (map tree_of members) }
+    ensures { condition_of result ≡ joined_by (joint_of joint) (map condition_of members) }
 {
     match joint {
         Joint::Both => Expr::All(members.into_vec()),
@@ -37,7 +37,7 @@ fn joined(joint: Joint, members: List<Expr>) -> Expr
 
 /// The value of a level with its last member.
 pub(crate) fn value(chain: Chain, last: Expr) -> Result<Expr, ExprFault>
-    ensures { Gives tree_of expr_fault_of result (Ok (value_of (chain_of chain) (tree_of last))) }
+    ensures { Gives condition_of expr_fault_of result (Ok (value_of (chain_of chain) (condition_of last))) }
 {
     match chain {
         Chain::Single => Ok(last),

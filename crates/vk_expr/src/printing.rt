@@ -1,7 +1,7 @@
 ghost use Rattle.std.specs.Prelude.{◌≡◌, ◌++◌, map, IfOk, OnOk};
-ghost use Rattle.vk_expr.specs.Trees.{trees_of};
+ghost use Rattle.vk_spec.specs.Conditions.{conditions_of};
 ghost use Rattle.vk_expr.specs.Printing.{opening, closing, printed, printed_as, members_of};
-ghost use Rattle.vk_expr.specs.Views.{tree_of};
+ghost use Rattle.vk_expr.specs.Views.{condition_of};
 
 use crate::exprs::Expr;
 use std::alloc::Global;
@@ -22,7 +22,7 @@ fn closing(member: bool) -> &'static str
 /// Puts members at the end, with a sign between them.
 #[cycle(members)]
 fn push_members(out: &mut Text, members: &[Expr], sign: &str) -> Result<(), Memory>
-    ensures { OnOk result (out.new ≡ out.old ++ members_of sign.now (trees_of (map tree_of members.now))) }
+    ensures { OnOk result (out.new ≡ out.old ++ members_of sign.now (conditions_of (map condition_of members.now))) }
 {
     let mut between = "";
     for member in members {
@@ -36,7 +36,7 @@ fn push_members(out: &mut Text, members: &[Expr], sign: &str) -> Result<(), Memo
 /// Puts a chain at the end.
 #[cycle(members)]
 fn push_chain(out: &mut Text, members: &[Expr], sign: &str, member: bool) -> Result<(), Memory>
-    ensures { OnOk result (out.new ≡ out.old ++ (opening member ++ (members_of sign.now (trees_of (map tree_of members.now)) ++ closing member))) }
+    ensures { OnOk result (out.new ≡ out.old ++ (opening member ++ (members_of sign.now (conditions_of (map condition_of members.now)) ++ closing member))) }
 {
     out.push_str(opening(member))?;
     push_members(out, members, sign)?;
@@ -47,7 +47,7 @@ fn push_chain(out: &mut Text, members: &[Expr], sign: &str, member: bool) -> Res
 /// Puts an expression at the end, told whether it is a member.
 #[cycle(members)]
 fn push(out: &mut Text, e: &Expr, member: bool) -> Result<(), Memory>
-    ensures { OnOk result (out.new ≡ out.old ++ printed_as member (tree_of e.now)) }
+    ensures { OnOk result (out.new ≡ out.old ++ printed_as member (condition_of e.now)) }
 {
     match e {
         Expr::Always => Ok(()),
@@ -65,7 +65,7 @@ fn push(out: &mut Text, e: &Expr, member: bool) -> Result<(), Memory>
 /// a member that is a chain. `Always` prints as the empty text. What was read and is printed reads as
 /// the same expression.
 pub fn print(alloc: Global, e: &Expr) -> Result<Text, Memory>
-    ensures { IfOk result (λ t. t ≡ printed (tree_of e.now)) }
+    ensures { IfOk result (λ t. t ≡ printed (condition_of e.now)) }
 {
     let mut out = Text::new(alloc);
     push(&mut out, e, false)?;

@@ -1,10 +1,10 @@
 ghost use Rattle.std.specs.Prelude.{◌≡◌, ◌∷◌, ◌++◌, map, ◌+◌, ◌<◌, ◌^◌, [], length, drop, slice_index, option_map, option_to_list, Ok};
 ghost use Rattle.std.specs.List.{list_all};
 ghost use Rattle.vk_spec.specs.Reading.{Gives};
-ghost use Rattle.vk_expr.specs.Trees.{negation};
+ghost use Rattle.vk_spec.specs.Conditions.{negation};
 ghost use Rattle.vk_expr.specs.Tokens.{token, tokens_of, sign_begun, is_blank};
 ghost use Rattle.vk_expr.specs.Reading.{unexpected, wanted, ended, settled, deeper, joined_on, closed_on, same_joint, joined, start, step, steps, at_end, reading_of};
-ghost use Rattle.vk_expr.specs.Views.{tree_of};
+ghost use Rattle.vk_expr.specs.Views.{condition_of};
 ghost use Rattle.vk_expr.specs.Faults.{expr_fault_of};
 ghost use Rattle.vk_expr.specs.ReaderViews.{joint_of, sign_of, chain_of, frame_of, frames_of, state_of};
 
@@ -23,7 +23,7 @@ pub(crate) enum State {
 }
 
 fn negation(alloc: Global, member: Expr) -> Result<Expr, ExprFault>
-    ensures { Gives tree_of expr_fault_of result (Ok (negation (tree_of member))) }
+    ensures { Gives condition_of expr_fault_of result (Ok (negation (condition_of member))) }
 {
     Ok(Expr::Not(Box::new(alloc, member)?))
 }
@@ -35,7 +35,7 @@ fn settled(
     chain: Chain,
     mut value: Expr,
 ) -> Result<State, ExprFault>
-    ensures { Gives state_of expr_fault_of result (Ok (settled (frames_of frames) (chain_of chain) (tree_of value))) }
+    ensures { Gives state_of expr_fault_of result (Ok (settled (frames_of frames) (chain_of chain) (condition_of value))) }
 {
     while is_negated(&frames) {
         frames.pop();
@@ -78,7 +78,7 @@ fn step_wanted(
 
 /// A chain begins with its first member.
 fn begun(alloc: Global, frames: List<Frame>, joint: Joint, first: Expr) -> Result<State, ExprFault>
-    ensures { Gives state_of expr_fault_of result (Ok (wanted (frames_of frames) (joined (joint_of joint) (tree_of first ∷ [])))) }
+    ensures { Gives state_of expr_fault_of result (Ok (wanted (frames_of frames) (joined (joint_of joint) (condition_of first ∷ [])))) }
 {
     let mut members = List::new(alloc);
     members.push(first)?;
@@ -92,7 +92,7 @@ fn grown(
     mut members: List<Expr>,
     member: Expr,
 ) -> Result<State, ExprFault>
-    ensures { Gives state_of expr_fault_of result (Ok (wanted (frames_of frames) (joined (joint_of joint) (map tree_of members ++ tree_of member ∷ [])))) }
+    ensures { Gives state_of expr_fault_of result (Ok (wanted (frames_of frames) (joined (joint_of joint) (map condition_of members ++ condition_of member ∷ [])))) }
 {
     members.push(member)?;
     Ok(State::Wanted(frames, Chain::Joined(joint, members)))
@@ -122,7 +122,7 @@ fn joined_later(
     at: u32,
     operator: Joint,
 ) -> Result<State, ExprFault>
-    ensures { Gives state_of expr_fault_of result (joined_on at (joint_of operator) (frames_of frames) (joined (joint_of joint) (map tree_of members)) (tree_of member)) }
+    ensures { Gives state_of expr_fault_of result (joined_on at (joint_of operator) (frames_of frames) (joined (joint_of joint) (map condition_of members)) (condition_of member)) }
 {
     if is_same(operator, joint) {
         grown(frames, joint, members, member)
@@ -140,7 +140,7 @@ fn joined_on(
     at: u32,
     joint: Joint,
 ) -> Result<State, ExprFault>
-    ensures { Gives state_of expr_fault_of result (joined_on at (joint_of joint) (frames_of frames) (chain_of chain) (tree_of member)) }
+    ensures { Gives state_of expr_fault_of result (joined_on at (joint_of joint) (frames_of frames) (chain_of chain) (condition_of member)) }
 {
     match chain {
         Chain::Single => begun(alloc, frames, joint, member),
@@ -157,7 +157,7 @@ fn closed(
     last: Expr,
     at: u32,
 ) -> Result<State, ExprFault>
-    ensures { Gives state_of expr_fault_of result (closed_on at (frame_of innermost ∷ frames_of frames) (chain_of chain) (tree_of last)) }
+    ensures { Gives state_of expr_fault_of result (closed_on at (frame_of innermost ∷ frames_of frames) (chain_of chain) (condition_of last)) }
 {
     match innermost {
         Frame::Pending => Err(ExprFault::Unexpected { at }),
@@ -173,7 +173,7 @@ fn closed_on(
     last: Expr,
     at: u32,
 ) -> Result<State, ExprFault>
-    ensures { Gives state_of expr_fault_of result (closed_on at (frames_of frames) (chain_of chain) (tree_of last)) }
+    ensures { Gives state_of expr_fault_of result (closed_on at (frames_of frames) (chain_of chain) (condition_of last)) }
 {
     match frames.pop() {
         None => Err(ExprFault::Unexpected { at }),
@@ -191,7 +191,7 @@ fn step_ended(
     at: u32,
     sign: Sign,
 ) -> Result<State, ExprFault>
-    ensures { Gives state_of expr_fault_of result (step (ended (frames_of frames) (chain_of chain) (tree_of last)) (token at (sign_of sign))) }
+    ensures { Gives state_of expr_fault_of result (step (ended (frames_of frames) (chain_of chain) (condition_of last)) (token at (sign_of sign))) }
 {
     match sign {
         Sign::Joins(joint) => joined_on(alloc, frames, chain, last, at, joint),
@@ -262,7 +262,7 @@ fn finish_ended(
     last: Expr,
     length: u32,
 ) -> Result<Expr, ExprFault>
-    ensures { Gives tree_of expr_fault_of result (at_end length (ended (frames_of frames) (chain_of chain) (tree_of last))) }
+    ensures { Gives condition_of expr_fault_of result (at_end length (ended (frames_of frames) (chain_of chain) (condition_of last))) }
 {
     if frames.is_empty() {
         value(chain, last)
@@ -274,7 +274,7 @@ fn finish_ended(
 /// What the end of a text makes of what its tokens led to.
 #[tactic(auto, unfolding(crate::specs::Reading::at_end))]
 fn finish(state: State, length: u32) -> Result<Expr, ExprFault>
-    ensures { Gives tree_of expr_fault_of result (at_end length (state_of state)) }
+    ensures { Gives condition_of expr_fault_of result (at_end length (state_of state)) }
 {
     match state {
         State::Wanted(frames, _) => Err(cut_off(frames, length)),
@@ -297,7 +297,7 @@ fn is_blank_text(bytes: &[u8]) -> bool
 #[tactic(auto, unfolding(crate::specs::Reading::reading_of))]
 pub fn read(alloc: Global, text: &str) -> Result<Expr, ExprFault>
     requires short { length text.now < 2 ^ 32 }
-    ensures { Gives tree_of expr_fault_of result (reading_of text.now) }
+    ensures { Gives condition_of expr_fault_of result (reading_of text.now) }
 {
     let bytes = text.as_bytes();
     if is_blank_text(bytes) {

@@ -1,13 +1,13 @@
 ghost use Rattle.std.specs.Prelude.{◌≡◌};
-ghost use Rattle.vk_expr.specs.Trees.{holds, all_hold, any_holds};
-ghost use Rattle.vk_expr.specs.Views.{tree_of};
+ghost use Rattle.vk_spec.specs.Conditions.{holds, all_hold, any_holds};
+ghost use Rattle.vk_expr.specs.Views.{condition_of};
 
 use crate::exprs::Expr;
 use crate::marks::Marks;
 
 /// Whether an expression is true where these marks hold and no others. Takes no memory.
 pub fn truth(e: &Expr, marks: &Marks) -> bool
-    ensures { result ≡ holds (tree_of e.now) marks.now.names }
+    ensures { result ≡ holds (condition_of e.now) marks.now.names }
 {
     match e {
         Expr::Always => true,

@@ -7,7 +7,7 @@ use Rattle.vk_base.specs.Names.{reads_name, reads_feature, port_rule}
 use Rattle.vk_base.specs.PathReading.{path_of}
 use Rattle.vk_version.specs.Schemes as version
 use Rattle.vk_version.specs.Readings.{reads_ask, unless, string_fault}
-use Rattle.vk_expr.specs.Trees.{Tree}
+use Rattle.vk_spec.specs.Conditions.{Condition}
 use Rattle.vk_expr.specs.Reading.{reading_of}
 use Rattle.vk_json.specs.declared.faults.Why.{Why}
 use Rattle.vk_json.specs.Documents.{Fault}
@@ -34,7 +34,7 @@ feature_name_at = by_rule name_word reads_feature
 abbrev pub path_at : Reading Path
 path_at = by_rule path_word path_of
 
-abbrev pub expression_at : Reading Tree
+abbrev pub expression_at : Reading Condition
 expression_at = by_rule expression_word reading_of
 
 -- a minimum: a text, and maybe `#` and a port-version

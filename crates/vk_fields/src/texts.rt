@@ -6,8 +6,8 @@ ghost use Rattle.vk_spec.specs.Paths.{Path};
 ghost use Rattle.vk_spec.specs.Versions as plain;
 ghost use Rattle.vk_base.specs.FeatureViews.{feature_view};
 ghost use Rattle.vk_version.specs.AskViews.{ask_view};
-ghost use Rattle.vk_expr.specs.Trees.{Tree};
-ghost use Rattle.vk_expr.specs.Views.{tree_of};
+ghost use Rattle.vk_spec.specs.Conditions.{Condition};
+ghost use Rattle.vk_expr.specs.Views.{condition_of};
 ghost use Rattle.vk_expr.specs.Faults.{expr_fault_of};
 ghost use Rattle.vk_expr.specs.Reading.{reading_of};
 ghost use Rattle.vk_version.specs.Views.{version_fault_of};
@@ -99,9 +99,9 @@ pub struct ExpressionText;
 impl Reader for ExpressionText {
     type Out = Expr;
 
-    ghost Plain = { Tree };
+    ghost Plain = { Condition };
 
-    ghost plain = { tree_of };
+    ghost plain = { condition_of };
 
     ghost reads = { λ r. expression_at };
 
@@ -160,7 +160,7 @@ impl Reader for PlainText {
 // A text of 2^32 bytes or more stands in no file that a run reads, and places in it have no number:
 // reading it would want more memory than there is.
 fn read_expression(alloc: Global, text: &str) -> Result<Expr, ExprFault>
-    ensures { Gives tree_of expr_fault_of result (reading_of text.now) }
+    ensures { Gives condition_of expr_fault_of result (reading_of text.now) }
 {
     if text.len() > u32::MAX as usize {
         return Err(ExprFault::Memory);

@@ -3,7 +3,9 @@ use Rattle.std.specs.Prelude.{◌++◌, ◌==◌, ℕ, List, [], ◌∷◌, code
 use Rattle.std.specs.List.{flat_map}
 use Rattle.std.specs.Str.{chars}
 use Rattle.std.specs.Char.{encode_utf8}
+use Rattle.vk_spec.specs.Paths.{Path}
 use Rattle.vk_base.specs.Tokens.{token_of}
+use Rattle.vk_base.specs.Printed.{path_text}
 use Rattle.vk_json.specs.Documents.{Fault}
 use Rattle.vk_json.specs.declared.faults.Why.{Why}
 
@@ -40,3 +42,7 @@ inside step (Err fault) = Err (moved step fault)
 abbrev pub place_text : List ℕ → List ℕ
 place_text [] = codes "-"
 place_text (b ∷ bytes) = token_of (b ∷ bytes)
+
+-- the line of a bad file: the file, the place in it, and the word for what is wrong there
+abbrev pub file_line : Path → List ℕ → List ℕ → List ℕ
+file_line path place word = codes "bad-file " ++ path_text path ++ codes " " ++ place_text place ++ codes " " ++ word

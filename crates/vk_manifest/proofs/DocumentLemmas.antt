@@ -4,7 +4,7 @@ use Rattle.std.specs.Prelude.{Option, Some, None, Result, Ok, Err}
 use Rattle.serde_json.specs.Data.{Data}
 use Rattle.vk_spec.specs.Reading.{◌>>=◌, or_fault}
 use Rattle.vk_spec.specs.Manifests.{Manifest}
-use Rattle.vk_expr.specs.Trees.{Tree}
+use Rattle.vk_spec.specs.Conditions.{Condition}
 use Rattle.vk_json.specs.Documents.{Fault, json_of, value_of, without_mark}
 use Rattle.vk_json.specs.declared.faults.Why.TheVariants as why
 use Rattle.vk_json.specs.Places.{here}
@@ -25,9 +25,9 @@ pub no_document : (bytes : List ℕ) (root : Bool) (fault : Fault) → json_of b
 unfolding json_of
 no_document bytes root fault e = (ap (λ r. r >>= manifest_at root) e, whole (value_of (without_mark bytes)) fault e)
 
-read_by : (root : Bool) (r : Result Data Fault) (m : Manifest Tree) → (r >>= manifest_at root) ≡ Ok m → IsRead root m
+read_by : (root : Bool) (r : Result Data Fault) (m : Manifest Condition) → (r >>= manifest_at root) ≡ Ok m → IsRead root m
 read_by root (Ok d) m e = given_has (IsRead root) d (manifest_at root d) m (manifest_says root d) e
 read_by root (Err fault) m e = (cc)
 
-pub is_read : (bytes : List ℕ) (root : Bool) (m : Manifest Tree) → manifest_of bytes root ≡ Ok m → IsRead root m
+pub is_read : (bytes : List ℕ) (root : Bool) (m : Manifest Condition) → manifest_of bytes root ≡ Ok m → IsRead root m
 is_read bytes root m e = read_by root (json_of bytes) m e

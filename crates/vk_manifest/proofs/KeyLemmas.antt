@@ -4,7 +4,7 @@ use Rattle.std.specs.Prelude.{codes}
 use Rattle.serde_json.specs.Data.{Members, object}
 use Rattle.serde_json.specs.Find.{get}
 use Rattle.vk_version.specs.Schemes.{Scheme, relaxed, semver, date, string}
-use Rattle.vk_expr.specs.Trees.{always}
+use Rattle.vk_spec.specs.Conditions.{always}
 use Rattle.vk_json.specs.Readings.{bool_at, each_item, each_member}
 use Rattle.vk_json.proofs.SameLemmas.{on_same, then_same, wanted_same, optional_same, optional_or_same}
 use Rattle.vk_json.specs.declared.faults.Why.TheVariants as why

@@ -14,7 +14,7 @@ use Rattle.vk_spec.specs.Manifests.{Override, Manifest}
 use Rattle.vk_spec.proofs.ListLemmas.{contains_nothing, contains_cases, no_repeats_push}
 use Rattle.vk_base.specs.Names.{IsName, IsFeatureName, port_rule, reads_feature}
 use Rattle.vk_base.proofs.NameLemmas.{neither}
-use Rattle.vk_expr.specs.Trees.{Tree, always}
+use Rattle.vk_spec.specs.Conditions.{Condition, always}
 use Rattle.vk_json.specs.declared.faults.Why.TheVariants as why
 use Rattle.vk_json.specs.Places.{here, inside, member_step}
 use Rattle.vk_json.specs.Readings.{bool_at, optional, each_item, each_member}
@@ -155,7 +155,7 @@ abbrev IsRootsOwn : Bool → List Override → Type 0
 IsRootsOwn true overrides = Unit {0}
 IsRootsOwn false overrides = overrides ≡ []
 
-abbrev pub IsPortUnless : Bool → Manifest Tree → Type 0
+abbrev pub IsPortUnless : Bool → Manifest Condition → Type 0
 IsPortUnless true m = Unit {0}
 IsPortUnless false m = IsPort m
 
@@ -173,12 +173,12 @@ overrides_if_says : (root : Bool) → Reads (λ overrides. AreNew overrides × I
 overrides_if_says true d = says_weaker AreNew (λ overrides. AreNew overrides × IsRootsOwn true overrides) d (overrides_in d) (overrides_says d) (λ overrides are. (are, tt))
 overrides_if_says false d = ((All-nil IsNamedOverride, tt), refl)
 
-is_port : (root : Bool) (m : Manifest Tree) → IsNeeded root m.name → IsNeeded root m.version → IsRootsOwn root m.overrides → IsPortUnless root m
+is_port : (root : Bool) (m : Manifest Condition) → IsNeeded root m.name → IsNeeded root m.version → IsRootsOwn root m.overrides → IsPortUnless root m
 is_port true m name version overrides = tt
 is_port false m name version overrides = record { named = name; versioned = version; sets_none = overrides }
 
 -- the names are names, and a port has what it needs
-abbrev pub IsRead : Bool → Manifest Tree → Type 0
+abbrev pub IsRead : Bool → Manifest Condition → Type 0
 IsRead root m = IsNamed m × IsPortUnless root m
 
 pub manifest_says : (root : Bool) → Reads (IsRead root) (manifest_at root)

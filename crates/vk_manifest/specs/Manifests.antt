@@ -6,7 +6,7 @@ use Rattle.vk_spec.specs.Reading.{◌>>=◌, or_fault, read_after}
 use Rattle.vk_spec.specs.Versions.{Version}
 use Rattle.vk_spec.specs.Manifests.{FeatureUse, Dependency, Feature, Override, Manifest}
 use Rattle.vk_base.specs.Names.{reads_feature}
-use Rattle.vk_expr.specs.Trees.{Tree, always}
+use Rattle.vk_spec.specs.Conditions.{Condition, always}
 use Rattle.vk_json.specs.Documents.{Fault, json_of}
 use Rattle.vk_json.specs.declared.faults.Why.TheVariants as why
 use Rattle.vk_json.specs.Looks.{items_of}
@@ -17,35 +17,35 @@ use Rattle.vk_fields.specs.Texts.{said_here, port_name_at, feature_name_at, expr
 use Rattle.vk_fields.specs.Versions.{key_of, scheme_in, version_at, version_needed_at, ask_under}
 
 -- a condition under a key; where it is missing, it always holds
-abbrev pub condition_under : List ℕ → Reading Tree
+abbrev pub condition_under : List ℕ → Reading Condition
 condition_under = optional_or always expression_at
 
 -- a feature that a list names: its name alone
-unfoldable pub use_of_text : Reading (FeatureUse Tree)
+unfoldable pub use_of_text : Reading (FeatureUse Condition)
 use_of_text d = feature_name_at d >>= λ name. Ok (record { name = name; platform = always })
 
 -- or with a condition
-unfoldable pub use_of_object : Reading (FeatureUse Tree)
+unfoldable pub use_of_object : Reading (FeatureUse Condition)
 use_of_object d = do
   name ← wanted feature_name_at (codes "name") d
   platform ← condition_under (codes "platform") d
   Ok (record { name = name; platform = platform })
 
-abbrev pub use_at : Reading (FeatureUse Tree)
+abbrev pub use_at : Reading (FeatureUse Condition)
 use_at = text_or_object use_of_text use_of_object
 
 -- features under a key; where it is missing, there are none
-abbrev pub uses_under : List ℕ → Reading (List (FeatureUse Tree))
+abbrev pub uses_under : List ℕ → Reading (List (FeatureUse Condition))
 uses_under = optional_or [] (each_item use_at)
 
 -- a port's name alone: the port with its default features, everywhere
-abbrev pub plainly : List ℕ → Dependency Tree
+abbrev pub plainly : List ℕ → Dependency Condition
 plainly name = record { name = name; defaults = true; features = []; host = false; platform = always; minimum = None }
 
-unfoldable pub dependency_of_text : Reading (Dependency Tree)
+unfoldable pub dependency_of_text : Reading (Dependency Condition)
 dependency_of_text d = port_name_at d >>= λ name. Ok (plainly name)
 
-unfoldable pub dependency_of_object : Reading (Dependency Tree)
+unfoldable pub dependency_of_object : Reading (Dependency Condition)
 dependency_of_object d = do
   name ← wanted port_name_at (codes "name") d
   defaults ← optional_or true bool_at (codes "default-features") d
@@ -55,19 +55,19 @@ dependency_of_object d = do
   minimum ← optional ask_at (codes "version>=") d
   Ok (record { name = name; defaults = defaults; features = features; host = host; platform = platform; minimum = minimum })
 
-abbrev pub dependency_at : Reading (Dependency Tree)
+abbrev pub dependency_at : Reading (Dependency Condition)
 dependency_at = text_or_object dependency_of_text dependency_of_object
 
 -- dependencies under their key; where it is missing, there are none
-abbrev pub dependencies_in : Reading (List (Dependency Tree))
+abbrev pub dependencies_in : Reading (List (Dependency Condition))
 dependencies_in = optional_or [] (each_item dependency_at) (codes "dependencies")
 
 -- where a port or a feature can be built
-abbrev pub supports_in : Reading Tree
+abbrev pub supports_in : Reading Condition
 supports_in = condition_under (codes "supports")
 
 -- a feature of the manifest: its key is its name
-unfoldable pub feature_at : MemberReading (Feature Tree)
+unfoldable pub feature_at : MemberReading (Feature Condition)
 feature_at key d = do
   name ← said_here name_word (reads_feature key)
   object ← object_at d
@@ -75,7 +75,7 @@ feature_at key d = do
   supports ← supports_in d
   Ok (record { name = name; dependencies = dependencies; supports = supports })
 
-abbrev pub features_in : Reading (List (Feature Tree))
+abbrev pub features_in : Reading (List (Feature Condition))
 features_in = optional_or [] (each_member feature_at) (codes "features")
 
 -- a name that is none of these
@@ -121,7 +121,7 @@ overrides_if true d = overrides_in d
 overrides_if false d = Ok []
 
 -- a manifest, of the root or of a port; members with other keys mean nothing
-unfoldable pub manifest_at : Bool → Reading (Manifest Tree)
+unfoldable pub manifest_at : Bool → Reading (Manifest Condition)
 manifest_at root d = do
   object ← object_at d
   name ← name_in root d
@@ -134,5 +134,5 @@ manifest_at root d = do
   Ok (record { name = name; version = version; supports = supports; dependencies = dependencies; default_features = defaults; features = features; overrides = overrides })
 
 -- the manifest that bytes are, or their first fault
-abbrev pub manifest_of : List ℕ → Bool → Result (Manifest Tree) Fault
+abbrev pub manifest_of : List ℕ → Bool → Result (Manifest Condition) Fault
 manifest_of bytes root = json_of bytes >>= manifest_at root

@@ -4,27 +4,27 @@ use Rattle.std.specs.List.{All}
 use Rattle.vk_spec.specs.Lists.{NoRepeats}
 use Rattle.vk_spec.specs.Manifests.{FeatureUse, Dependency, Feature, Override, Manifest}
 use Rattle.vk_base.specs.Names.{IsName, IsFeatureName, port_rule}
-use Rattle.vk_expr.specs.Trees.{Tree}
+use Rattle.vk_spec.specs.Conditions.{Condition}
 use Rattle.vk_manifest.specs.Manifests.{names_of}
 
 -- what a list names is a feature's name
-abbrev pub IsNamedUse : FeatureUse Tree → Type 0
+abbrev pub IsNamedUse : FeatureUse Condition → Type 0
 IsNamedUse feature_use = IsFeatureName feature_use.name
 
 abbrev pub IsNamedOverride : Override → Type 0
 IsNamedOverride o = IsName port_rule o.name
 
 -- the port and the features that are wanted have names
-pub record IsNamedDependency (d : Dependency Tree) : Type 0 where
+pub record IsNamedDependency (d : Dependency Condition) : Type 0 where
   pub port : IsName port_rule d.name
   pub uses : All IsNamedUse d.features
 
-pub record IsNamedFeature (f : Feature Tree) : Type 0 where
+pub record IsNamedFeature (f : Feature Condition) : Type 0 where
   pub word : IsFeatureName f.name
   pub wants : All IsNamedDependency f.dependencies
 
 -- each name keeps its rule, and no port is overridden twice
-pub record IsNamed (m : Manifest Tree) : Type 0 where
+pub record IsNamed (m : Manifest Condition) : Type 0 where
   pub own : IfSome m.name (IsName port_rule)
   pub wants : All IsNamedDependency m.dependencies
   pub defaults : All IsNamedUse m.default_features
@@ -33,7 +33,7 @@ pub record IsNamed (m : Manifest Tree) : Type 0 where
   pub once : NoRepeats (names_of m.overrides)
 
 -- a port has a name and a version, and no overrides
-pub record IsPort (m : Manifest Tree) : Type 0 where
+pub record IsPort (m : Manifest Condition) : Type 0 where
   pub named : IsSome m.name
   pub versioned : IsSome m.version
   pub sets_none : m.overrides ≡ []

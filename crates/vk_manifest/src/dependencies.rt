@@ -3,8 +3,8 @@ ghost use Rattle.std.specs.Prelude.{◌≡◌, List, map};
 ghost use Rattle.serde_json.specs.View.{view};
 ghost use Rattle.vk_spec.specs.Reading.{Gives};
 ghost use Rattle.vk_spec.specs.Manifests as plain;
-ghost use Rattle.vk_expr.specs.Trees.{Tree};
-ghost use Rattle.vk_expr.specs.Views.{tree_of};
+ghost use Rattle.vk_spec.specs.Conditions.{Condition};
+ghost use Rattle.vk_expr.specs.Views.{condition_of};
 ghost use Rattle.vk_json.specs.DocumentView.{file_fault_of};
 ghost use Rattle.vk_model.specs.Views.{use_view, dependency_view};
 ghost use Rattle.vk_manifest.specs.Manifests.{condition_under, use_of_text, use_of_object, use_at, uses_under, dependency_of_text, dependency_of_object, dependency_at, dependencies_in};
@@ -19,7 +19,7 @@ use vk_model::{Dependency, FeatureUse};
 
 /// A condition under a key; where it is missing, it always holds.
 pub fn condition(alloc: Global, value: &Value, key: &str) -> Result<Expr, FileFault>
-    ensures { Gives tree_of file_fault_of result (condition_under key.now (view value.now)) }
+    ensures { Gives condition_of file_fault_of result (condition_under key.now (view value.now)) }
 {
     optional_or(alloc, value, key, &ExpressionText, Expr::Always)
 }
@@ -50,7 +50,7 @@ struct FeatureUseItem;
 impl Reader for FeatureUseItem {
     type Out = FeatureUse;
 
-    ghost Plain = { plain.FeatureUse Tree };
+    ghost Plain = { plain.FeatureUse Condition };
 
     ghost plain = { use_view };
 
@@ -113,7 +113,7 @@ struct DependencyItem;
 impl Reader for DependencyItem {
     type Out = Dependency;
 
-    ghost Plain = { plain.Dependency Tree };
+    ghost Plain = { plain.Dependency Condition };
 
     ghost plain = { dependency_view };
 

@@ -5,7 +5,7 @@ ghost use Rattle.vk_spec.specs.Reading.{Gives};
 ghost use Rattle.vk_spec.specs.Manifests as plain;
 ghost use Rattle.vk_base.specs.Names.{reads_feature};
 ghost use Rattle.vk_base.specs.FeatureViews.{feature_view};
-ghost use Rattle.vk_expr.specs.Trees.{Tree};
+ghost use Rattle.vk_spec.specs.Conditions.{Condition};
 ghost use Rattle.vk_json.specs.DocumentView.{file_fault_of};
 ghost use Rattle.vk_fields.specs.Wording.{name_word};
 ghost use Rattle.vk_fields.specs.Texts.{said_here};
@@ -38,7 +38,7 @@ struct FeatureMember;
 impl MemberReader for FeatureMember {
     type Out = Feature;
 
-    ghost Plain = { plain.Feature Tree };
+    ghost Plain = { plain.Feature Condition };
 
     ghost plain = { feature_data };
 

@@ -1,7 +1,7 @@
 ghost use Rattle.std.specs.Prelude.{◌≡◌, ℕ, Bool, false, List, Ok, Err};
 ghost use Rattle.serde_json.specs.Data.{Data, Members, object};
 ghost use Rattle.vk_spec.specs.Manifests.{Manifest};
-ghost use Rattle.vk_expr.specs.Trees.{Tree};
+ghost use Rattle.vk_spec.specs.Conditions.{Condition};
 ghost use Rattle.vk_json.specs.Documents.{Fault, json_of};
 ghost use Rattle.vk_json.specs.declared.faults.Why.TheVariants as why;
 ghost use Rattle.vk_json.specs.Places.{here};
@@ -30,6 +30,6 @@ pub fn fault_places()
 /// What every manifest that reads has: names that keep their rules, and no port overridden twice. A
 /// port's has a name and a version, and no overrides.
 pub fn manifest_names()
-    ensures names { (bytes : List ℕ) (root : Bool) (m : Manifest Tree) → manifest_of bytes root ≡ Ok m → IsNamed m }
-    ensures port { (bytes : List ℕ) (m : Manifest Tree) → manifest_of bytes false ≡ Ok m → IsPort m }
+    ensures names { (bytes : List ℕ) (root : Bool) (m : Manifest Condition) → manifest_of bytes root ≡ Ok m → IsNamed m }
+    ensures port { (bytes : List ℕ) (m : Manifest Condition) → manifest_of bytes false ≡ Ok m → IsPort m }
 {}

@@ -1,6 +1,5 @@
 pub mod Projects
 pub mod Starts
-pub mod Settings
 pub mod Roots
 pub mod Configurations
 pub mod TripletFiles

@@ -1,12 +1,13 @@
 -- What was read of a project, as plain data, and the answer that it makes.
 use Rattle.std.specs.Prelude.{map, Result, Ok, Err}
 use Rattle.vk_model.specs.Views.{override_view}
+use Rattle.vk_model.specs.SettingViews.{setting_view}
 use Rattle.vk_config.specs.Views.{config_view}
 use Rattle.vk_files.specs.declared.caches.FileCache.{FileCache}
 use Rattle.vk_files.specs.declared.stops.Stop.{Stop}
 use Rattle.vk_files.specs.declared.stops.Stop.TheVariants as stop
 use Rattle.vk_opening.specs.Openings as plain
-use Rattle.vk_opening.specs.Views.{setting_view, overlay_view}
+use Rattle.vk_opening.specs.Views.{overlay_view}
 use Rattle.vk_model.specs.declared.earlies.Early.{Early}
 use Rattle.vk_opening.specs.declared.opens.Opening.{Opening}
 use Rattle.vk_opening.specs.declared.opens.Opened.{Opened}

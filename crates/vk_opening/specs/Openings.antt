@@ -4,12 +4,13 @@ use Rattle.vk_spec.specs.Reading.{◌>>=◌}
 use Rattle.vk_spec.specs.Files.{Files}
 use Rattle.vk_base.specs.FeatureViews.{feature_view}
 use Rattle.vk_spec.specs.Manifests.{Manifest}
-use Rattle.vk_expr.specs.Trees.{Tree}
+use Rattle.vk_spec.specs.Settings.{Setting}
+use Rattle.vk_spec.specs.Conditions.{Condition}
+use Rattle.vk_triplet.specs.Meanings.{meaning_of}
 use Rattle.vk_config.specs.Configs.{Config}
 use Rattle.vk_model.specs.declared.projects.Project.{Project}
 use Rattle.vk_spec.specs.Earlies.{Early}
 use Rattle.vk_opening.specs.Starts.{Overlay, Start}
-use Rattle.vk_opening.specs.Settings.{Setting}
 use Rattle.vk_opening.specs.Projects.{manifest_path, folders_of}
 use Rattle.vk_opening.specs.Roots.{Root, root_in, early_at}
 use Rattle.vk_opening.specs.Configurations.{config_in}
@@ -30,10 +31,10 @@ abbrev pub overlays_of : Project → Config → Files → Result (List Overlay) 
 overlays_of project config files = overlays_at (folders_of project.folder project.overlay_ports config.overlay_ports) files
 
 -- no default features are off: which are is known from the root's dependencies
-abbrev pub setting_with : Project → Manifest Tree → Triplets → Setting
-setting_with project root triplets = record { root = root; target = triplets.target; host = triplets.host; features = map feature_view project.features; defaults = project.defaults; off = []; max_facts = project.max_facts }
+abbrev pub setting_with : Project → Manifest Condition → Triplets → Setting
+setting_with project root triplets = record { root = root; target = meaning_of triplets.target; host = meaning_of triplets.host; features = map feature_view project.features; defaults = project.defaults; off = []; max_facts = project.max_facts }
 
-abbrev pub start_with : Project → Manifest Tree → Config → List Overlay → Start
+abbrev pub start_with : Project → Manifest Condition → Config → List Overlay → Start
 start_with project root config overlays = record { folder = project.folder; config = config; overlays = overlays; overrides = root.overrides }
 
 abbrev pub opening_with : Project → Root → Config → Triplets → List Overlay → Opening

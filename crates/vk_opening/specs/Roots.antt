@@ -5,7 +5,7 @@ use Rattle.vk_spec.specs.Reading.{◌>>=◌}
 use Rattle.vk_spec.specs.Paths.{Path}
 use Rattle.vk_spec.specs.Files.{Files}
 use Rattle.vk_spec.specs.Manifests.{Manifest}
-use Rattle.vk_expr.specs.Trees.{Tree}
+use Rattle.vk_spec.specs.Conditions.{Condition}
 use Rattle.vk_json.specs.Documents.{Fault, json_of}
 use Rattle.vk_json.specs.Words.{word_of}
 use Rattle.vk_manifest.specs.Manifests.{manifest_at, manifest_of}
@@ -30,7 +30,7 @@ early_at reading path files = or_early (file_at reading path files)
 
 -- a root manifest, and the document that it is read from, in which a configuration may stand
 pub record Root : Type 0 where
-  pub manifest : Manifest Tree
+  pub manifest : Manifest Condition
   pub document : Data
 
 unfoldable pub root_in : List ℕ → Result Root Fault
@@ -40,5 +40,5 @@ root_in bytes = do
   Ok (record { manifest = manifest; document = document })
 
 -- the manifest of a port
-abbrev pub port_in : List ℕ → Result (Manifest Tree) Fault
+abbrev pub port_in : List ℕ → Result (Manifest Condition) Fault
 port_in bytes = manifest_of bytes false

@@ -2,12 +2,12 @@
 use Rattle.std.specs.Prelude.{List}
 use Rattle.vk_spec.specs.Paths.{Path}
 use Rattle.vk_spec.specs.Manifests.{Manifest, Override}
-use Rattle.vk_expr.specs.Trees.{Tree}
+use Rattle.vk_spec.specs.Conditions.{Condition}
 use Rattle.vk_config.specs.Configs.{Config}
 
 -- a folder that stands before every registry: it is itself a port, with this manifest, or it holds ports
 pub data Overlay : Type 0 where
-  is_port : Path → Manifest Tree → Overlay
+  is_port : Path → Manifest Condition → Overlay
   has_ports : Path → Overlay
 
 -- the project's folder, its configuration, its overlays in order, and the overrides of its root manifest

@@ -1,15 +1,13 @@
 -- What contracts see of a start and of a setting: plain data.
 use Rattle.std.specs.Prelude.{map}
-use Rattle.vk_base.specs.FeatureViews.{feature_view}
-use Rattle.vk_base.specs.declared.instances.Instance.{Instance}
 use Rattle.vk_json.specs.DocumentView.{doc_data}
 use Rattle.vk_triplet.specs.TripletViews.{triplet_view}
 use Rattle.vk_model.specs.Views.{manifest_view, override_view}
+use Rattle.vk_model.specs.SettingViews.{setting_view}
 use Rattle.vk_config.specs.Views.{config_view}
 use Rattle.vk_files.specs.Kept.{Kept}
 use Rattle.vk_files.specs.Views.{kept_of}
 use Rattle.vk_opening.specs.Starts as plain
-use Rattle.vk_opening.specs.Settings as plain_setting
 use Rattle.vk_opening.specs.Roots as plain_root
 use Rattle.vk_opening.specs.TripletFiles as plain_triplets
 use Rattle.vk_opening.specs.Openings as plain_opening
@@ -26,12 +24,6 @@ overlay_view (overlay.Ports folder) = plain.has_ports folder
 
 abbrev pub start_view : Start → plain.Start
 start_view s = record { folder = s.folder; config = config_view s.config; overlays = map overlay_view s.overlays; overrides = map override_view s.overrides }
-
-abbrev pub instance_view : Instance → plain_setting.Instance
-instance_view i = record { port = i.port; triplet = i.triplet }
-
-abbrev pub setting_view : Setting → plain_setting.Setting
-setting_view s = record { root = manifest_view s.root; target = triplet_view s.target; host = triplet_view s.host; features = map feature_view s.features; defaults = s.defaults; off = map instance_view s.off; max_facts = s.max_facts }
 
 abbrev pub root_view : Root → plain_root.Root
 root_view r = record { manifest = manifest_view r.manifest; document = doc_data r.document }

@@ -1,6 +1,6 @@
 //! The root manifest, and the manifests of overlays.
 ghost use Rattle.vk_spec.specs.Manifests as manifests;
-ghost use Rattle.vk_expr.specs.Trees as trees;
+ghost use Rattle.vk_spec.specs.Conditions as conditions;
 ghost use Rattle.vk_model.specs.Views.{manifest_view};
 ghost use Rattle.vk_opening.specs.Roots as plain;
 ghost use Rattle.vk_opening.specs.Roots.{root_in, port_in};
@@ -47,7 +47,7 @@ pub struct PortFile;
 impl FileReader for PortFile {
     type Out = Manifest;
 
-    ghost Plain = { manifests.Manifest trees.Tree };
+    ghost Plain = { manifests.Manifest conditions.Condition };
 
     ghost plain = { manifest_view };
 

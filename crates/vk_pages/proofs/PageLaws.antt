@@ -13,7 +13,7 @@ use Rattle.vk_spec.specs.Pages.{Wrong, Given, overlay, override, baseline, Field
 use Rattle.vk_spec.proofs.ListLemmas.{contains_nothing, contains_cases}
 use Rattle.vk_spec.specs.Catalogues.{CanBeOfGiven, CanBeOfRow, HasOwnAlone, IsPage}
 use Rattle.vk_config.specs.Configs.{Source, filesystem, git, builtin, artifact}
-use Rattle.vk_expr.specs.Trees.{Tree}
+use Rattle.vk_spec.specs.Conditions.{Condition}
 use Rattle.vk_json.specs.Documents.{Fault}
 use Rattle.vk_json.specs.Words.{word_of}
 use Rattle.vk_json.specs.declared.faults.Why.TheVariants as why
@@ -87,12 +87,12 @@ always : {A : Type 0} (r : Result A Wrong) → IfOk r (λ x. Unit {0})
 always (Ok x) = tt
 always (Err e) = tt
 
-overlay_sound : (folder : Path) (m : Manifest Tree) → IsSound (overlay_home folder m)
+overlay_sound : (folder : Path) (m : Manifest Condition) → IsSound (overlay_home folder m)
 unfolding overlay_home
 overlay_sound folder m =
     sound_then (λ x. Unit {0}) (stated_version (manifest_path folder) m) (λ v. Ok (in_overlay folder v m)) (fault_wrong CanBeOfGiven (no_version (manifest_path folder)) m.version tt) (always (stated_version (manifest_path folder) m)) (λ v is. tt)
 
-named_sound : (port : List ℕ) (folder : Path) (m : Manifest Tree) → IsSound (named_home port folder m)
+named_sound : (port : List ℕ) (folder : Path) (m : Manifest Condition) → IsSound (named_home port folder m)
 unfolding named_home
 named_sound port folder m = sound_then (λ x. Unit {0}) (named (manifest_path folder) port m) (λ same. overlay_home folder m) (name_wrong (manifest_path folder) port _) (always (named (manifest_path folder) port m)) (λ x is. overlay_sound folder m)
 
@@ -162,7 +162,7 @@ home_sound start port files = by_sound (overlay_for start.overlays port files) s
 
 -- ---- pages
 
-version_row_wrong : (path : Path) (m : Manifest Tree) → IfErr (stated_version path m) CanBeOfRow
+version_row_wrong : (path : Path) (m : Manifest Condition) → IfErr (stated_version path m) CanBeOfRow
 version_row_wrong path m = fault_wrong CanBeOfRow (no_version path) m.version tt
 
 agrees_wrong : (path : Path) (v w : Version) → IfErr (version_agrees path v w) CanBeOfRow
@@ -173,7 +173,7 @@ agrees_wrong path v w =
     wrong_then CanBeOfRow (same_in path the.class (class_word v.class) (class_word w.class)) rest (same_wrong path the.class (class_word v.class) (class_word w.class))
     (λ one. wrong_then CanBeOfRow (same_in path the.text v.text w.text) last (same_wrong path the.text v.text w.text) (λ two. same_wrong path the.port (decimal v.port) (decimal w.port)))
 
-agreeing_wrong : (path : Path) (port : List ℕ) (v : Version) (m : Manifest Tree) → IfErr (agreeing path port v m) CanBeOfRow
+agreeing_wrong : (path : Path) (port : List ℕ) (v : Version) (m : Manifest Condition) → IfErr (agreeing path port v m) CanBeOfRow
 unfolding agreeing
 agreeing_wrong path port v m =
     let last = λ (w : Version). version_agrees path v w in
@@ -187,10 +187,10 @@ row_wrong port registry row files =
     wrong_then CanBeOfRow (manifest_file path files) (λ m. agreeing path port row.version m >>= λ same. Ok m) (file_row_wrong (file_at port_in path files))
     (λ m. wrong_then CanBeOfRow (agreeing path port row.version m) (λ same. Ok m) (agreeing_wrong path port row.version m) (λ same. tt))
 
-rows_wrong : (port : List ℕ) (registry : Path) (files : Files) (rows : List Row) (r : the.Row Tree) → Contains (map (page_row port registry files) rows) r → IfErr r.manifest CanBeOfRow
+rows_wrong : (port : List ℕ) (registry : Path) (files : Files) (rows : List Row) (r : the.Row Condition) → Contains (map (page_row port registry files) rows) r → IfErr r.manifest CanBeOfRow
 rows_wrong port registry files [] r at = absurd (contains_nothing r at)
 rows_wrong port registry files (row ∷ rows) r at = elim (contains_cases (page_row port registry files row) r (map (page_row port registry files) rows) at) [
-  | inl same ↦ subst (λ (x : the.Row Tree). IfErr x.manifest CanBeOfRow) same (row_wrong port registry row files)
+  | inl same ↦ subst (λ (x : the.Row Condition). IfErr x.manifest CanBeOfRow) same (row_wrong port registry row files)
   | inr later ↦ rows_wrong port registry files rows r later
 ]
 
@@ -198,14 +198,14 @@ asks_are : (port : List ℕ) (registry : Path) (files : Files) (rows : List Row)
 asks_are port registry files [] = refl
 asks_are port registry files (row ∷ rows) = ap (λ asks. ask_of row.version ∷ asks) (asks_are port registry files rows)
 
-set_alone : (rows : List (the.Row Tree)) (given : Given) → IsSet given → HasOwnAlone rows given
+set_alone : (rows : List (the.Row Condition)) (given : Given) → IsSet given → HasOwnAlone rows given
 set_alone rows (overlay v) is = absurd is
 set_alone rows (override a) is = tt
 set_alone rows (baseline a) is = tt
 
-own_row : (v : Version) (m : Manifest Tree) (r : the.Row Tree) → Contains (record { version = v; manifest = Ok m } ∷ []) r → IfErr r.manifest CanBeOfRow
+own_row : (v : Version) (m : Manifest Condition) (r : the.Row Condition) → Contains (record { version = v; manifest = Ok m } ∷ []) r → IfErr r.manifest CanBeOfRow
 own_row v m r at = elim (contains_cases _ r [] at) [
-  | inl same ↦ subst (λ (x : the.Row Tree). IfErr x.manifest CanBeOfRow) same tt
+  | inl same ↦ subst (λ (x : the.Row Condition). IfErr x.manifest CanBeOfRow) same tt
   | inr none ↦ absurd (contains_nothing r none)
 ]
 

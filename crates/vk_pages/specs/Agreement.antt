@@ -6,7 +6,7 @@ use Rattle.vk_spec.specs.Versions.{Class, dot, date, text, Version}
 use Rattle.vk_spec.specs.Manifests.{Manifest}
 use Rattle.vk_spec.specs.Pages as the
 use Rattle.vk_spec.specs.Pages.{Wrong, disagrees, Field}
-use Rattle.vk_expr.specs.Trees.{Tree}
+use Rattle.vk_spec.specs.Conditions.{Condition}
 use Rattle.vk_pages.specs.Wrongs.{stated_version}
 
 -- the printed word of a class
@@ -25,7 +25,7 @@ abbrev pub same_in : Path → Field → List ℕ → List ℕ → Result (Unit {
 same_in path field said found = if bytes_eq said found then Ok tt else Err (disagrees path field said found)
 
 -- the manifest is the port's
-abbrev pub named : Path → List ℕ → Manifest Tree → Result (Unit {0}) Wrong
+abbrev pub named : Path → List ℕ → Manifest Condition → Result (Unit {0}) Wrong
 named path port m = same_in path the.name port (name_text m.name)
 
 -- the first of class, text and port-version that differs is told
@@ -36,7 +36,7 @@ version_agrees path said found = do
   same_in path the.port (decimal said.port) (decimal found.port)
 
 -- the manifest is the port's, and then it is at the version
-unfoldable pub agreeing : Path → List ℕ → Version → Manifest Tree → Result (Unit {0}) Wrong
+unfoldable pub agreeing : Path → List ℕ → Version → Manifest Condition → Result (Unit {0}) Wrong
 agreeing path port version m = do
   same_name ← named path port m
   found ← stated_version path m

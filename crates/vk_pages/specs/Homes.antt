@@ -8,7 +8,7 @@ use Rattle.vk_spec.specs.Versions.{Version, Ask}
 use Rattle.vk_spec.specs.Manifests.{Manifest, Override}
 use Rattle.vk_spec.specs.Pages.{Wrong, no_registry, no_baseline, Given, override, baseline}
 use Rattle.vk_base.specs.Paths.{joined}
-use Rattle.vk_expr.specs.Trees.{Tree}
+use Rattle.vk_spec.specs.Conditions.{Condition}
 use Rattle.vk_config.specs.Configs.{Source, filesystem, git, builtin, artifact, Config}
 use Rattle.vk_config.specs.Closeness.{place_of}
 use Rattle.vk_registry.specs.Baselines.{Entry, ask_for, baseline_by}
@@ -22,7 +22,7 @@ use Rattle.vk_pages.specs.Agreement.{named}
 
 -- an overlay has the port, in this folder, at its one version; or a registry does: what is given, the registry's folder, and its table
 pub data Home : Type 0 where
-  in_overlay : Path → Version → Manifest Tree → Home
+  in_overlay : Path → Version → Manifest Condition → Home
   in_registry : Given → Path → List Row → Home
 
 -- ---- overlays
@@ -45,11 +45,11 @@ abbrev pub overlay_for : List Overlay → List ℕ → Files → Option Overlay
 overlay_for overlays port files = find (has_port port files) overlays
 
 -- the overlay's port, with the version of its manifest
-unfoldable pub overlay_home : Path → Manifest Tree → Result Home Wrong
+unfoldable pub overlay_home : Path → Manifest Condition → Result Home Wrong
 overlay_home folder m = stated_version (manifest_path folder) m >>= λ v. Ok (in_overlay folder v m)
 
 -- the same of a manifest that has to have the port's name
-unfoldable pub named_home : List ℕ → Path → Manifest Tree → Result Home Wrong
+unfoldable pub named_home : List ℕ → Path → Manifest Condition → Result Home Wrong
 named_home port folder m = named (manifest_path folder) port m >>= λ same. overlay_home folder m
 
 -- the port in its folder of an overlay

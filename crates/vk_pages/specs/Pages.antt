@@ -6,7 +6,7 @@ use Rattle.vk_spec.specs.Reading.{◌>>=◌}
 use Rattle.vk_spec.specs.Manifests.{Manifest}
 use Rattle.vk_spec.specs.Pages as plain
 use Rattle.vk_base.specs.Paths.{joined}
-use Rattle.vk_expr.specs.Trees.{Tree}
+use Rattle.vk_spec.specs.Conditions.{Condition}
 use Rattle.vk_registry.specs.Tables.{Row}
 use Rattle.vk_opening.specs.Projects.{manifest_path}
 use Rattle.vk_opening.specs.Starts.{Start}
@@ -19,21 +19,21 @@ abbrev pub row_folder : Path → Row → Path
 row_folder registry row = joined registry row.path
 
 -- the manifest of a row, which has to say what the table says
-unfoldable pub row_manifest : List ℕ → Path → Row → Files → Result (Manifest Tree) plain.Wrong
+unfoldable pub row_manifest : List ℕ → Path → Row → Files → Result (Manifest Condition) plain.Wrong
 row_manifest port registry row files = do
   m ← manifest_file (manifest_path (row_folder registry row)) files
   same ← agreeing (manifest_path (row_folder registry row)) port row.version m
   Ok m
 
-abbrev pub page_row : List ℕ → Path → Files → Row → plain.Row Tree
+abbrev pub page_row : List ℕ → Path → Files → Row → plain.Row Condition
 page_row port registry files row = record { version = row.version; manifest = row_manifest port registry row files }
 
 -- an overlay has its own version alone; a registry has those of the table
-abbrev pub page_at : List ℕ → Files → Result Home plain.Wrong → plain.Page Tree
+abbrev pub page_at : List ℕ → Files → Result Home plain.Wrong → plain.Page Condition
 page_at port files (Err wrong) = record { given = Err wrong; rows = [] }
 page_at port files (Ok (in_overlay folder v m)) = record { given = Ok (plain.overlay v); rows = record { version = v; manifest = Ok m } ∷ [] }
 page_at port files (Ok (in_registry given registry rows)) = record { given = Ok given; rows = map (page_row port registry files) rows }
 
 -- the page of a port
-abbrev pub page_of : Start → Files → List ℕ → plain.Page Tree
+abbrev pub page_of : Start → Files → List ℕ → plain.Page Condition
 page_of start files port = page_at port files (home_of start port files)

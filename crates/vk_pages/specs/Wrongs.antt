@@ -6,7 +6,7 @@ use Rattle.vk_spec.specs.Reading.{or_fault}
 use Rattle.vk_spec.specs.Versions.{Version}
 use Rattle.vk_spec.specs.Manifests.{Manifest}
 use Rattle.vk_spec.specs.Pages.{Wrong, bad_file}
-use Rattle.vk_expr.specs.Trees.{Tree}
+use Rattle.vk_spec.specs.Conditions.{Condition}
 use Rattle.vk_json.specs.Documents.{Fault}
 use Rattle.vk_json.specs.Words.{word_of}
 use Rattle.vk_json.specs.declared.faults.Why.TheVariants as why
@@ -26,9 +26,9 @@ abbrev pub file_or_wrong : {A : Type 0} → (List ℕ → Result A Fault) → Pa
 file_or_wrong reading path files = or_wrong (file_at reading path files)
 
 -- a port's manifest
-abbrev pub manifest_file : Path → Files → Result (Manifest Tree) Wrong
+abbrev pub manifest_file : Path → Files → Result (Manifest Condition) Wrong
 manifest_file path files = file_or_wrong port_in path files
 
 -- the version of a port's manifest; every port's has one
-abbrev pub stated_version : Path → Manifest Tree → Result Version Wrong
+abbrev pub stated_version : Path → Manifest Condition → Result Version Wrong
 stated_version path m = or_fault (bad_file path [] (word_of why.NoVersion)) m.version

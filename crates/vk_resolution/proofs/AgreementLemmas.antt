@@ -6,12 +6,14 @@ use Rattle.std.proofs.lemmas.Slice.Eq.{bytes_eq-Decides}
 use Rattle.std.proofs.lemmas.List.Elements.{Contains-append_left, Contains-append_cases}
 use Rattle.vk_spec.specs.Versions.{Ask, same_ask, ask_of}
 use Rattle.vk_spec.specs.Manifests.{Manifest, Dependency, core, default}
-use Rattle.vk_spec.specs.Pages.{Wrong, Given, overlay, override, baseline, Row, row_in}
+use Rattle.vk_spec.specs.Pages.{Wrong, Given, overlay, override, baseline, Row, row_in, is_pinned_by}
 use Rattle.vk_spec.proofs.ListLemmas.{contains_nothing, contains_first, contains_later, contains_cases, contains-flat_map, flat_map-contains}
+use Rattle.vk_spec.specs.Settings.{Setting, Instance}
+use Rattle.vk_spec.specs.Conditions.{Condition}
 use Rattle.vk_resolution.specs.Keys.{Key, IsKey}
 use Rattle.vk_resolution.specs.Least.{Rules, FollowsFrom, from_one, from_two, IsLeast, IsReached, HasRank, IsByRank, IsLeastInOrder}
-use Rattle.vk_resolution.specs.Settings.{Setting, Condition, Instance, Who, root, inst, Marks, marks_of, triplet_of, instance_of, is_own, is_off, applicable_of, names_of, defaults_of, first_features_of}
-use Rattle.vk_resolution.specs.Givens.{Pages, manifest_at, is_pinned, is_pinned_by}
+use Rattle.vk_resolution.specs.Settings.{Who, root, inst, Marks, marks_of, triplet_of, instance_of, is_own, is_off, applicable_of, names_of, defaults_of, first_features_of}
+use Rattle.vk_resolution.specs.Givens.{Pages, manifest_at, is_pinned}
 use Rattle.vk_resolution.specs.Asking.{Fact, need, floor, visit, fact_key, floor_of, asked_of_other, asked_of_own, asked_by, asked_of, root_facts_of}
 use Rattle.vk_resolution.specs.Consequences.{Inputs, Step, given_step, asked_step, asked_in, asked_at, steps_from, visits_from, is_visited, is_visited_by, is_not_below, is_below, rules_of, by_one, by_minimum}
 use Rattle.vk_resolution.proofs.Members.{contains_single, contains_map}
@@ -266,7 +268,7 @@ module _ (inputs : Inputs) (pages : Pages) (facts : List Fact) (least : IsLeast 
   given_same p n = subst (λ q. (pages q).given ≡ (inputs.pages q).given) n.is_port (agree.givens n.i n.f n.has)
 
   pub pinned_same : (p : List ℕ) → IsNeeded facts p → is_pinned inputs.setting pages p ≡ is_pinned inputs.setting inputs.pages p
-  pinned_same p n = ap (is_pinned_by inputs.setting p) (given_same p n)
+  pinned_same p n = ap (is_pinned_by inputs.setting.root.overrides p) (given_same p n)
 
   asked_same : (y x : Fact) → ((p : List ℕ) (a : Ask) → x ≡ floor p a → IsNeeded facts p) → asked_step (with_pages inputs pages) y x ≡ asked_step inputs y x
   asked_same y (need who f) needed = refl

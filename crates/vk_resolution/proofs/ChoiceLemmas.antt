@@ -4,21 +4,23 @@ use Rattle.std.specs.Prelude.{Option, Some, None, option_map, option_and_then, o
 use Rattle.std.specs.List.{Contains, list_any, list_all}
 use Rattle.std.proofs.lemmas.Slice.Eq.{bytes_eq-Decides}
 use Rattle.std.proofs.lemmas.List.{append-nil}
-use Rattle.vk_spec.specs.Versions.{Class, dot, date, text, Version, Ask, same_ask, ask_of, same_version}
-use Rattle.vk_spec.specs.Pages.{Wrong, Given, overlay, override, baseline, Row, row_in, given_ask}
+use Rattle.vk_spec.specs.Versions.{Class, dot, date, text, Version, Ask, same_ask, ask_of, same_version, IsOrder}
+use Rattle.vk_spec.specs.Pages.{Wrong, Given, overlay, override, baseline, Row, row_in, given_ask, is_pinned_by}
 use Rattle.vk_spec.proofs.ListLemmas.{contains_nothing, contains_first, contains_later, contains_cases, flat_map-contains}
 use Rattle.vk_spec.proofs.VersionLemmas.{asks_equal, ask_itself, version_decides}
 use Rattle.std.specs.declared.cmp.Ordering.TheVariants.{Less}
+use Rattle.vk_spec.specs.Conditions.{Condition}
+use Rattle.vk_spec.specs.Settings.{Instance}
 use Rattle.vk_resolution.specs.Keys.{IsKey, in_order, Ascends, key_cmp}
 use Rattle.vk_resolution.specs.Least.{from_one, IsClosed}
-use Rattle.vk_resolution.specs.Settings.{Condition, Instance, inst}
-use Rattle.vk_resolution.specs.Givens.{Pages, version_at, is_pinned, is_pinned_by}
+use Rattle.vk_resolution.specs.Settings.{inst}
+use Rattle.vk_resolution.specs.Givens.{Pages, version_at, is_pinned}
 use Rattle.vk_resolution.specs.Asking.{Fact, need, floor, visit}
 use Rattle.vk_resolution.specs.Consequences.{Inputs, Step, given_step, steps_from, rules_of, is_below, by_overlay, by_override, by_baseline}
 use Rattle.vk_resolution.specs.Choices.{floor_in, floors_of, given_version_of, greatest_of, chosen_of, class_number, version_key, is_top, tops_of}
 use Rattle.vk_resolution.specs.Reasons.{first_line, line_of}
 use Rattle.vk_resolution.specs.Faults.{Trouble, lacks_version, troubled, conflicts, trouble_key, same_trouble, given_troubles, floor_troubles, troubles_of, told_of, first_faults_of, conflict_of, conflicts_of, ports_in, wrong_of}
-use Rattle.vk_resolution.specs.Laws.{IsOrder, ChoiceIsLeast, ChoiceIsAboveFloors, TableHasFloors, HasConflictLine, ChoiceOrConflict}
+use Rattle.vk_resolution.specs.Laws.{ChoiceIsLeast, ChoiceIsAboveFloors, TableHasFloors, HasConflictLine, ChoiceOrConflict}
 use Rattle.vk_resolution.proofs.Members.{true_or_false, both_true, and_true, not_true, not_false, no_is_false, true_false, any_contains, contains_any, all_contains, not_all, found_contains, nothing_found, contains-filter_map, filter_map-contains, contains_filter, filter_contains, contains_option, map_contains, contains_single}
 use Rattle.vk_resolution.proofs.Orders.{contains-in_order, in_order-contains, in_order-ascends, before_itself}
 use Rattle.vk_resolution.proofs.FactLemmas.{trouble_key-IsKey, same_trouble-Decides}
@@ -141,7 +143,7 @@ table_has_floors inputs facts least none i f h =
     }
   where
     pinned_overlay : (inputs : Inputs) (p : List ℕ) (v : Version) → (inputs.pages p).given ≡ Ok (overlay v) → is_pinned inputs.setting inputs.pages p ≡ true
-    pinned_overlay inputs p v e = ap (is_pinned_by inputs.setting p) e
+    pinned_overlay inputs p v e = ap (is_pinned_by inputs.setting.root.overrides p) e
 
 class_number-is : (c d : Class) → class_number c ≡ class_number d → c ≡ d
 class_number-is dot dot e = refl

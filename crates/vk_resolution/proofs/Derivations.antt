@@ -9,9 +9,10 @@ use Rattle.std.proofs.lemmas.List.Elements.{Contains-append_right, Contains-appe
 use Rattle.vk_spec.specs.Versions.{Ask}
 use Rattle.vk_spec.specs.Pages.{Wrong, Given, overlay, override, baseline}
 use Rattle.vk_spec.proofs.ListLemmas.{contains_nothing, contains_first, contains_later, contains_cases, contains-flat_map}
+use Rattle.vk_spec.specs.Settings.{Instance}
 use Rattle.vk_resolution.specs.Keys.{Key, IsKey}
 use Rattle.vk_resolution.specs.Least.{Rules, FollowsFrom, from_one, from_two, IsReached, HasRank, IsDerived, IsByRank, IsLeastInOrder}
-use Rattle.vk_resolution.specs.Settings.{Instance, root, inst}
+use Rattle.vk_resolution.specs.Settings.{root, inst}
 use Rattle.vk_resolution.specs.Givens.{is_pinned}
 use Rattle.vk_resolution.specs.Asking.{Fact, need, floor, visit, fact_key, same_fact, asked_of, root_facts_of}
 use Rattle.vk_resolution.specs.Consequences.{Inputs, Step, given_step, asked_step, asked_at, steps_from, visits_from, is_visited, rules_of, FollowsBy, Cause, by_root, by_baseline, by_override, by_overlay, by_minimum, by_one, by_two}

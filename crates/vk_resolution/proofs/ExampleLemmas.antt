@@ -5,8 +5,7 @@ use Rattle.std.specs.Cmp.{nat_cmp_total, tied_itself}
 use Rattle.std.specs.Cmp.Lexicographic.{slice_cmp, lists_total}
 use Rattle.std.proofs.lemmas.Bool.Decides.{nat_tests}
 use Rattle.std.proofs.lemmas.Slice.Eq.{bytes_eq-Decides}
-use Rattle.vk_spec.specs.Versions.{Class, dot, date, text, Version}
-use Rattle.vk_resolution.specs.Laws.{IsOrder}
+use Rattle.vk_spec.specs.Versions.{Class, dot, date, text, Version, IsOrder}
 use Rattle.vk_resolution.specs.Examples.{numbers, at_most_dots, at_most_texts, at_most_by, at_most}
 use Rattle.vk_resolution.proofs.Members.{or_true, or_left, or_right, both_true, and_true}
 

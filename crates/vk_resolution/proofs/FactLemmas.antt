@@ -3,8 +3,9 @@ use Rattle.std.proofs.Common.{◌≡◌, refl, ap}
 use Rattle.std.specs.Prelude.{Decides, bytes_eq}
 use Rattle.std.proofs.lemmas.Slice.Eq.{bytes_eq-Decides}
 use Rattle.vk_spec.specs.Pages.{Field, name, class, text, port}
+use Rattle.vk_spec.specs.Settings.{Instance}
 use Rattle.vk_resolution.specs.Keys.{IsKey}
-use Rattle.vk_resolution.specs.Settings.{Instance, root, inst, same_instance}
+use Rattle.vk_resolution.specs.Settings.{root, inst, same_instance}
 use Rattle.vk_resolution.specs.Asking.{Fact, need, floor, visit, fact_key, same_fact}
 use Rattle.vk_resolution.specs.Planning.{instance_key, feature_key}
 use Rattle.vk_resolution.specs.Faults.{Trouble, lacks_registry, lacks_baseline, unreadable, lacks_version, differs, trouble_key, same_trouble, field_number}

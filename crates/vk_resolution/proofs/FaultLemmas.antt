@@ -1,4 +1,5 @@
 -- What the fault lines mean.
+use Rattle.vk_spec.specs.Conditions.{holds, Condition}
 use Rattle.std.proofs.Common.{◌≡◌, ◌≢◌, ◌≤◌, ◌<◌, ℕ, zero, suc, Bool, true, false, cond, List, [], ◌∷◌, filter, refl, ap, sym, ◌∙◌, subst, arith}
 use Rattle.std.specs.Prelude.{Option, Some, None, option_map, option_and_then, option_to_list, flat_map, Result, Ok, Err, bytes_eq}
 use Rattle.std.specs.List.{Contains, list_any}
@@ -7,8 +8,9 @@ use Rattle.vk_spec.specs.Versions.{Version, ask_of}
 use Rattle.vk_spec.specs.Manifests.{Manifest, Feature, core, default}
 use Rattle.vk_spec.specs.Pages.{Wrong}
 use Rattle.vk_spec.proofs.ListLemmas.{contains_nothing, contains_first, contains_later, contains-flat_map, flat_map-contains}
+use Rattle.vk_spec.specs.Settings.{Instance}
 use Rattle.vk_resolution.specs.Keys.{in_order}
-use Rattle.vk_resolution.specs.Settings.{Condition, Instance, Who, root, inst, marks_of, triplet_of, feature_of}
+use Rattle.vk_resolution.specs.Settings.{Who, root, inst, marks_of, triplet_of, feature_of}
 use Rattle.vk_resolution.specs.Givens.{manifest_at, is_pinned}
 use Rattle.vk_resolution.specs.Asking.{Fact, need, floor, visit}
 use Rattle.vk_resolution.specs.Consequences.{Inputs}
@@ -148,21 +150,21 @@ is_apart : (f g : List ℕ) → f ≢ g → bytes_eq f g ≡ false
 is_apart f g other = no_is_false (bytes_eq f g) (λ e. other ((bytes_eq-Decides f g).0 e))
 
 module _ (inputs : Inputs) (who : Who) (f : List ℕ) (v : Option Version) (m : Manifest Condition) (n : ℕ) where
-  support_wrong : (b : Bool) → m.supports (marks_of inputs.setting (triplet_of who)) ≡ b → f ≡ core → (fault : Fault) → Contains (cond b [] (isnt_supported who f v n ∷ [])) fault → IsWrongWith inputs who f v m n fault
+  support_wrong : (b : Bool) → holds m.supports (marks_of inputs.setting (triplet_of who)) ≡ b → f ≡ core → (fault : Fault) → Contains (cond b [] (isnt_supported who f v n ∷ [])) fault → IsWrongWith inputs who f v m n fault
   support_wrong true e is fault h = absurd (contains_nothing fault h)
   support_wrong false e is fault h = subst (IsWrongWith inputs who f v m n) (contains_single (isnt_supported who f v n) fault h) (no_support is e)
 
-  feature_support : (g : Feature Condition) → f ≢ core → f ≢ default → feature_of m f ≡ Some g → (b : Bool) → g.supports (marks_of inputs.setting (triplet_of who)) ≡ b → (fault : Fault) → Contains (cond b [] (isnt_supported who f v n ∷ [])) fault → IsWrongWith inputs who f v m n fault
+  feature_support : (g : Feature Condition) → f ≢ core → f ≢ default → feature_of m f ≡ Some g → (b : Bool) → holds g.supports (marks_of inputs.setting (triplet_of who)) ≡ b → (fault : Fault) → Contains (cond b [] (isnt_supported who f v n ∷ [])) fault → IsWrongWith inputs who f v m n fault
   feature_support g not_core not_default found true e fault h = absurd (contains_nothing fault h)
   feature_support g not_core not_default found false e fault h = subst (IsWrongWith inputs who f v m n) (contains_single (isnt_supported who f v n) fault h) (no_feature_support g not_core not_default found e)
 
   feature_wrong : f ≢ core → f ≢ default → (o : Option (Feature Condition)) → feature_of m f ≡ o → (fault : Fault) → Contains (feature_faults who f v (marks_of inputs.setting (triplet_of who)) o n) fault → IsWrongWith inputs who f v m n fault
   feature_wrong not_core not_default None e fault h = subst (IsWrongWith inputs who f v m n) (contains_single (lacks_feature who f v n) fault h) (no_such_feature not_core not_default e)
-  feature_wrong not_core not_default (Some g) e fault h = feature_support g not_core not_default e (g.supports (marks_of inputs.setting (triplet_of who))) refl fault h
+  feature_wrong not_core not_default (Some g) e fault h = feature_support g not_core not_default e (holds g.supports (marks_of inputs.setting (triplet_of who))) refl fault h
 
   wrong_case : (b c : Bool) → bytes_eq f core ≡ b → bytes_eq f default ≡ c → (fault : Fault)
-      → Contains (cond b (cond (m.supports (marks_of inputs.setting (triplet_of who))) [] (isnt_supported who f v n ∷ [])) (cond c [] (feature_faults who f v (marks_of inputs.setting (triplet_of who)) (feature_of m f) n))) fault → IsWrongWith inputs who f v m n fault
-  wrong_case true c e k fault h = support_wrong (m.supports (marks_of inputs.setting (triplet_of who))) refl ((bytes_eq-Decides f core).0 e) fault h
+      → Contains (cond b (cond (holds m.supports (marks_of inputs.setting (triplet_of who))) [] (isnt_supported who f v n ∷ [])) (cond c [] (feature_faults who f v (marks_of inputs.setting (triplet_of who)) (feature_of m f) n))) fault → IsWrongWith inputs who f v m n fault
+  wrong_case true c e k fault h = support_wrong (holds m.supports (marks_of inputs.setting (triplet_of who))) refl ((bytes_eq-Decides f core).0 e) fault h
   wrong_case false true e k fault h = absurd (contains_nothing fault h)
   wrong_case false false e k fault h = feature_wrong (apart f core e) (apart f default k) (feature_of m f) refl fault h
 
@@ -171,14 +173,14 @@ module _ (inputs : Inputs) (who : Who) (f : List ℕ) (v : Option Version) (m : 
 
   wrong_judged : (fault : Fault) → IsWrongWith inputs who f v m n fault → Contains (judged inputs.setting who f v m n) fault
   wrong_judged _ (no_such_feature not_core not_default none) =
-      subst (λ b. Contains (cond b (cond (m.supports (marks_of inputs.setting (triplet_of who))) [] (isnt_supported who f v n ∷ [])) (cond (bytes_eq f default) [] (feature_faults who f v (marks_of inputs.setting (triplet_of who)) (feature_of m f) n))) (lacks_feature who f v n)) (sym (is_apart f core not_core))
+      subst (λ b. Contains (cond b (cond (holds m.supports (marks_of inputs.setting (triplet_of who))) [] (isnt_supported who f v n ∷ [])) (cond (bytes_eq f default) [] (feature_faults who f v (marks_of inputs.setting (triplet_of who)) (feature_of m f) n))) (lacks_feature who f v n)) (sym (is_apart f core not_core))
       (subst (λ b. Contains (cond b [] (feature_faults who f v (marks_of inputs.setting (triplet_of who)) (feature_of m f) n)) (lacks_feature who f v n)) (sym (is_apart f default not_default))
       (subst (λ o. Contains (feature_faults who f v (marks_of inputs.setting (triplet_of who)) o n) (lacks_feature who f v n)) (sym none) (contains_first (lacks_feature who f v n) [])))
   wrong_judged _ (no_support is none) =
-      subst (λ b. Contains (cond b (cond (m.supports (marks_of inputs.setting (triplet_of who))) [] (isnt_supported who f v n ∷ [])) (cond (bytes_eq f default) [] (feature_faults who f v (marks_of inputs.setting (triplet_of who)) (feature_of m f) n))) (isnt_supported who f v n)) (sym ((bytes_eq-Decides f core).1 is))
+      subst (λ b. Contains (cond b (cond (holds m.supports (marks_of inputs.setting (triplet_of who))) [] (isnt_supported who f v n ∷ [])) (cond (bytes_eq f default) [] (feature_faults who f v (marks_of inputs.setting (triplet_of who)) (feature_of m f) n))) (isnt_supported who f v n)) (sym ((bytes_eq-Decides f core).1 is))
       (subst (λ b. Contains (cond b [] (isnt_supported who f v n ∷ [])) (isnt_supported who f v n)) (sym none) (contains_first (isnt_supported who f v n) []))
   wrong_judged _ (no_feature_support g not_core not_default found none) =
-      subst (λ b. Contains (cond b (cond (m.supports (marks_of inputs.setting (triplet_of who))) [] (isnt_supported who f v n ∷ [])) (cond (bytes_eq f default) [] (feature_faults who f v (marks_of inputs.setting (triplet_of who)) (feature_of m f) n))) (isnt_supported who f v n)) (sym (is_apart f core not_core))
+      subst (λ b. Contains (cond b (cond (holds m.supports (marks_of inputs.setting (triplet_of who))) [] (isnt_supported who f v n ∷ [])) (cond (bytes_eq f default) [] (feature_faults who f v (marks_of inputs.setting (triplet_of who)) (feature_of m f) n))) (isnt_supported who f v n)) (sym (is_apart f core not_core))
       (subst (λ b. Contains (cond b [] (feature_faults who f v (marks_of inputs.setting (triplet_of who)) (feature_of m f) n)) (isnt_supported who f v n)) (sym (is_apart f default not_default))
       (subst (λ o. Contains (feature_faults who f v (marks_of inputs.setting (triplet_of who)) o n) (isnt_supported who f v n)) (sym found)
       (subst (λ b. Contains (cond b [] (isnt_supported who f v n ∷ [])) (isnt_supported who f v n)) (sym none) (contains_first (isnt_supported who f v n) []))))

@@ -4,9 +4,11 @@ use Rattle.std.specs.Prelude.{Some}
 use Rattle.std.specs.List.{Contains, list_all}
 use Rattle.vk_spec.specs.Manifests.{Dependency}
 use Rattle.vk_spec.proofs.ListLemmas.{contains-flat_map, flat_map-contains}
+use Rattle.vk_spec.specs.Conditions.{Condition}
+use Rattle.vk_spec.specs.Settings.{Setting, Instance}
 use Rattle.vk_resolution.specs.Keys.{IsKey}
 use Rattle.vk_resolution.specs.Least.{IsLeast}
-use Rattle.vk_resolution.specs.Settings.{Condition, Setting, Instance, root, same_instance, root_rules_of, applicable_of, instance_of, is_own, IsNamedByRoot, IsOff, ListsOff}
+use Rattle.vk_resolution.specs.Settings.{root, same_instance, root_rules_of, applicable_of, instance_of, is_own, IsNamedByRoot, IsOff, ListsOff}
 use Rattle.vk_resolution.specs.Computed.{named_by, off_by, name_key, off_list_by, if_closed, round}
 use Rattle.vk_resolution.proofs.Members.{both_true, and_true, not_true, not_false, no_is_false, true_false, contains_filter, filter_contains, contains_map, map_contains, all_contains, contains_all}
 use Rattle.vk_resolution.proofs.LeastLemmas.{reached_within}

@@ -5,13 +5,15 @@ use Rattle.std.specs.List.{Contains, list_any, find}
 use Rattle.std.specs.Option.{option_or}
 use Rattle.std.proofs.lemmas.Slice.Eq.{bytes_eq-Decides}
 use Rattle.vk_spec.specs.Lists.{IsWithin}
-use Rattle.vk_spec.specs.Versions.{Version, Ask, same_ask, ask_of}
+use Rattle.vk_spec.specs.Versions.{Version, Ask, same_ask, ask_of, IsOrder}
 use Rattle.vk_spec.specs.Pages.{Wrong, Given, overlay, override, baseline, Row, Page, row_in}
 use Rattle.vk_spec.proofs.ListLemmas.{contains_nothing, contains_first, contains_later, contains-flat_map}
 use Rattle.vk_spec.proofs.VersionLemmas.{asks_equal}
+use Rattle.vk_spec.specs.Conditions.{Condition}
+use Rattle.vk_spec.specs.Settings.{Instance}
 use Rattle.vk_resolution.specs.Keys.{in_order}
 use Rattle.vk_resolution.specs.Least.{Rules, IsClosed, IsLeast, IsLeastInOrder}
-use Rattle.vk_resolution.specs.Settings.{Condition, Instance, root, inst, same_instance}
+use Rattle.vk_resolution.specs.Settings.{root, inst, same_instance}
 use Rattle.vk_resolution.specs.Givens.{Pages, version_at, is_pinned}
 use Rattle.vk_resolution.specs.Asking.{Fact, need, floor, visit, fact_key, root_facts_of, same_fact}
 use Rattle.vk_resolution.specs.Consequences.{Inputs, Step, by_root, steps_from, rules_of}
@@ -20,7 +22,6 @@ use Rattle.vk_resolution.specs.Reasons.{Reason, facts_of, first_line, line_of, f
 use Rattle.vk_resolution.specs.Planning.{is_need, visit_of, planned_from, planned_rules_of, IsPlanned, instance_key, needed_in, instances_of, targets_in, targets_at, targets_of, HasHeight, places_from, Item, IsByHeight, order_of, IsPlan, IsCycle}
 use Rattle.vk_resolution.specs.Faults.{Trouble, Fault, has_cycle, trouble_key, same_trouble, given_troubles, manifest_troubles, floor_troubles, troubles_of, told_of, first_faults_of, conflict_of, conflicts_of, ports_in, second_faults_of, judged, judged_at, judged_chosen, judged_need, third_faults_of}
 use Rattle.vk_resolution.specs.Outcomes.{Printing, lines_of, IsRefusal, by_first, by_second, by_third, by_fourth, IsAgreed, Outcome, planned, refused, IsOutcome}
-use Rattle.vk_resolution.specs.Laws.{IsOrder}
 use Rattle.vk_resolution.specs.Agreement.{with_pages, AgreesOn, reasons_in, SameOutcome, published, UnaskedChangesNothing}
 use Rattle.vk_resolution.proofs.Members.{no_is_false, contains_single, map_contains}
 use Rattle.vk_resolution.proofs.Orders.{contains-in_order}

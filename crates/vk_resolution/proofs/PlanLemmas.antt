@@ -3,19 +3,21 @@ use Rattle.std.proofs.Common.{◌≡◌, ℕ, true, false, cond, ◌&&◌, not, 
 use Rattle.std.specs.Prelude.{Option, Some, None, option_map, flat_map, is_some, Result, Ok, bytes_eq}
 use Rattle.std.specs.List.{Contains}
 use Rattle.std.proofs.lemmas.Slice.Eq.{bytes_eq-Decides}
-use Rattle.vk_spec.specs.Versions.{Version, Ask, same_ask, ask_of, same_version}
-use Rattle.vk_spec.specs.Pages.{Wrong, Given, overlay, override, baseline, Row, row_in}
+use Rattle.vk_spec.specs.Versions.{Version, Ask, same_ask, ask_of, same_version, IsOrder}
+use Rattle.vk_spec.specs.Pages.{Wrong, Given, overlay, override, baseline, Row, row_in, is_pinned_by}
 use Rattle.vk_spec.proofs.ListLemmas.{contains_nothing, contains_first, flat_map-contains}
 use Rattle.vk_spec.proofs.VersionLemmas.{ask_itself, version_decides}
+use Rattle.vk_spec.specs.Conditions.{Condition}
+use Rattle.vk_spec.specs.Settings.{Instance}
 use Rattle.vk_resolution.specs.Least.{FollowsFrom, from_one, from_two, IsClosed}
-use Rattle.vk_resolution.specs.Settings.{Condition, Instance, root, inst}
-use Rattle.vk_resolution.specs.Givens.{version_at, is_pinned, is_pinned_by}
+use Rattle.vk_resolution.specs.Settings.{root, inst}
+use Rattle.vk_resolution.specs.Givens.{version_at, is_pinned}
 use Rattle.vk_resolution.specs.Asking.{Fact, need, floor, visit, fact_key, asked_of}
 use Rattle.vk_resolution.specs.Consequences.{Inputs, asked_step, asked_at, steps_from, is_visited, is_visited_by, is_not_below, rules_of, by_one}
 use Rattle.vk_resolution.specs.Choices.{floors_of, given_version_of, greatest_of, chosen_of}
 use Rattle.vk_resolution.specs.Planning.{is_need, visit_of, planned_from, planned_rules_of}
 use Rattle.vk_resolution.specs.Faults.{first_faults_of}
-use Rattle.vk_resolution.specs.Laws.{IsOrder, PlanExists, PlanStaysWithin}
+use Rattle.vk_resolution.specs.Laws.{PlanExists, PlanStaysWithin}
 use Rattle.vk_resolution.proofs.Members.{both_true, and_true, not_true, not_false, no_is_false, true_false, contains_filter, contains_single}
 use Rattle.vk_resolution.proofs.FactLemmas.{fact_key-IsKey}
 use Rattle.vk_resolution.proofs.Rounds.{least_exists}
@@ -39,9 +41,9 @@ pub record IsVisitedFloor (inputs : Inputs) (facts : List Fact) (p : List ℕ) (
   pub visited : is_visited inputs p (ask_of v) ≡ true
 
 module _ (inputs : Inputs) (order : IsOrder inputs.at_most) (facts : List Fact) (closed : IsClosed (rules_of inputs) facts) (none : first_faults_of inputs facts ≡ []) (i : Instance) (f : List ℕ) (needed : Contains facts (need (inst i) f)) where
-  pinned_choice : (given : Result Given Wrong) (v : Version) → (inputs.pages i.port).given ≡ given → is_pinned_by inputs.setting i.port given ≡ true → chosen_of inputs facts i.port ≡ Some v → given_version_of inputs.pages i.port given ≡ Some v
+  pinned_choice : (given : Result Given Wrong) (v : Version) → (inputs.pages i.port).given ≡ given → is_pinned_by inputs.setting.root.overrides i.port given ≡ true → chosen_of inputs facts i.port ≡ Some v → given_version_of inputs.pages i.port given ≡ Some v
   pinned_choice given v e pinned chosen =
-      let is : is_pinned inputs.setting inputs.pages i.port ≡ true = ap (is_pinned_by inputs.setting i.port) e ∙ pinned in
+      let is : is_pinned inputs.setting inputs.pages i.port ≡ true = ap (is_pinned_by inputs.setting.root.overrides i.port) e ∙ pinned in
       ap (given_version_of inputs.pages i.port) (sym e) ∙ sym (ap (λ b. cond b (given_version_of inputs.pages i.port (inputs.pages i.port).given) (greatest_of inputs (floors_of inputs facts i.port))) is) ∙ chosen
 
   above_given : (b : Ask) (v : Version) (given found : Option (Row Condition)) → option_map (λ r. r.version) found ≡ Some v → ((w : Version) → option_map (λ r. r.version) given ≡ Some w → inputs.at_most w v ≡ true) → ((w : Version) × (option_map (λ r. r.version) given ≡ Some w))
@@ -77,7 +79,7 @@ module _ (inputs : Inputs) (order : IsOrder inputs.at_most) (facts : List Fact) 
         visited = visited_as (Ok (override b)) (ask_of v) e (subst (λ k. (same_ask k b && is_some (row_in (inputs.pages i.port).rows k)) ≡ true) (sym same) (and_true (same_ask b b) (is_some (row_in (inputs.pages i.port).rows b)) (ask_itself b) (ap is_some row.1)));
       }
   choice_visited (baseline b) v e chosen =
-      let free : is_pinned inputs.setting inputs.pages i.port ≡ false = ap (is_pinned_by inputs.setting i.port) e in
+      let free : is_pinned inputs.setting inputs.pages i.port ≡ false = ap (is_pinned_by inputs.setting.root.overrides i.port) e in
       let choice = free_choice inputs facts i.port v free chosen in
       let is = floors_are inputs facts i.port v choice.0 in
       let same : ask_of v ≡ is.ask = version_ask inputs.pages i.port is.ask v is.version in

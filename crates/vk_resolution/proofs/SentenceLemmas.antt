@@ -1,4 +1,5 @@
 -- The listed rules mean the sentences.
+use Rattle.vk_spec.specs.Conditions.{holds, Condition}
 use Rattle.std.proofs.Common.{◌≡◌, ◌≢◌, ◌⊎◌, ℕ, Bool, true, false, cond, not, List, [], ◌∷◌, ◌++◌, map, filter, inl, inr, refl, ap, sym, ◌∙◌, subst}
 use Rattle.std.specs.Prelude.{Option, Some, None, flat_map, is_some, Result, Ok, Err, bytes_eq}
 use Rattle.std.specs.List.{Contains}
@@ -9,8 +10,9 @@ use Rattle.vk_spec.specs.Manifests.{Manifest, Dependency, FeatureUse, Feature, c
 use Rattle.vk_spec.specs.Pages.{Wrong, Given, overlay, override, baseline, Row, row_in}
 use Rattle.vk_spec.proofs.ListLemmas.{contains_nothing, contains_first, contains_later, contains_cases, contains-flat_map, flat_map-contains}
 use Rattle.vk_spec.proofs.VersionLemmas.{asks_equal, ask_itself, version_decides}
+use Rattle.vk_spec.specs.Settings.{Setting, Instance}
 use Rattle.vk_resolution.specs.Least.{FollowsFrom, from_one, from_two}
-use Rattle.vk_resolution.specs.Settings.{Setting, Condition, Marks, Instance, Who, root, inst, marks_of, triplet_of, same_instance, instance_of, is_root, is_own, feature_of, dependencies_in, dependencies_of, applicable_of, names_of, defaults_of, is_off}
+use Rattle.vk_resolution.specs.Settings.{Marks, Who, root, inst, marks_of, triplet_of, same_instance, instance_of, is_root, is_own, feature_of, dependencies_in, dependencies_of, applicable_of, names_of, defaults_of, is_off}
 use Rattle.vk_resolution.specs.Givens.{manifest_at, is_pinned}
 use Rattle.vk_resolution.specs.Asking.{Fact, need, floor, visit, floor_of, asked_of_other, asked_of_own, asked_by, asked_of}
 use Rattle.vk_resolution.specs.Consequences.{Inputs, Step, given_step, asked_step, asked_in, steps_from, is_not_below, is_below, is_visited, is_visited_by, rules_of, by_overlay, by_override, by_baseline, by_one, by_minimum}
@@ -21,14 +23,14 @@ use Rattle.vk_resolution.proofs.Derivations.{visits_are}
 use Rattle.vk_resolution.proofs.ChoiceLemmas.{given_fact}
 
 -- the names of a list, and the uses that they are of
-names_are : (marks : Marks) (uses : List (FeatureUse Condition)) (g : List ℕ) → Contains (names_of marks uses) g → (u : FeatureUse Condition) × Contains uses u × (u.platform marks ≡ true) × (u.name ≡ g)
+names_are : (marks : Marks) (uses : List (FeatureUse Condition)) (g : List ℕ) → Contains (names_of marks uses) g → (u : FeatureUse Condition) × Contains uses u × (holds u.platform marks ≡ true) × (u.name ≡ g)
 names_are marks uses g h =
-    let r = contains_map (λ (u : FeatureUse Condition). u.name) (filter (λ u. u.platform marks) uses) g h in
-    let q = contains_filter (λ (u : FeatureUse Condition). u.platform marks) uses r.0 r.1 in
+    let r = contains_map (λ (u : FeatureUse Condition). u.name) (filter (λ u. holds u.platform marks) uses) g h in
+    let q = contains_filter (λ (u : FeatureUse Condition). holds u.platform marks) uses r.0 r.1 in
     (r.0, q.0, q.1, r.2)
 
-are_names : (marks : Marks) (uses : List (FeatureUse Condition)) (u : FeatureUse Condition) → Contains uses u → u.platform marks ≡ true → Contains (names_of marks uses) u.name
-are_names marks uses u h e = map_contains (λ (k : FeatureUse Condition). k.name) (filter (λ k. k.platform marks) uses) u (filter_contains (λ (k : FeatureUse Condition). k.platform marks) uses u h e)
+are_names : (marks : Marks) (uses : List (FeatureUse Condition)) (u : FeatureUse Condition) → Contains uses u → holds u.platform marks ≡ true → Contains (names_of marks uses) u.name
+are_names marks uses u h e = map_contains (λ (k : FeatureUse Condition). k.name) (filter (λ k. holds k.platform marks) uses) u (filter_contains (λ (k : FeatureUse Condition). holds k.platform marks) uses u h e)
 
 -- a dependency of a feature
 feature_there : (o : Option (Feature Condition)) (d : Dependency Condition) → Contains (dependencies_in o) d → (g : Feature Condition) × (o ≡ Some g) × Contains g.dependencies d
@@ -52,15 +54,15 @@ module _ (s : Setting) (who : Who) (f : List ℕ) (m : Manifest Condition) where
 
   depends_is : (d : Dependency Condition) → Contains (applicable_of s who f m) d → Depends s who f m d
   depends_is d h =
-      let r = contains_filter (λ (k : Dependency Condition). k.platform (marks_of s (triplet_of who))) (dependencies_of m f) d h in
+      let r = contains_filter (λ (k : Dependency Condition). holds k.platform (marks_of s (triplet_of who))) (dependencies_of m f) d h in
       depends_by (bytes_eq f core) (bytes_eq f default) d refl refl r.0 r.1
 
   is_depends : (d : Dependency Condition) → Depends s who f m d → Contains (applicable_of s who f m) d
   is_depends d (by_core e h applies) =
-      filter_contains (λ (k : Dependency Condition). k.platform (marks_of s (triplet_of who))) (dependencies_of m f) d
+      filter_contains (λ (k : Dependency Condition). holds k.platform (marks_of s (triplet_of who))) (dependencies_of m f) d
       (subst (λ b. Contains (cond b m.dependencies (cond (bytes_eq f default) [] (dependencies_in (feature_of m f)))) d) (sym (is_same f core e)) h) applies
   is_depends d (by_feature g not_core not_default found h applies) =
-      filter_contains (λ (k : Dependency Condition). k.platform (marks_of s (triplet_of who))) (dependencies_of m f) d
+      filter_contains (λ (k : Dependency Condition). holds k.platform (marks_of s (triplet_of who))) (dependencies_of m f) d
       (subst (λ b. Contains (cond b m.dependencies (cond (bytes_eq f default) [] (dependencies_in (feature_of m f)))) d) (sym (isnt_same f core not_core))
       (subst (λ b. Contains (cond b [] (dependencies_in (feature_of m f))) d) (sym (isnt_same f default not_default)) (subst (λ o. Contains (dependencies_in o) d) (sym found) h))) applies
 

@@ -4,19 +4,20 @@ use Rattle.std.specs.Prelude.{Option, Some, None, option_map, flat_map, Result, 
 use Rattle.std.specs.List.{Contains}
 use Rattle.std.proofs.lemmas.List.Elements.{Contains-append_left, Contains-append_right}
 use Rattle.vk_spec.specs.Lists.{IsWithin}
-use Rattle.vk_spec.specs.Versions.{Version, Ask, ask_of}
+use Rattle.vk_spec.specs.Versions.{Version, Ask, ask_of, IsOrder}
 use Rattle.vk_spec.specs.Manifests.{Manifest, Dependency, core, default}
-use Rattle.vk_spec.specs.Pages.{Wrong, Given, overlay, override, baseline, Row, row_in}
+use Rattle.vk_spec.specs.Pages.{Wrong, Given, overlay, override, baseline, Row, row_in, is_pinned_by}
 use Rattle.vk_spec.proofs.ListLemmas.{contains_nothing, contains_first, contains_later, flat_map-contains}
+use Rattle.vk_spec.specs.Conditions.{Condition}
+use Rattle.vk_spec.specs.Settings.{Instance}
 use Rattle.vk_resolution.specs.Least.{from_one, IsLeast}
-use Rattle.vk_resolution.specs.Settings.{Condition, Instance, Who, root, inst, marks_of, triplet_of, instance_of, is_own, is_off, applicable_of, names_of, defaults_of}
-use Rattle.vk_resolution.specs.Givens.{version_at, manifest_at, is_pinned, is_pinned_by}
+use Rattle.vk_resolution.specs.Settings.{Who, root, inst, marks_of, triplet_of, instance_of, is_own, is_off, applicable_of, names_of, defaults_of}
+use Rattle.vk_resolution.specs.Givens.{version_at, manifest_at, is_pinned}
 use Rattle.vk_resolution.specs.Asking.{Fact, need, floor, visit, floor_of, asked_of_other, asked_of_own, asked_by, asked_of}
 use Rattle.vk_resolution.specs.Consequences.{Inputs, Step, asked_step, asked_in, asked_at, steps_from, rules_of, by_minimum}
 use Rattle.vk_resolution.specs.Choices.{floors_of, given_version_of, greatest_of, chosen_of}
 use Rattle.vk_resolution.specs.Planning.{is_need, IsPlanned}
 use Rattle.vk_resolution.specs.Faults.{conflicts, manifest_troubles, wrong_of, first_faults_of, second_faults_of}
-use Rattle.vk_resolution.specs.Laws.{IsOrder}
 use Rattle.vk_resolution.specs.Service.{MeetsMinimum, MeetsMinimumOf, MeetsOwnMinimum, ServesOther, Serves, IsServed, OverlaysHaveRows, PlanServes}
 use Rattle.vk_resolution.proofs.Members.{filter_contains, map_contains}
 use Rattle.vk_resolution.proofs.ChoiceLemmas.{floor_is, no_troubles, needed_given, step_in, given_floor, floor_in_table, version_ask, table_has_floors, free_choice, floors_are, choice_or_conflict, choice_is_above_floors}
@@ -123,9 +124,9 @@ module _ (inputs : Inputs) (order : IsOrder inputs.at_most) (rows : OverlaysHave
       }
 
   -- a needed port has a choice, and its row is there
-  chosen_pinned : (p : List ℕ) (given : Result Given Wrong) (v : Version) → (inputs.pages p).given ≡ given → is_pinned_by inputs.setting p given ≡ true → given_version_of inputs.pages p given ≡ Some v → chosen_of inputs facts p ≡ Some v
+  chosen_pinned : (p : List ℕ) (given : Result Given Wrong) (v : Version) → (inputs.pages p).given ≡ given → is_pinned_by inputs.setting.root.overrides p given ≡ true → given_version_of inputs.pages p given ≡ Some v → chosen_of inputs facts p ≡ Some v
   chosen_pinned p given v e pinned is =
-      ap (λ b. cond b (given_version_of inputs.pages p (inputs.pages p).given) (greatest_of inputs (floors_of inputs facts p))) (ap (is_pinned_by inputs.setting p) e ∙ pinned) ∙ ap (given_version_of inputs.pages p) e ∙ is
+      ap (λ b. cond b (given_version_of inputs.pages p (inputs.pages p).given) (greatest_of inputs (floors_of inputs facts p))) (ap (is_pinned_by inputs.setting.root.overrides p) e ∙ pinned) ∙ ap (given_version_of inputs.pages p) e ∙ is
 
   has_choice : (i : Instance) (f : List ℕ) → Contains facts (need (inst i) f) → (g : Given) → (inputs.pages i.port).given ≡ Ok g → (c : Version) × (chosen_of inputs facts i.port ≡ Some c)
   has_choice i f needed (overlay v) e = (v, chosen_pinned i.port (Ok (overlay v)) v e refl refl)
@@ -135,7 +136,7 @@ module _ (inputs : Inputs) (order : IsOrder inputs.at_most) (rows : OverlaysHave
   has_choice i f needed (baseline b) e =
       let has : Contains facts (floor i.port b) = given_floor inputs facts least.closed i f needed (baseline b) e in
       let v = floor_in_table inputs facts first i.port b (baseline b) e (λ w clash. (cc)) has in
-      free_has_choice i.port v.0 (ap (is_pinned_by inputs.setting i.port) e) (floor_is inputs facts i.port b v.0 has v.1) (chosen_of inputs facts i.port) refl
+      free_has_choice i.port v.0 (ap (is_pinned_by inputs.setting.root.overrides i.port) e) (floor_is inputs facts i.port b v.0 has v.1) (chosen_of inputs facts i.port) refl
 
   chosen_row : (i : Instance) (f : List ℕ) → Contains facts (need (inst i) f) → (g : Given) (c : Version) → (inputs.pages i.port).given ≡ Ok g → chosen_of inputs facts i.port ≡ Some c → version_at inputs.pages i.port (ask_of c) ≡ Some c
   chosen_row i f needed (overlay v) c e chosen =
@@ -149,7 +150,7 @@ module _ (inputs : Inputs) (order : IsOrder inputs.at_most) (rows : OverlaysHave
       let at : version_at inputs.pages i.port b ≡ Some c = v.1 ∙ ap Some is in
       subst (λ k. version_at inputs.pages i.port k ≡ Some c) (sym (version_ask inputs.pages i.port b c at)) at
   chosen_row i f needed (baseline b) c e chosen =
-      let choice = free_choice inputs facts i.port c (ap (is_pinned_by inputs.setting i.port) e) chosen in
+      let choice = free_choice inputs facts i.port c (ap (is_pinned_by inputs.setting.root.overrides i.port) e) chosen in
       let is = floors_are inputs facts i.port c choice.0 in
       subst (λ k. version_at inputs.pages i.port k ≡ Some c) (sym (version_ask inputs.pages i.port is.ask c is.version)) is.version
 

@@ -8,9 +8,10 @@ use Rattle.vk_spec.specs.Lists.{IsWithin}
 use Rattle.vk_spec.proofs.ListLemmas.{contains_nothing, contains_first, contains_later, contains_cases}
 use Rattle.vk_spec.proofs.FileLemmas.{path_total}
 use Rattle.vk_spec.specs.Versions.{Version, ask_of}
+use Rattle.vk_spec.specs.Settings.{Instance}
 use Rattle.vk_resolution.specs.Keys.{Key, key_cmp, IsKey, Ascends, in_order}
 use Rattle.vk_resolution.specs.Least.{Rules, IsLeastInOrder}
-use Rattle.vk_resolution.specs.Settings.{Instance, same_instance}
+use Rattle.vk_resolution.specs.Settings.{same_instance}
 use Rattle.vk_resolution.specs.Asking.{Fact, floor, fact_key}
 use Rattle.vk_resolution.specs.Consequences.{Inputs, rules_of}
 use Rattle.vk_resolution.specs.Choices.{chosen_of}

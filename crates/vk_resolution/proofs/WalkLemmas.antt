@@ -7,8 +7,9 @@ use Rattle.std.proofs.lemmas.List.Elements.{Contains-append_right, Contains-appe
 use Rattle.vk_spec.specs.Lists.{NoRepeats, IsWithin}
 use Rattle.vk_spec.proofs.ListLemmas.{contains_nothing, contains_first, contains_later, contains_cases}
 use Rattle.vk_spec.proofs.FileLemmas.{path_same}
+use Rattle.vk_spec.specs.Settings.{Instance}
 use Rattle.vk_resolution.specs.Keys.{Key, key_cmp, Ascends, in_order}
-use Rattle.vk_resolution.specs.Settings.{Instance, same_instance}
+use Rattle.vk_resolution.specs.Settings.{same_instance}
 use Rattle.vk_resolution.specs.Planning.{instance_key, is_within, HasHeight, IsByHeight, has_way, IsOnCycle, IsFrom, IsNext, WalksOn, IsCycleFrom, IsCycle}
 use Rattle.vk_resolution.specs.Computed.{Numbered, numbered_key, least_from, with_way, head_of}
 use Rattle.vk_resolution.specs.Walks.{Targets, AreEdgesOf, HeightsHaveNoCycle, NoCycleGivesHeights, TargetsAreLower, TargetsStandBefore, CycleExists, CycleIsOne, IsRound, IsShortestRound, CycleIsShortest}

@@ -1,16 +1,17 @@
 -- Only what was asked matters: pages that agree on it lead to the same outcome.
 use Rattle.std.specs.Prelude.{◌≡◌, ℕ, List, [], ◌∷◌, ◌++◌, bytes_eq, if◌then◌else◌}
 use Rattle.std.specs.List.{Contains}
-use Rattle.vk_spec.specs.Versions.{Ask, ask_of}
+use Rattle.vk_spec.specs.Versions.{Ask, ask_of, IsOrder}
 use Rattle.vk_spec.specs.Pages.{Row}
+use Rattle.vk_spec.specs.Conditions.{Condition}
+use Rattle.vk_spec.specs.Settings.{Instance}
 use Rattle.vk_resolution.specs.Least.{IsLeastInOrder}
-use Rattle.vk_resolution.specs.Settings.{Condition, Instance, inst}
+use Rattle.vk_resolution.specs.Settings.{inst}
 use Rattle.vk_resolution.specs.Givens.{Pages, version_at, manifest_at}
 use Rattle.vk_resolution.specs.Asking.{Fact, need, floor, visit, fact_key}
 use Rattle.vk_resolution.specs.Consequences.{Inputs, rules_of}
 use Rattle.vk_resolution.specs.Reasons.{Reason, facts_of}
 use Rattle.vk_resolution.specs.Outcomes.{Printing, Outcome, planned, refused, IsOutcome}
-use Rattle.vk_resolution.specs.Laws.{IsOrder}
 
 -- the same setting and order, with other pages
 abbrev pub with_pages : Inputs → Pages → Inputs

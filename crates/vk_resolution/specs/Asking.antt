@@ -2,8 +2,10 @@
 use Rattle.std.specs.Prelude.{ℕ, Bool, List, [], ◌∷◌, ◌++◌, map, flat_map, Option, Some, None, if◌then◌else◌}
 use Rattle.vk_spec.specs.Versions.{Ask}
 use Rattle.vk_spec.specs.Manifests.{Manifest, Dependency, core, default}
+use Rattle.vk_spec.specs.Settings.{Setting, Instance}
+use Rattle.vk_spec.specs.Conditions.{Condition}
 use Rattle.vk_resolution.specs.Keys.{Key, same_key}
-use Rattle.vk_resolution.specs.Settings.{Setting, Condition, Marks, Instance, Who, root, inst, marks_of, triplet_of, instance_of, is_own, is_off, applicable_of, names_of, defaults_of, first_features_of}
+use Rattle.vk_resolution.specs.Settings.{Marks, Who, root, inst, marks_of, triplet_of, instance_of, is_own, is_off, applicable_of, names_of, defaults_of, first_features_of}
 
 -- what a plan may require: a feature of the root or of an instance, at least a version of a port, or that the manifest of a version is looked at for a feature
 pub data Fact : Type 0 where

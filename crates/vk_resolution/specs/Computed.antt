@@ -5,7 +5,9 @@ use Rattle.vk_spec.specs.Versions.{ask_of}
 use Rattle.vk_resolution.specs.Keys.{Key, same_key, in_order}
 use Rattle.vk_resolution.specs.Least.{Rules}
 use Rattle.vk_spec.specs.Manifests.{Dependency}
-use Rattle.vk_resolution.specs.Settings.{Condition, Setting, Instance, root, same_instance, root_rules_of, applicable_of, instance_of, is_own}
+use Rattle.vk_spec.specs.Conditions.{Condition}
+use Rattle.vk_spec.specs.Settings.{Setting, Instance}
+use Rattle.vk_resolution.specs.Settings.{root, same_instance, root_rules_of, applicable_of, instance_of, is_own}
 use Rattle.vk_resolution.specs.Asking.{Fact, floor, fact_key}
 use Rattle.vk_resolution.specs.Consequences.{Inputs, rules_of}
 use Rattle.vk_resolution.specs.Choices.{chosen_of}

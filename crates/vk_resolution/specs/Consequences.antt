@@ -4,8 +4,10 @@ use Rattle.std.specs.List.{Contains}
 use Rattle.vk_spec.specs.Versions.{Version, Ask, same_ask, ask_of, same_version}
 use Rattle.vk_spec.specs.Manifests.{Manifest}
 use Rattle.vk_spec.specs.Pages.{Wrong, Given, overlay, override, baseline, Row, row_in}
+use Rattle.vk_spec.specs.Settings.{Setting, Instance}
+use Rattle.vk_spec.specs.Conditions.{Condition}
 use Rattle.vk_resolution.specs.Least.{Rules}
-use Rattle.vk_resolution.specs.Settings.{Setting, Condition, Instance, root, inst}
+use Rattle.vk_resolution.specs.Settings.{root, inst}
 use Rattle.vk_resolution.specs.Givens.{Pages, manifest_at, is_pinned}
 use Rattle.vk_resolution.specs.Asking.{Fact, need, floor, visit, asked_of, root_facts_of}
 

@@ -6,20 +6,14 @@ use Rattle.std.specs.Cmp.Lexicographic.{slice_cmp}
 use Rattle.vk_spec.specs.Versions.{Class, dot, date, text, Version, Ask}
 use Rattle.vk_spec.specs.Manifests.{Manifest, Dependency, FeatureUse}
 use Rattle.vk_spec.specs.Pages.{no_registry, baseline, Row, Page}
-use Rattle.vk_resolution.specs.Settings.{Condition, Triplet, Setting, Instance, ListsOff}
+use Rattle.vk_spec.specs.Conditions.{always, Condition}
+use Rattle.vk_spec.specs.Settings.{Triplet, Setting, Instance}
+use Rattle.vk_resolution.specs.Settings.{ListsOff}
 use Rattle.vk_resolution.specs.Givens.{Pages}
 use Rattle.vk_resolution.specs.Consequences.{Inputs}
 use Rattle.vk_resolution.specs.Planning.{Item}
 use Rattle.vk_resolution.specs.Faults.{Fault}
 use Rattle.vk_resolution.specs.Outcomes.{Printing, TellsApart, Outcome, planned, refused, IsOutcome}
-
--- a condition that is true everywhere
-abbrev pub always : Condition
-always marks = true
-
--- a condition of one mark
-abbrev pub has_mark : List ℕ → Condition
-has_mark m marks = list_any (bytes_eq m) marks
 
 -- the numbers of a dotted text, which end before a `+`
 abbrev pub numbers : List ℕ → List ℕ
@@ -83,7 +77,7 @@ pages_of (x ∷ xs) p = if bytes_eq x.0 p then x.1 else pages_of xs p
 
 -- the triplets of the worked projects
 abbrev pub x64_linux : Triplet
-x64_linux = record { name = codes "x64-linux"; marks = λ native. codes "x64" ∷ codes "linux" ∷ codes "static" ∷ (if native then codes "native" ∷ [] else []) }
+x64_linux = record { name = codes "x64-linux"; bytes = []; marks = codes "x64" ∷ codes "linux" ∷ codes "static" ∷ [] }
 
 -- a root without a name
 abbrev pub root_with : List (Dependency Condition) → Manifest Condition
@@ -91,11 +85,11 @@ root_with ds = record { name = None; version = None; supports = always; dependen
 
 -- a second one
 abbrev pub arm64_linux : Triplet
-arm64_linux = record { name = codes "arm64-linux"; marks = λ native. codes "arm64" ∷ codes "arm" ∷ codes "linux" ∷ codes "static" ∷ (if native then codes "native" ∷ [] else []) }
+arm64_linux = record { name = codes "arm64-linux"; bytes = []; marks = codes "arm64" ∷ codes "arm" ∷ codes "linux" ∷ codes "static" ∷ [] }
 
 -- a root for two triplets, without features of the words
 abbrev pub setting : Manifest Condition → Triplet → Triplet → List Instance → Setting
-setting m target host off = record { root = m; target = target; host = host; features = []; defaults = true; off = off }
+setting m target host off = record { root = m; target = target; host = host; features = []; defaults = true; off = off; max_facts = 1000 }
 
 -- a root with these dependencies, for x64-linux, in which nothing is off
 abbrev pub project : List (Dependency Condition) → Pages → Inputs

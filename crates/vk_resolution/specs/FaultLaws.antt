@@ -1,9 +1,11 @@
 -- What the fault lines of the phases mean.
+use Rattle.vk_spec.specs.Conditions.{holds, Condition}
 use Rattle.std.specs.Prelude.{◌≡◌, ◌≢◌, ◌≤◌, ℕ, true, false, List, Option, Some, None, Ok}
 use Rattle.std.specs.List.{Contains}
 use Rattle.vk_spec.specs.Versions.{Version, ask_of}
 use Rattle.vk_spec.specs.Manifests.{Manifest, Feature, core, default}
-use Rattle.vk_resolution.specs.Settings.{Condition, Instance, Who, root, inst, marks_of, triplet_of, feature_of}
+use Rattle.vk_spec.specs.Settings.{Instance}
+use Rattle.vk_resolution.specs.Settings.{Who, root, inst, marks_of, triplet_of, feature_of}
 use Rattle.vk_resolution.specs.Givens.{manifest_at}
 use Rattle.vk_resolution.specs.Asking.{Fact, need, floor}
 use Rattle.vk_resolution.specs.Consequences.{Inputs}
@@ -49,8 +51,8 @@ pub data IsJudgedBy (inputs : Inputs) (facts : List Fact) : Who → Option Versi
 -- what is wrong with a need
 pub data IsWrongWith (inputs : Inputs) (who : Who) (f : List ℕ) (v : Option Version) (m : Manifest Condition) (n : ℕ) : Fault → Type 0 where
   no_such_feature : f ≢ core → f ≢ default → feature_of m f ≡ None → IsWrongWith inputs who f v m n (lacks_feature who f v n)
-  no_support : f ≡ core → m.supports (marks_of inputs.setting (triplet_of who)) ≡ false → IsWrongWith inputs who f v m n (isnt_supported who f v n)
-  no_feature_support : (g : Feature Condition) → f ≢ core → f ≢ default → feature_of m f ≡ Some g → g.supports (marks_of inputs.setting (triplet_of who)) ≡ false → IsWrongWith inputs who f v m n (isnt_supported who f v n)
+  no_support : f ≡ core → holds m.supports (marks_of inputs.setting (triplet_of who)) ≡ false → IsWrongWith inputs who f v m n (isnt_supported who f v n)
+  no_feature_support : (g : Feature Condition) → f ≢ core → f ≢ default → feature_of m f ≡ Some g → holds g.supports (marks_of inputs.setting (triplet_of who)) ≡ false → IsWrongWith inputs who f v m n (isnt_supported who f v n)
 
 -- a planned need, on its line, with what is wrong with it
 pub record IsJudged (inputs : Inputs) (facts planned : List Fact) (fault : Fault) : Type 0 where

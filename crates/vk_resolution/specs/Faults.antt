@@ -1,12 +1,14 @@
 -- The faults that stand, in four phases, each with the line that it cites.
+use Rattle.vk_spec.specs.Conditions.{holds, Condition}
 use Rattle.std.specs.Prelude.{ℕ, Bool, List, [], ◌∷◌, map, flat_map, Option, Some, None, option_map, option_and_then, option_to_list, Result, Ok, Err, bytes_eq, if◌then◌else◌}
 use Rattle.std.specs.List.{list_any}
 use Rattle.vk_spec.specs.Paths.{Path}
 use Rattle.vk_spec.specs.Versions.{Version, Ask, ask_of}
 use Rattle.vk_spec.specs.Manifests.{Manifest, Feature, core, default}
 use Rattle.vk_spec.specs.Pages.{Field, name, class, text, port, Wrong, no_registry, no_baseline, bad_file, disagrees, Given, overlay, override, baseline, Row, row_in}
+use Rattle.vk_spec.specs.Settings.{Setting, Instance}
 use Rattle.vk_resolution.specs.Keys.{Key, same_key, in_order}
-use Rattle.vk_resolution.specs.Settings.{Setting, Condition, Marks, Instance, Who, root, inst, marks_of, triplet_of, feature_of}
+use Rattle.vk_resolution.specs.Settings.{Marks, Who, root, inst, marks_of, triplet_of, feature_of}
 use Rattle.vk_resolution.specs.Givens.{manifest_at, is_pinned}
 use Rattle.vk_resolution.specs.Asking.{Fact, need, floor, visit}
 use Rattle.vk_resolution.specs.Consequences.{Inputs}
@@ -114,12 +116,12 @@ second_faults_of inputs facts = flat_map (λ p. conflicts_of inputs facts p (cho
 -- third phase: a named feature that the manifest lacks, and what isn't supported: the manifest for `core`, a named feature by its own condition
 abbrev pub feature_faults : Who → List ℕ → Option Version → Marks → Option (Feature Condition) → ℕ → List Fault
 feature_faults who f v marks None n = lacks_feature who f v n ∷ []
-feature_faults who f v marks (Some g) n = if g.supports marks then [] else isnt_supported who f v n ∷ []
+feature_faults who f v marks (Some g) n = if holds g.supports marks then [] else isnt_supported who f v n ∷ []
 
 -- a feature of a manifest, judged: `core` by the manifest, `default` by nothing
 abbrev pub judged : Setting → Who → List ℕ → Option Version → Manifest Condition → ℕ → List Fault
 judged s who f v m n =
-    if bytes_eq f core then (if m.supports (marks_of s (triplet_of who)) then [] else isnt_supported who f v n ∷ []) else if bytes_eq f default then [] else
+    if bytes_eq f core then (if holds m.supports (marks_of s (triplet_of who)) then [] else isnt_supported who f v n ∷ []) else if bytes_eq f default then [] else
     feature_faults who f v (marks_of s (triplet_of who)) (feature_of m f) n
 
 -- where the manifest is there

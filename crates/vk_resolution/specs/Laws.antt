@@ -2,10 +2,11 @@
 use Rattle.std.specs.Prelude.{◌≡◌, ◌≢◌, ◌<◌, ◌≤◌, ℕ, Bool, true, false, List, [], length, Some, Ok}
 use Rattle.std.specs.List.{Contains}
 use Rattle.vk_spec.specs.Lists.{IsWithin}
-use Rattle.vk_spec.specs.Versions.{Version, Ask, ask_of}
+use Rattle.vk_spec.specs.Versions.{Version, Ask, ask_of, IsOrder}
 use Rattle.vk_spec.specs.Pages.{Given, given_ask}
+use Rattle.vk_spec.specs.Settings.{Instance}
 use Rattle.vk_resolution.specs.Least.{IsClosed, IsLeast}
-use Rattle.vk_resolution.specs.Settings.{Instance, inst}
+use Rattle.vk_resolution.specs.Settings.{inst}
 use Rattle.vk_resolution.specs.Givens.{version_at, is_pinned}
 use Rattle.vk_resolution.specs.Asking.{Fact, need, floor, visit}
 use Rattle.vk_resolution.specs.Consequences.{Inputs, rules_of}
@@ -13,12 +14,6 @@ use Rattle.vk_resolution.specs.Choices.{floors_of, chosen_of, is_top, IsInConfli
 use Rattle.vk_resolution.specs.Reasons.{Reason, IsReasons, IsDerivation, LeadsToRoots}
 use Rattle.vk_resolution.specs.Planning.{IsPlanned, planned_rules_of}
 use Rattle.vk_resolution.specs.Faults.{conflicts, first_faults_of, second_faults_of}
-
--- what the order on versions has to be
-pub record IsOrder (at_most : Version → Version → Bool) : Type 0 where
-  pub reflexive : (v : Version) → at_most v v ≡ true
-  pub transitive : (u v w : Version) → at_most u v ≡ true → at_most v w ≡ true → at_most u w ≡ true
-  pub antisymmetric : (v w : Version) → at_most v w ≡ true → at_most w v ≡ true → v ≡ w
 
 -- the reasons are a derivation: each is a root fact, or follows by its cause from the lines that it cites, which stand before it
 abbrev pub ReasonsAreDerived : Type 0

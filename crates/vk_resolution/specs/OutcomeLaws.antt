@@ -3,6 +3,7 @@ use Rattle.std.specs.Prelude.{◌≡◌, ◌<◌, ℕ, List, [], ◌∷◌, ◌+
 use Rattle.std.specs.declared.cmp.Ordering.TheVariants.{Less, Equal}
 use Rattle.std.specs.Cmp.{IsTotalOrder}
 use Rattle.std.specs.List.{Contains}
+use Rattle.vk_spec.specs.Versions.{IsOrder}
 use Rattle.vk_resolution.specs.Keys.{Key, key_cmp, IsKey, IsListing}
 use Rattle.vk_resolution.specs.Least.{IsClosed}
 use Rattle.vk_resolution.specs.Asking.{Fact, fact_key}
@@ -10,7 +11,6 @@ use Rattle.vk_resolution.specs.Consequences.{Inputs, rules_of}
 use Rattle.vk_resolution.specs.Planning.{instance_key, feature_key, IsPlanned, targets_of, instances_of, Item, IsPlan}
 use Rattle.vk_resolution.specs.Faults.{Fault}
 use Rattle.vk_resolution.specs.Outcomes.{Printing, TellsApart, lines_of, Outcome, IsOutcome}
-use Rattle.vk_resolution.specs.Laws.{IsOrder}
 use Rattle.vk_resolution.specs.Service.{OverlaysHaveRows}
 use Rattle.vk_resolution.specs.Walks.{AreEdgesOf}
 

@@ -5,9 +5,11 @@ use Rattle.std.specs.declared.cmp.Ordering.TheVariants.{Less, Greater}
 use Rattle.vk_spec.specs.Versions.{Version, ask_of}
 use Rattle.vk_spec.specs.Manifests.{Manifest, core, default}
 use Rattle.vk_spec.specs.Pages.{Wrong}
+use Rattle.vk_spec.specs.Settings.{Setting, Instance}
+use Rattle.vk_spec.specs.Conditions.{Condition}
 use Rattle.vk_resolution.specs.Keys.{Key, key_cmp, in_order}
 use Rattle.vk_resolution.specs.Least.{Rules, IsLeast}
-use Rattle.vk_resolution.specs.Settings.{Setting, Condition, Instance, root, inst, same_instance, instance_of, applicable_of}
+use Rattle.vk_resolution.specs.Settings.{root, inst, same_instance, instance_of, applicable_of}
 use Rattle.vk_resolution.specs.Givens.{manifest_at}
 use Rattle.vk_resolution.specs.Asking.{Fact, need, floor, visit, asked_of, root_facts_of}
 use Rattle.vk_resolution.specs.Consequences.{Inputs, asked_at}

@@ -1,15 +1,16 @@
 -- Worked projects: the setting and the pages of each, and what it prints.
-use Rattle.std.specs.Prelude.{ℕ, Bool, true, false, List, [], ◌∷◌, Some, None, Ok, Err, codes, not, ◌&&◌}
+use Rattle.std.specs.Prelude.{ℕ, Bool, true, false, List, [], ◌∷◌, Some, None, Ok, Err, codes}
 use Rattle.vk_spec.specs.Paths.{Path}
 use Rattle.vk_spec.specs.Versions.{Version, date, text}
 use Rattle.vk_spec.specs.Manifests.{Manifest, Dependency, Feature, Override, core}
 use Rattle.vk_spec.specs.Pages.{name as field_name, text as field_text, Wrong, no_registry, no_baseline, bad_file, disagrees, overlay, override, Row, Page}
-use Rattle.vk_resolution.specs.Settings.{Condition, root, inst}
+use Rattle.vk_spec.specs.Conditions.{Condition, always, mark, negation, all, condition, no_conditions}
+use Rattle.vk_resolution.specs.Settings.{root, inst}
 use Rattle.vk_resolution.specs.Asking.{need, floor, visit}
 use Rattle.vk_resolution.specs.Consequences.{Inputs, by_root, by_baseline, by_minimum, by_one, by_two}
 use Rattle.vk_resolution.specs.Reasons.{Reason}
 use Rattle.vk_resolution.specs.Faults.{troubled, lacks_registry, lacks_baseline, unreadable, lacks_version, differs, conflicts, lacks_feature, isnt_supported, has_cycle}
-use Rattle.vk_resolution.specs.Examples.{always, has_mark, version, ask, on, at_least, use_of, manifest, release, listed, pages_of, root_with, setting, x64_linux, arm64_linux, project, x64, at_most, Line, Report, plans, refuses}
+use Rattle.vk_resolution.specs.Examples.{version, ask, on, at_least, use_of, manifest, release, listed, pages_of, root_with, setting, x64_linux, arm64_linux, project, x64, at_most, Line, Report, plans, refuses}
 
 -- the ports and features of these projects, and their versions
 abbrev pub a : List ℕ
@@ -267,7 +268,7 @@ abbrev pub without_defaults : Dependency Condition → Dependency Condition
 without_defaults dep = record { name = dep.name; defaults = false; features = dep.features; host = dep.host; platform = dep.platform; minimum = dep.minimum }
 
 abbrev pub where_marked : Dependency Condition → List ℕ → Dependency Condition
-where_marked dep m = record { name = dep.name; defaults = dep.defaults; features = dep.features; host = dep.host; platform = has_mark m; minimum = dep.minimum }
+where_marked dep m = record { name = dep.name; defaults = dep.defaults; features = dep.features; host = dep.host; platform = mark m; minimum = dep.minimum }
 
 abbrev pub d_page : List ℕ × Page Condition
 d_page = (
@@ -309,7 +310,7 @@ abbrev pub for_host : Dependency Condition → Dependency Condition
 for_host dep = record { name = dep.name; defaults = dep.defaults; features = dep.features; host = true; platform = dep.platform; minimum = dep.minimum }
 
 abbrev pub where_not : Dependency Condition → List ℕ → Dependency Condition
-where_not dep m = record { name = dep.name; defaults = dep.defaults; features = dep.features; host = dep.host; platform = λ marks. not (has_mark m marks); minimum = dep.minimum }
+where_not dep m = record { name = dep.name; defaults = dep.defaults; features = dep.features; host = dep.host; platform = negation (mark m); minimum = dep.minimum }
 
 abbrev pub host_pages : List (List ℕ × Page Condition)
 host_pages = single t [] ∷ single u (for_host (on t) ∷ where_not (on w) (codes "native") ∷ []) ∷ single w [] ∷ []
@@ -382,7 +383,7 @@ abbrev pub overlaid_port_report : Report
 overlaid_port_report = plans (planned_line b (codes "2") 5 ∷ []) 7
 
 abbrev pub unsupported_port : Inputs
-unsupported_port = overlaid (has_mark (codes "windows"))
+unsupported_port = overlaid (mark (codes "windows"))
 
 abbrev pub unsupported_port_report : Report
 unsupported_port_report = refuses (isnt_supported (inst (x64 b)) core (Some (version (codes "2"))) 3 ∷ []) 7
@@ -413,7 +414,7 @@ abbrev pub day_version : List ℕ → Version
 day_version v = record { class = date; text = v; port = 0 }
 
 abbrev pub not_on_desktop : Condition
-not_on_desktop marks = not (has_mark (codes "windows") marks && not (has_mark (codes "uwp") marks))
+not_on_desktop = negation (all (condition (mark (codes "windows")) (condition (negation (mark (codes "uwp"))) no_conditions)))
 
 abbrev pub curl_manifest : Manifest Condition
 curl_manifest = record {
@@ -483,7 +484,7 @@ x64_only = (
   t,
   listed one (record {
     version = version one;
-    manifest = Ok (record { name = Some t; version = Some (version one); supports = has_mark (codes "x64"); dependencies = []; default_features = []; features = []; overrides = [] });
+    manifest = Ok (record { name = Some t; version = Some (version one); supports = mark (codes "x64"); dependencies = []; default_features = []; features = []; overrides = [] });
   } ∷ []),
 )
 
@@ -518,7 +519,7 @@ root_features supports = record {
 
 abbrev pub featured : Condition → List (List ℕ) → Bool → Inputs
 featured supports features defaults = record {
-  setting = record { root = root_features supports; target = x64_linux; host = x64_linux; features = features; defaults = defaults; off = [] };
+  setting = record { root = root_features supports; target = x64_linux; host = x64_linux; features = features; defaults = defaults; off = []; max_facts = 1000 };
   pages = pages_of (single a [] ∷ single b [] ∷ []);
   at_most = at_most;
 }
@@ -537,7 +538,7 @@ default_feature_report = plans (planned_line b one 6 ∷ []) 8
 
 -- what a feature of the root doesn't support is told, and a feature that the root lacks
 abbrev pub unsupported_feature : Inputs
-unsupported_feature = featured (has_mark (codes "windows")) (x ∷ []) false
+unsupported_feature = featured (mark (codes "windows")) (x ∷ []) false
 
 abbrev pub unsupported_feature_report : Report
 unsupported_feature_report = refuses (isnt_supported (root (codes "x64-linux")) x None 2 ∷ []) 7
@@ -578,6 +579,7 @@ named_root = record {
     features = [];
     defaults = false;
     off = x64 g ∷ [];
+    max_facts = 1000;
   };
   pages = pages_of (single a [] ∷ single g [] ∷ []);
   at_most = at_most;

@@ -1,18 +1,20 @@
 -- The rules once more, a sentence each: what a manifest asks, what may be visited, what follows from a list.
+use Rattle.vk_spec.specs.Conditions.{holds, Condition}
 use Rattle.std.specs.Prelude.{◌≡◌, ◌≢◌, ℕ, true, false, List, Some, Ok}
 use Rattle.std.specs.List.{Contains}
 use Rattle.vk_spec.specs.Versions.{Ask, ask_of}
 use Rattle.vk_spec.specs.Manifests.{Manifest, Dependency, FeatureUse, Feature, core, default}
 use Rattle.vk_spec.specs.Pages.{Given, overlay, override, baseline, Row, given_ask}
+use Rattle.vk_spec.specs.Settings.{Setting, Instance}
 use Rattle.vk_resolution.specs.Least.{FollowsFrom}
-use Rattle.vk_resolution.specs.Settings.{Setting, Condition, Instance, Who, root, inst, marks_of, triplet_of, instance_of, feature_of}
+use Rattle.vk_resolution.specs.Settings.{Who, root, inst, marks_of, triplet_of, instance_of, feature_of}
 use Rattle.vk_resolution.specs.Givens.{row_at, manifest_at, is_pinned}
 use Rattle.vk_resolution.specs.Asking.{Fact, need, floor, visit, asked_of}
 use Rattle.vk_resolution.specs.Consequences.{Inputs, rules_of}
 
 -- the condition is true where the one that depends is
 abbrev pub IsTrueFor : Setting → Who → Condition → Type 0
-IsTrueFor s who condition = condition (marks_of s (triplet_of who)) ≡ true
+IsTrueFor s who condition = holds condition (marks_of s (triplet_of who)) ≡ true
 
 -- a feature of the manifest has the dependency, and it applies
 pub data Depends (s : Setting) (who : Who) (f : List ℕ) (m : Manifest Condition) (d : Dependency Condition) : Type 0 where

@@ -1,18 +1,19 @@
 -- What a plan owes its manifests, in a manifest's own words.
 use Rattle.std.specs.Prelude.{◌≡◌, ℕ, true, false, List, [], Option, Some, None, Ok}
 use Rattle.std.specs.List.{Contains}
-use Rattle.vk_spec.specs.Versions.{Version, Ask, ask_of}
+use Rattle.vk_spec.specs.Versions.{Version, Ask, ask_of, IsOrder}
 use Rattle.vk_spec.specs.Manifests.{Manifest, Dependency, core, default}
 use Rattle.vk_spec.specs.Pages.{overlay}
+use Rattle.vk_spec.specs.Conditions.{Condition}
+use Rattle.vk_spec.specs.Settings.{Instance}
 use Rattle.vk_resolution.specs.Least.{IsLeast}
-use Rattle.vk_resolution.specs.Settings.{Condition, Instance, Who, root, inst, marks_of, triplet_of, instance_of, is_own, is_off, applicable_of, names_of, defaults_of}
+use Rattle.vk_resolution.specs.Settings.{Who, root, inst, marks_of, triplet_of, instance_of, is_own, is_off, applicable_of, names_of, defaults_of}
 use Rattle.vk_resolution.specs.Givens.{Pages, version_at, manifest_at, is_pinned}
 use Rattle.vk_resolution.specs.Asking.{Fact, need}
 use Rattle.vk_resolution.specs.Consequences.{Inputs, rules_of}
 use Rattle.vk_resolution.specs.Choices.{chosen_of}
 use Rattle.vk_resolution.specs.Planning.{IsPlanned}
 use Rattle.vk_resolution.specs.Faults.{first_faults_of, second_faults_of}
-use Rattle.vk_resolution.specs.Laws.{IsOrder}
 
 -- the choice of a port that isn't pinned is at or above the minimum
 pub record MeetsMinimum (inputs : Inputs) (facts : List Fact) (p : List ℕ) (a : Ask) : Type 0 where

@@ -1,40 +1,19 @@
--- The setting of a plan: the root manifest, the two triplets, what the root is asked for, and what is off.
+-- Who has requirements, what applies to whom, what the root is asked for, and what is off.
 use Rattle.std.specs.Prelude.{◌≡◌, ℕ, Bool, true, false, ◌&&◌, List, [], ◌∷◌, ◌++◌, map, filter, flat_map, Option, Some, None, bytes_eq, if◌then◌else◌}
 use Rattle.std.specs.List.{Contains, list_any, find}
+use Rattle.vk_spec.specs.Conditions.{Condition, holds}
 use Rattle.vk_spec.specs.Manifests.{Manifest, Dependency, FeatureUse, Feature, core, default}
+use Rattle.vk_spec.specs.Settings.{Instance, Setting, with_native}
 use Rattle.vk_resolution.specs.Least.{Rules, IsReached}
 
 -- the marks that hold for an instance
 abbrev pub Marks : Type 0
 Marks = List (List ℕ)
 
--- a platform expression, by its truth: a test on the marks of an instance
-abbrev pub Condition : Type 0
-Condition = Marks → Bool
-
--- a triplet, with the marks of its instances by whether it is the host's, which adds the mark `native`
-pub record Triplet : Type 0 where
-  pub name : List ℕ
-  pub marks : Bool → Marks
-
--- a port for a triplet, which is the target or the host
-pub record Instance : Type 0 where
-  pub port : List ℕ
-  pub triplet : List ℕ
-
 -- who has requirements: the root, for the target triplet, or an instance
 pub data Who : Type 0 where
   root : List ℕ → Who
   inst : Instance → Who
-
--- the features that the words ask of the root, and whether its default ones are wanted; the instances whose default features are off
-pub record Setting : Type 0 where
-  pub root : Manifest Condition
-  pub target : Triplet
-  pub host : Triplet
-  pub features : List (List ℕ)
-  pub defaults : Bool
-  pub off : List Instance
 
 -- the triplet of who has requirements
 abbrev pub triplet_of : Who → List ℕ
@@ -43,7 +22,7 @@ triplet_of (inst i) = i.triplet
 
 -- the marks of a triplet's instances, `native` among them where it is the host's
 abbrev pub marks_of : Setting → List ℕ → Marks
-marks_of s triplet = if bytes_eq triplet s.host.name then s.host.marks true else s.target.marks false
+marks_of s triplet = if bytes_eq triplet s.host.name then with_native s.host.marks else s.target.marks
 
 -- instances are the same where port and triplet are
 abbrev pub same_instance : Instance → Instance → Bool
@@ -78,11 +57,11 @@ dependencies_of m f = if bytes_eq f core then m.dependencies else if bytes_eq f 
 
 -- those that apply: their platform is judged under the marks of the one that depends, also where they are for the host
 abbrev pub applicable_of : Setting → Who → List ℕ → Manifest Condition → List (Dependency Condition)
-applicable_of s who f m = filter (λ d. d.platform (marks_of s (triplet_of who))) (dependencies_of m f)
+applicable_of s who f m = filter (λ d. holds d.platform (marks_of s (triplet_of who))) (dependencies_of m f)
 
 -- the names of the listed features that apply
 abbrev pub names_of : Marks → List (FeatureUse Condition) → List (List ℕ)
-names_of marks uses = map (λ u. u.name) (filter (λ u. u.platform marks) uses)
+names_of marks uses = map (λ u. u.name) (filter (λ u. holds u.platform marks) uses)
 
 -- the default features that apply, where the feature is `default`
 abbrev pub defaults_of : Setting → Who → List ℕ → Manifest Condition → List (List ℕ)

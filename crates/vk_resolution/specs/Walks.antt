@@ -2,8 +2,8 @@
 use Rattle.std.specs.Prelude.{◌≡◌, ◌<◌, ◌≤◌, ℕ, suc, true, List, [], ◌∷◌, ◌++◌, length}
 use Rattle.std.specs.List.{Contains}
 use Rattle.vk_spec.specs.Lists.{NoRepeats, IsWithin}
+use Rattle.vk_spec.specs.Settings.{Instance}
 use Rattle.vk_resolution.specs.Keys.{Ascends}
-use Rattle.vk_resolution.specs.Settings.{Instance}
 use Rattle.vk_resolution.specs.Planning.{instance_key, HasHeight, IsByHeight, has_way, IsOnCycle, IsCycle}
 
 -- what each instance depends on

@@ -8,7 +8,9 @@ pub mod Sinks
 pub mod Fronts
 pub mod Reading
 pub mod Versions
+pub mod Conditions
 pub mod Manifests
+pub mod Settings
 pub mod Pages
 pub mod Earlies
 pub mod Catalogues

@@ -1,9 +1,10 @@
 -- What is known of one port: its given version, its table, and its manifests.
-use Rattle.std.specs.Prelude.{ℕ, List, Option, option_map, Result}
-use Rattle.std.specs.List.{find}
+use Rattle.std.specs.Prelude.{◌||◌, ◌-◌, ℕ, Bool, true, false, List, [], ◌∷◌, length, drop, Option, option_map, Result, Ok, Err, bytes_eq, codes}
+use Rattle.std.specs.List.{find, list_any}
+use Rattle.std.specs.Cmp.Lexicographic.{pointwise}
 use Rattle.vk_spec.specs.Paths.{Path}
 use Rattle.vk_spec.specs.Versions.{Version, Ask, ask_of, same_ask}
-use Rattle.vk_spec.specs.Manifests.{Manifest}
+use Rattle.vk_spec.specs.Manifests.{Manifest, Override}
 
 -- the first of these in which a table and a manifest differ
 pub data Field : Type 0 where
@@ -53,3 +54,23 @@ version_in page a = option_map (λ r. r.version) (row_in page.rows a)
 -- its manifest, or what is wrong with it
 abbrev pub manifest_in : {C : Type 0} → Page C → Ask → Option (Result (Manifest C) Wrong)
 manifest_in page a = option_map (λ r. r.manifest) (row_in page.rows a)
+
+-- ---- pinned ports
+
+-- an override is for the port
+abbrev pub has_override : List Override → List ℕ → Bool
+has_override overrides p = list_any (λ o. bytes_eq o.name p) overrides
+
+-- the manifest in an overlay's folder for the port
+abbrev pub is_overlay_file : List ℕ → Path → Bool
+is_overlay_file p path = pointwise bytes_eq (drop (length path - 2) path) (p ∷ codes "vcpkg.json" ∷ [])
+
+-- an overlay has the port, or one of the root's overrides is for it; also where the given version failed
+abbrev pub is_pinned_by : List Override → List ℕ → Result Given Wrong → Bool
+is_pinned_by overrides p (Ok (overlay v)) = true
+is_pinned_by overrides p (Ok (override a)) = true
+is_pinned_by overrides p (Ok (baseline a)) = false
+is_pinned_by overrides p (Err (disagrees path field row manifest)) = true
+is_pinned_by overrides p (Err (bad_file path place word)) = is_overlay_file p path || has_override overrides p
+is_pinned_by overrides p (Err no_registry) = has_override overrides p
+is_pinned_by overrides p (Err no_baseline) = has_override overrides p

@@ -1,5 +1,5 @@
 -- Versions and asks as plain data.
-use Rattle.std.specs.Prelude.{◌&&◌, ◌==◌, ℕ, Bool, true, false, List, bytes_eq}
+use Rattle.std.specs.Prelude.{◌≡◌, ◌&&◌, ◌==◌, ℕ, Bool, true, false, List, bytes_eq}
 
 -- versions of different classes are never compared
 pub data Class : Type 0 where
@@ -41,3 +41,9 @@ same_class text text = true
 -- versions are the same where class, text and port-version are
 abbrev pub same_version : Version → Version → Bool
 same_version v w = same_class v.class w.class && same_ask (ask_of v) (ask_of w)
+
+-- what an order on versions has to be, where `at_most` says whether one is at most another: it need not compare any two
+pub record IsOrder (at_most : Version → Version → Bool) : Type 0 where
+  pub reflexive : (v : Version) → at_most v v ≡ true
+  pub transitive : (u v w : Version) → at_most u v ≡ true → at_most v w ≡ true → at_most u w ≡ true
+  pub antisymmetric : (v w : Version) → at_most v w ≡ true → at_most w v ≡ true → v ≡ w

@@ -1,11 +1,13 @@
 -- The last setting of a variable, as a loop finds it.
-use Rattle.std.proofs.Common.{◌≡◌, ◌+◌, ◌<◌, ◌++◌, ℕ, Bool, List, [], ◌∷◌, length, map, take, get_or, inl, inr, refl, ap, ◌∙◌}
-use Rattle.std.specs.Prelude.{if◌then◌else◌}
-use Rattle.std.specs.List.{filter}
+use Rattle.std.proofs.Common.{◌≡◌, ◌+◌, ◌<◌, ◌++◌, ℕ, Bool, true, false, List, [], ◌∷◌, length, map, take, get_or, inl, inr, refl, ap, sym, ◌∙◌}
+use Rattle.std.specs.Prelude.{codes, if◌then◌else◌}
+use Rattle.std.specs.List.{filter, flat_map}
 use Rattle.std.proofs.lemmas.Bool.{cases_Bool}
-use Rattle.std.proofs.lemmas.List.{take_more, map-append}
+use Rattle.std.proofs.lemmas.List.{take_more, map-append, append-nil, append_assoc}
+use Rattle.vk_spec.specs.Settings.{with_native}
 use Rattle.vk_triplet.specs.Lines.{Setting}
 use Rattle.vk_triplet.specs.TripletReadings.{last_value, sets, value_of}
+use Rattle.vk_triplet.specs.Marks.{architecture, table, marks_by, own_mark, marks_of}
 
 pub last_push : (front : List Setting) (s : Setting) → last_value (front ++ s ∷ []) ≡ s.value
 last_push [] s = refl
@@ -34,3 +36,10 @@ value_more view name vs i v within is =
     ap (λ l. value_of name (map view l)) (take_more vs i v within)
     ∙ ap (value_of name) (map-append view (take i vs) (get_or vs i v ∷ []))
     ∙ rw (← is) (value_push name (map view (take i vs)) (view v))
+
+-- `native` stands behind all other marks
+behind : (own rows mark : List (List ℕ)) → own ++ (rows ++ mark) ≡ (own ++ (rows ++ [])) ++ mark
+behind own rows mark = sym (append_assoc own rows mark) ∙ ap (λ (front : List (List ℕ)). (own ++ front) ++ mark) (sym (append-nil rows))
+
+pub native_last : (settings : List Setting) → marks_of settings true ≡ with_native (marks_of settings false)
+native_last settings = behind (own_mark (value_of architecture settings)) (flat_map (marks_by settings) table) (codes "native" ∷ [])

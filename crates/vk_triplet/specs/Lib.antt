@@ -2,6 +2,7 @@ pub mod Lines
 pub mod LineReadings
 pub mod TripletReadings
 pub mod Marks
+pub mod Meanings
 pub mod Views
 pub mod TripletViews
 pub mod RowViews

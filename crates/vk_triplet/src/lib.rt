@@ -10,7 +10,7 @@ mod triplets;
 
 pub use faults::TripletFault;
 pub use lines::line_rule;
-pub use tables::marks;
+pub use tables::{marks, native_rule};
 pub use triplets::{Setting1, Triplet, read, triplet_rule, value_rule};
 
 #[cfg(test)]

@@ -1,5 +1,7 @@
-ghost use Rattle.std.specs.Prelude.{◌≡◌, ◌++◌, map, OnOk, IfOk, if◌then◌else◌};
+ghost use Rattle.std.specs.Prelude.{◌≡◌, ◌++◌, List, true, false, map, OnOk, IfOk, if◌then◌else◌};
 ghost use Rattle.std.specs.List.{flat_map};
+ghost use Rattle.vk_spec.specs.Settings.{with_native};
+ghost use Rattle.vk_triplet.specs.Lines.{Setting};
 ghost use Rattle.vk_triplet.specs.TripletReadings.{sets, value_of};
 ghost use Rattle.vk_triplet.specs.TripletViews.{setting_view};
 ghost use Rattle.vk_triplet.specs.Marks.{marks_by, own_mark, native_mark, marks_of};
@@ -129,3 +131,8 @@ pub fn marks(alloc: Global, t: &Triplet, native: bool) -> Result<Marks, Memory>
     push_native(alloc, &mut names, native)?;
     Ok(Marks { names })
 }
+
+/// What holds for the host triplet is what its file says, and `native` besides.
+pub fn native_rule()
+    ensures { (settings : List Setting) → marks_of settings true ≡ with_native (marks_of settings false) }
+{}

@@ -4,8 +4,8 @@ mod NumberLemmas
 mod SuffixLemmas
 mod FaultLemmas
 mod DateLemmas
-mod OrderLemmas
+pub mod OrderLemmas
 mod SameTextLemmas
-mod TestLemmas
+pub mod TestLemmas
 mod ApartLemmas
 mod RefusedLemmas

@@ -122,23 +122,19 @@ date_parts v w p q e =
     let both = then_same _ _ (sym (date_rank v w p q) ∙ e) in
     (list_anti _ _ both.0, list_anti _ _ both.1)
 
--- of one rank: dates, or the same text
-abbrev pub IsTied : Version → Version → Type 0
-IsTied v w = (v.class ≡ plain.date) ⊎ (v.text ≡ w.text)
-
 pub data Ordered (v w : Version) : Type 0 where
   lower : v.class ≡ w.class → rank_cmp v w ≡ Less → Ordered v w
-  tied : v.class ≡ w.class → rank_cmp v w ≡ Equal → IsTied v w → v.port ≤ w.port → Ordered v w
+  tied : v.class ≡ w.class → rank_cmp v w ≡ Equal → v.text ≡ w.text → v.port ≤ w.port → Ordered v w
 
 pub ordered_from : (v w : Version) → AtMost v w → Ordered v w
 ordered_from v w (less_numbers b l) = lower (b.first ∙ sym b.second) (rw (b.first, b.second, less_to _ _ l) refl)
 ordered_from v w (lower_pre b n p) = lower (b.first ∙ sym b.second) (rw (b.first, b.second, n, list_self (numbers_of w)) p)
-ordered_from v w (same_dotted b n p t le) = tied (b.first ∙ sym b.second) (rw (b.first, b.second, n, p, list_self (numbers_of w), pre_self (pre_of w)) refl) (inr t) le
+ordered_from v w (same_dotted b n p t le) = tied (b.first ∙ sym b.second) (rw (b.first, b.second, n, p, list_self (numbers_of w), pre_self (pre_of w)) refl) t le
 ordered_from v w (earlier_day b l) = lower (b.first ∙ sym b.second) (date_rank v w b.first b.second ∙ then_first _ _ (less_to _ _ l))
 ordered_from v w (less_later b d l) = lower (b.first ∙ sym b.second) (date_rank v w b.first b.second ∙ then_by _ _ _ (same_list _ _ d) (less_to _ _ l))
-ordered_from v w (same_date b d l le) =
-    tied (b.first ∙ sym b.second) (date_rank v w b.first b.second ∙ then_by _ _ _ (same_list _ _ d) (same_list _ _ l)) (inl b.first) le
-ordered_from v w (same_string b t le) = tied (b.first ∙ sym b.second) (rw (b.first, b.second) refl) (inr t) le
+ordered_from v w (same_date b d l t le) =
+    tied (b.first ∙ sym b.second) (date_rank v w b.first b.second ∙ then_by _ _ _ (same_list _ _ d) (same_list _ _ l)) t le
+ordered_from v w (same_string b t le) = tied (b.first ∙ sym b.second) (rw (b.first, b.second) refl) t le
 
 from_lower : (c : Class) (v w : Version) → v.class ≡ c → w.class ≡ c → rank_cmp v w ≡ Less → AtMost v w
 from_lower plain.dot v w p q e =
@@ -153,20 +149,12 @@ from_lower plain.date v w p q e =
     ]
 from_lower plain.text v w p q e = (let clash = rw (p, q) at e in (cc))
 
-from_tied : (c : Class) (v w : Version) → v.class ≡ c → w.class ≡ c → rank_cmp v w ≡ Equal → IsTied v w → v.port ≤ w.port → AtMost v w
-from_tied plain.dot v w p q e t le =
-    elim t [
-      | inl date ↦ (let clash : plain.dot ≡ plain.date = sym p ∙ date in (cc))
-      | inr same ↦ same_dotted (record { first = p; second = q }) (rw same refl) (rw same refl) same le
-    ]
+from_tied : (c : Class) (v w : Version) → v.class ≡ c → w.class ≡ c → rank_cmp v w ≡ Equal → v.text ≡ w.text → v.port ≤ w.port → AtMost v w
+from_tied plain.dot v w p q e t le = same_dotted (record { first = p; second = q }) (rw t refl) (rw t refl) t le
 from_tied plain.date v w p q e t le =
     let both = date_parts v w p q e in
-    same_date (record { first = p; second = q }) both.0 both.1 le
-from_tied plain.text v w p q e t le =
-    elim t [
-      | inl date ↦ (let clash : plain.text ≡ plain.date = sym p ∙ date in (cc))
-      | inr same ↦ same_string (record { first = p; second = q }) same le
-    ]
+    same_date (record { first = p; second = q }) both.0 both.1 t le
+from_tied plain.text v w p q e t le = same_string (record { first = p; second = q }) t le
 
 pub ordered_to : (v w : Version) → Ordered v w → AtMost v w
 ordered_to v w (lower c r) = from_lower w.class v w c refl r
@@ -175,18 +163,13 @@ ordered_to v w (tied c r t le) = from_tied w.class v w c refl r t le
 -- ---- laws
 
 pub AtMost-refl : (v : Version) → AtMost v v
-AtMost-refl v = from_tied v.class v v refl refl (tied_itself rank_total v) (inr refl) (omega arith)
-
-tied_on : (u v w : Version) → u.class ≡ v.class → IsTied u v → IsTied v w → IsTied u w
-tied_on u v w c (inl date) t = inl date
-tied_on u v w c (inr same) (inl date) = inl (c ∙ date)
-tied_on u v w c (inr same) (inr then) = inr (same ∙ then)
+AtMost-refl v = from_tied v.class v v refl refl (tied_itself rank_total v) refl (omega arith)
 
 ordered_trans : (u v w : Version) → Ordered u v → Ordered v w → Ordered u w
 ordered_trans u v w (lower c r) (lower d s) = lower (c ∙ d) (rank_total.trans u v w r s)
 ordered_trans u v w (lower c r) (tied d s t le) = lower (c ∙ d) (sym (alike_right rank_total v w u s) ∙ r)
 ordered_trans u v w (tied c r t le) (lower d s) = lower (c ∙ d) (rank_total.congr u v w r ∙ s)
-ordered_trans u v w (tied c r t le) (tied d s t2 le2) = tied (c ∙ d) (rank_total.congr u v w r ∙ s) (tied_on u v w c t t2) (omega arith)
+ordered_trans u v w (tied c r t le) (tied d s t2 le2) = tied (c ∙ d) (rank_total.congr u v w r ∙ s) (t ∙ t2) (omega arith)
 
 pub AtMost-trans : (u v w : Version) → AtMost u v → AtMost v w → AtMost u w
 AtMost-trans u v w h k = ordered_to u w (ordered_trans u v w (ordered_from u v h) (ordered_from v w k))

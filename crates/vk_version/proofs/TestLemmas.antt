@@ -1,40 +1,33 @@
 -- The order and its test say the same, and what each answer of the test says.
-use Rattle.std.proofs.Common.{◌≡◌, ◌≤◌, ◌||◌, ◌↔◌, ℕ, true, false, List, Option, Some, None, inl, inr, refl, ap, sym, ◌∙◌, arith}
+use Rattle.std.proofs.Common.{◌≡◌, ◌≤◌, ◌↔◌, ℕ, true, false, List, Option, Some, None, inl, inr, refl, ap, sym, ◌∙◌, arith}
 use Rattle.std.specs.Prelude.{nat_eq}
 use Rattle.std.specs.declared.cmp.Ordering.{Ordering}
 use Rattle.std.specs.declared.cmp.Ordering.TheVariants.{Less, Equal, Greater}
 use Rattle.std.specs.Bool.{Decides}
 use Rattle.std.specs.Ordering.{nat_cmp, ordering_reverse, is_some_and, is_le}
 use Rattle.std.specs.Cmp.Lexicographic.{pointwise}
-use Rattle.std.proofs.lemmas.Bool.{cases_Bool, cases_order, or_cases, or_right}
+use Rattle.std.proofs.lemmas.Bool.{cases_Bool, cases_order}
 use Rattle.std.proofs.lemmas.Bool.Decides.{Decides-eqb, nat_tests}
 use Rattle.std.proofs.lemmas.Cmp.{tied_back}
 use Rattle.std.proofs.lemmas.Slice.Eq.{slice_eq-Decides}
-use Rattle.vk_spec.specs.Versions.{Class, Version, same_class}
+use Rattle.vk_spec.specs.Versions.{Class, Version, same_class, IsOrder}
 use Rattle.vk_spec.proofs.VersionLemmas.{class_decides}
-use Rattle.vk_spec.specs.Versions as plain
-use Rattle.vk_version.specs.Readings.{IsVersion}
-use Rattle.vk_version.specs.Orders.{AtMost, Below, Unrelated, rank_cmp, is_date, tie_cmp, unless_tied, order_of, at_most}
-use Rattle.vk_version.proofs.OrderLemmas.{Ordered, lower, tied, IsTied, ordered_from, ordered_to, rank_total, AtMost-refl, date_parts}
-use Rattle.vk_version.proofs.SameTextLemmas.{same_dates}
+use Rattle.vk_version.specs.Orders.{AtMost, Below, Unrelated, rank_cmp, tie_cmp, unless_tied, order_of, at_most}
+use Rattle.vk_version.proofs.OrderLemmas.{Ordered, lower, tied, ordered_from, ordered_to, rank_total, AtMost-refl, AtMost-trans}
 
 -- ---- antisymmetry
 
 same_version : (v w : Version) → v.class ≡ w.class → v.text ≡ w.text → v.port ≡ w.port → v ≡ w
 same_version v w c t p = λ i. record { class = c i; text = t i; port = p i }
 
-tied_text : (v w : Version) → IsVersion v → IsVersion w → v.class ≡ w.class → rank_cmp v w ≡ Equal → IsTied v w → v.text ≡ w.text
-tied_text v w iv iw c r (inl date) = let d = date_parts v w date (sym c ∙ date) r in same_dates v w iv iw date (sym c ∙ date) d.0 d.1
-tied_text v w iv iw c r (inr same) = same
+ordered_anti : (v w : Version) → Ordered v w → Ordered w v → v ≡ w
+ordered_anti v w (lower c r) (lower d s) = (let clash : Less ≡ Greater = sym r ∙ rank_total.antisymm v w ∙ ap ordering_reverse s in (cc))
+ordered_anti v w (lower c r) (tied d s t le) = (let clash : Less ≡ Equal = sym r ∙ rank_total.antisymm v w ∙ ap ordering_reverse s in (cc))
+ordered_anti v w (tied c r t le) (lower d s) = (let clash : Equal ≡ Greater = sym r ∙ rank_total.antisymm v w ∙ ap ordering_reverse s in (cc))
+ordered_anti v w (tied c r t le) (tied d s t2 le2) = same_version v w c t (omega arith)
 
-ordered_anti : (v w : Version) → IsVersion v → IsVersion w → Ordered v w → Ordered w v → v ≡ w
-ordered_anti v w iv iw (lower c r) (lower d s) = (let clash : Less ≡ Greater = sym r ∙ rank_total.antisymm v w ∙ ap ordering_reverse s in (cc))
-ordered_anti v w iv iw (lower c r) (tied d s t le) = (let clash : Less ≡ Equal = sym r ∙ rank_total.antisymm v w ∙ ap ordering_reverse s in (cc))
-ordered_anti v w iv iw (tied c r t le) (lower d s) = (let clash : Equal ≡ Greater = sym r ∙ rank_total.antisymm v w ∙ ap ordering_reverse s in (cc))
-ordered_anti v w iv iw (tied c r t le) (tied d s t2 le2) = same_version v w c (tied_text v w iv iw c r t) (omega arith)
-
-pub AtMost-antisym : (v w : Version) → IsVersion v → IsVersion w → AtMost v w → AtMost w v → v ≡ w
-AtMost-antisym v w iv iw h k = ordered_anti v w iv iw (ordered_from v w h) (ordered_from w v k)
+pub AtMost-antisym : (v w : Version) → AtMost v w → AtMost w v → v ≡ w
+AtMost-antisym v w h k = ordered_anti v w (ordered_from v w h) (ordered_from w v k)
 
 -- ---- what the test says
 
@@ -57,39 +50,21 @@ not_later : (v w : Version) → rank_cmp v w ≡ Greater → Ordered v w → ⊥
 not_later v w g (lower c r) = (let clash : Greater ≡ Less = sym g ∙ r in (cc))
 not_later v w g (tied c r t le) = (let clash : Greater ≡ Equal = sym g ∙ r in (cc))
 
-date_true : (c : Class) → is_date c ≡ true → c ≡ plain.date
-date_true plain.dot e = (cc)
-date_true plain.date e = refl
-date_true plain.text e = (cc)
-
 texts_decide : (xs ys : List ℕ) → Decides (pointwise nat_eq xs ys) (xs ≡ ys)
 texts_decide xs ys = slice_eq-Decides Decides-eqb xs ys (pointwise nat_eq xs ys) refl
 
-tied_true : (v w : Version) → (is_date v.class || pointwise nat_eq v.text w.text) ≡ true → IsTied v w
-tied_true v w e =
-    elim (or_cases (is_date v.class) (pointwise nat_eq v.text w.text) e) [
-      | inl date ↦ inl (date_true v.class date)
-      | inr same ↦ inr ((texts_decide v.text w.text).0 same)
-    ]
+tied_false : (v w : Version) → pointwise nat_eq v.text w.text ≡ false → v.text ≡ w.text → ⊥
+tied_false v w e same = (let clash : true ≡ false = sym ((texts_decide v.text w.text).1 same) ∙ e in (cc))
 
-tied_false : (v w : Version) → (is_date v.class || pointwise nat_eq v.text w.text) ≡ false → IsTied v w → ⊥
-tied_false v w e (inl date) = (let yes : (is_date v.class || pointwise nat_eq v.text w.text) ≡ true = rw date refl in let clash : true ≡ false = sym yes ∙ e in (cc))
-tied_false v w e (inr same) =
-    (let yes = or_right (is_date v.class) (pointwise nat_eq v.text w.text) ((texts_decide v.text w.text).1 same) in let clash : true ≡ false = sym yes ∙ e in (cc))
-
-tied_back_too : (v w : Version) → v.class ≡ w.class → IsTied v w → IsTied w v
-tied_back_too v w c (inl date) = inl (sym c ∙ date)
-tied_back_too v w c (inr same) = inr (sym same)
-
--- ordered first, of one rank: tied, and the port-version isn't greater
-pub of_one_rank : (v w : Version) → rank_cmp v w ≡ Equal → Ordered v w → IsTied v w × (v.port ≤ w.port)
+-- ordered first, of one rank: the same text, and the port-version isn't greater
+pub of_one_rank : (v w : Version) → rank_cmp v w ≡ Equal → Ordered v w → (v.text ≡ w.text) × (v.port ≤ w.port)
 of_one_rank v w r (lower c s) = (let clash : Equal ≡ Less = sym r ∙ s in (cc))
 of_one_rank v w r (tied c s t le) = (t, le)
 
-says_tied : (v w : Version) → v.class ≡ w.class → rank_cmp v w ≡ Equal → IsTied v w → Says v w (Some (nat_cmp v.port w.port))
+says_tied : (v w : Version) → v.class ≡ w.class → rank_cmp v w ≡ Equal → v.text ≡ w.text → Says v w (Some (nat_cmp v.port w.port))
 says_tied v w c r t =
     let back = tied_back rank_total v w r in
-    let t_back = tied_back_too v w c t in
+    let t_back = sym t in
     elim (cases_order v.port w.port) [
       | inl same ↦
           let e : nat_cmp v.port w.port ≡ Equal = grind (arith, nat_tests) in
@@ -106,13 +81,13 @@ says_tied v w c r t =
 
 says_tie : (v w : Version) → v.class ≡ w.class → rank_cmp v w ≡ Equal → Says v w (tie_cmp v w)
 says_tie v w c r =
-    elim (cases_Bool (is_date v.class || pointwise nat_eq v.text w.text)) [
-      | inl tie ↦ rw tie (says_tied v w c r (tied_true v w tie))
+    elim (cases_Bool (pointwise nat_eq v.text w.text)) [
+      | inl tie ↦ rw tie (says_tied v w c r ((texts_decide v.text w.text).0 tie))
       | inr none ↦
           let back = tied_back rank_total v w r in
           rw none (
             (λ h. tied_false v w none (of_one_rank v w r (ordered_from v w h)).0),
-            (λ h. tied_false v w none (tied_back_too w v (sym c) (of_one_rank w v back (ordered_from w v h)).0)),
+            (λ h. tied_false v w none (sym (of_one_rank w v back (ordered_from w v h)).0)),
           )
     ]
 
@@ -156,31 +131,40 @@ pub record Answers (v w : Version) (answer : Option Ordering) : Type 0 where
   pub greater : (answer ≡ Some Greater) ↔ Below w v
   pub none : (answer ≡ None) ↔ Unrelated v w
 
-answers_says : (v w : Version) → IsVersion v → IsVersion w → (answer : Option Ordering) → Says v w answer → Answers v w answer
-answers_says v w iv iw (Some Less) s = record {
+answers_says : (v w : Version) (answer : Option Ordering) → Says v w answer → Answers v w answer
+answers_says v w (Some Less) s = record {
   less = ((λ e. (s.0, (λ same. s.1 (AtMost-same w v (sym same))))), (λ b. refl));
   equal = ((λ e. (cc)), (λ same. absurd (s.1 (AtMost-same w v (sym same)))));
   greater = ((λ e. (cc)), (λ b. absurd (s.1 b.0)));
   none = ((λ e. (cc)), (λ u. absurd (u.0 s.0)));
 }
-answers_says v w iv iw (Some Equal) s = record {
-  less = ((λ e. (cc)), (λ b. absurd (b.1 (AtMost-antisym v w iv iw s.0 s.1))));
-  equal = ((λ e. AtMost-antisym v w iv iw s.0 s.1), (λ same. refl));
-  greater = ((λ e. (cc)), (λ b. absurd (b.1 (AtMost-antisym w v iw iv s.1 s.0))));
+answers_says v w (Some Equal) s = record {
+  less = ((λ e. (cc)), (λ b. absurd (b.1 (AtMost-antisym v w s.0 s.1))));
+  equal = ((λ e. AtMost-antisym v w s.0 s.1), (λ same. refl));
+  greater = ((λ e. (cc)), (λ b. absurd (b.1 (AtMost-antisym w v s.1 s.0))));
   none = ((λ e. (cc)), (λ u. absurd (u.0 s.0)));
 }
-answers_says v w iv iw (Some Greater) s = record {
+answers_says v w (Some Greater) s = record {
   less = ((λ e. (cc)), (λ b. absurd (s.0 b.0)));
   equal = ((λ e. (cc)), (λ same. absurd (s.0 (AtMost-same v w same))));
   greater = ((λ e. (s.1, (λ same. s.0 (AtMost-same v w (sym same))))), (λ b. refl));
   none = ((λ e. (cc)), (λ u. absurd (u.1 s.1)));
 }
-answers_says v w iv iw None s = record {
+answers_says v w None s = record {
   less = ((λ e. (cc)), (λ b. absurd (s.0 b.0)));
   equal = ((λ e. (cc)), (λ same. absurd (s.0 (AtMost-same v w same))));
   greater = ((λ e. (cc)), (λ b. absurd (s.1 b.0)));
   none = ((λ e. s), (λ u. refl));
 }
 
-pub answers : (v w : Version) → IsVersion v → IsVersion w → (answer : Option Ordering) → answer ≡ order_of v w → Answers v w answer
-answers v w iv iw answer e = rw e (answers_says v w iv iw (order_of v w) (says v w))
+pub answers : (v w : Version) (answer : Option Ordering) → answer ≡ order_of v w → Answers v w answer
+answers v w answer e = rw e (answers_says v w (order_of v w) (says v w))
+
+-- ---- an order on all plain versions
+
+pub at_most-IsOrder : IsOrder at_most
+at_most-IsOrder = record {
+  reflexive = λ v. (at_most_is v v).1 (AtMost-refl v);
+  transitive = λ u v w one two. (at_most_is u w).1 (AtMost-trans u v w ((at_most_is u v).0 one) ((at_most_is v w).0 two));
+  antisymmetric = λ v w one two. AtMost-antisym v w ((at_most_is v w).0 one) ((at_most_is w v).0 two);
+}

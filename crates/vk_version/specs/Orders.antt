@@ -1,5 +1,5 @@
 -- The partial order on versions.
-use Rattle.std.specs.Prelude.{◌≡◌, ◌<◌, ◌≤◌, ◌++◌, ◌||◌, ℕ, Bool, true, false, List, [], ◌∷◌, Option, Some, None, nat_eq, if◌then◌else◌}
+use Rattle.std.specs.Prelude.{◌≡◌, ◌<◌, ◌≤◌, ◌++◌, ℕ, Bool, List, [], ◌∷◌, Option, Some, None, nat_eq, if◌then◌else◌}
 use Rattle.std.specs.declared.cmp.Ordering.{Ordering}
 use Rattle.std.specs.declared.cmp.Ordering.TheVariants.{Less, Equal, Greater}
 use Rattle.std.specs.Ordering.{nat_cmp, ordering_then, is_some_and, is_le}
@@ -43,8 +43,8 @@ pub data AtMost (v w : Version) : Type 0 where
   earlier_day : BothAre plain.date v w → IsLess (day_of v.text) (day_of w.text) → AtMost v w
   -- the same day, and the numbers after it are less
   less_later : BothAre plain.date v w → day_of v.text ≡ day_of w.text → IsLess (later_numbers v.text) (later_numbers w.text) → AtMost v w
-  -- the same day and numbers, and the port-version isn't greater
-  same_date : BothAre plain.date v w → day_of v.text ≡ day_of w.text → later_numbers v.text ≡ later_numbers w.text → v.port ≤ w.port → AtMost v w
+  -- the same day, numbers and text, and the port-version isn't greater; readable dates of the same day and numbers have the same text
+  same_date : BothAre plain.date v w → day_of v.text ≡ day_of w.text → later_numbers v.text ≡ later_numbers w.text → v.text ≡ w.text → v.port ≤ w.port → AtMost v w
   -- any texts: they are the same, and the port-version isn't greater
   same_string : BothAre plain.text v w → v.text ≡ w.text → v.port ≤ w.port → AtMost v w
 
@@ -74,14 +74,9 @@ pre_by plain.text text = []
 abbrev pub rank_cmp : Version → Version → Ordering
 rank_cmp v w = ordering_then (slice_cmp nat_cmp (numbers_by v.class v.text) (numbers_by w.class w.text)) (pre_cmp (pre_by v.class v.text) (pre_by w.class w.text))
 
-abbrev pub is_date : Class → Bool
-is_date plain.dot = false
-is_date plain.date = true
-is_date plain.text = false
-
--- of one rank: dates by port-version, others where they have the same text
+-- of one rank: by port-version, where they have the same text
 abbrev pub tie_cmp : Version → Version → Option Ordering
-tie_cmp v w = if is_date v.class || pointwise nat_eq v.text w.text then Some (nat_cmp v.port w.port) else None
+tie_cmp v w = if pointwise nat_eq v.text w.text then Some (nat_cmp v.port w.port) else None
 
 -- the order, unless it is a tie
 abbrev pub unless_tied : Ordering → Option Ordering → Option Ordering

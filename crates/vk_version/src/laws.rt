@@ -5,7 +5,7 @@ ghost use Rattle.std.specs.List.{Contains};
 ghost use Rattle.semver.specs.Order.{parts};
 ghost use Rattle.semver.specs.Parse.{Parts, version_parts};
 ghost use Rattle.jiff.specs.Words.{IsDate};
-ghost use Rattle.vk_spec.specs.Versions.{Version};
+ghost use Rattle.vk_spec.specs.Versions.{IsOrder, Version};
 ghost use Rattle.vk_spec.specs.Versions as plain;
 ghost use Rattle.vk_version.specs.Schemes as the;
 ghost use Rattle.vk_version.specs.Texts.{HasSuffix, IsPadded, core_of, day_of, has_day, is_number, later_numbers, later_parts, number_of, numbers_in, pre_in, suffix_of};
@@ -22,9 +22,15 @@ pub fn transitive()
     ensures { (u v w : Version) → AtMost u v → AtMost v w → AtMost u w }
 {}
 
-/// Two versions that are at most each other are the same: class, text and port-version.
+/// Two versions that are at most each other are the same: class, text and port-version. It holds
+/// of all plain data, whether or not a text can be read.
 pub fn antisymmetric()
-    ensures { (v w : Version) → IsVersion v → IsVersion w → AtMost v w → AtMost w v → v ≡ w }
+    ensures { (v w : Version) → AtMost v w → AtMost w v → v ≡ w }
+{}
+
+/// The test is an order on all plain versions, as the laws of resolution ask.
+pub fn tests_are_an_order()
+    ensures { IsOrder at_most }
 {}
 
 /// The test says what the relation says.
@@ -43,9 +49,11 @@ pub fn texts_apart()
     ensures strings { (v w : Version) → BothAre plain.text v w → v.text ≢ w.text → Unrelated v w }
 {}
 
-/// Two dates with the same day and numbers have the same text, so no two dates are unrelated.
+/// Two readable dates with the same day and numbers have the same text, so they are ordered by
+/// their port-versions, and no two readable dates are unrelated.
 pub fn dates_together()
-    ensures related { (v w : Version) → BothAre plain.date v w → Unrelated v w → ⊥ }
+    ensures related { (v w : Version) → IsVersion v → IsVersion w → BothAre plain.date v w → Unrelated v w → ⊥ }
+    ensures ports { (v w : Version) → IsVersion v → IsVersion w → BothAre plain.date v w → day_of v.text ≡ day_of w.text → later_numbers v.text ≡ later_numbers w.text → v.port ≤ w.port → AtMost v w }
     ensures texts { (v w : Version) → IsVersion v → IsVersion w → BothAre plain.date v w → day_of v.text ≡ day_of w.text → later_numbers v.text ≡ later_numbers w.text → v.text ≡ w.text }
 {}
 

@@ -99,11 +99,11 @@ fn rank(a: &Version, b: &Version) -> Ordering
     a.numbers.cmp(&b.numbers).then_with(|| a.pre.cmp(&b.pre))
 }
 
-/// How versions of one rank compare: dates have the same text then, and others may have another.
+/// How versions of one rank compare: by port-version, where they have the same text.
 fn tie(a: &Version, b: &Version) -> Option<Ordering>
     ensures { result ≡ tie_cmp a.now b.now }
 {
-    if a.class == Class::Date || a.ask.text == b.ask.text {
+    if a.ask.text == b.ask.text {
         Some(a.ask.port.cmp(&b.ask.port))
     } else {
         None
@@ -112,8 +112,7 @@ fn tie(a: &Version, b: &Version) -> Option<Ordering>
 
 /// Compares by class, then by rank, then within a tie.
 fn compare(a: &Version, b: &Version) -> Option<Ordering>
-    ensures value { result ≡ order_of a.now b.now }
-    ensures versions { IsVersion a.now × IsVersion b.now }
+    ensures { result ≡ order_of a.now b.now }
 {
     if a.class != b.class {
         return None;

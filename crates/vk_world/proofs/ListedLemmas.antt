@@ -11,7 +11,7 @@ use Rattle.vk_spec.specs.Pages.{row_in, version_in, manifest_in}
 use Rattle.vk_spec.specs.Pages.{Row as PageRow}
 use Rattle.vk_spec.proofs.ListLemmas.{contains_first, contains_later, find_by}
 use Rattle.vk_spec.proofs.VersionLemmas.{asks_equal, ask_itself, version_decides}
-use Rattle.vk_expr.specs.Trees.{Tree}
+use Rattle.vk_spec.specs.Conditions.{Condition}
 use Rattle.vk_registry.specs.Tables.{Row, ask_in, asks_of, IsRowAt, HasNoRow}
 use Rattle.vk_pages.specs.Homes.{Home, in_overlay, in_registry}
 use Rattle.vk_pages.specs.Pages.{row_folder, row_manifest, page_row, page_at}
@@ -34,7 +34,7 @@ given_on_page port files (Err wrong) = refl
 given_on_page port files (Ok (in_overlay folder v m)) = refl
 given_on_page port files (Ok (in_registry given registry rows)) = refl
 
-own_row : (folder : Path) (v : Version) (m : Manifest Tree) (b : Bool) → option_map (λ (r : PageRow Tree). r.version) (cond b (Some (record { version = v; manifest = Ok m })) None) ≡ option_map (λ (l : Version × Path). l.0) (if b then Some (v, folder) else None)
+own_row : (folder : Path) (v : Version) (m : Manifest Condition) (b : Bool) → option_map (λ (r : PageRow Condition). r.version) (cond b (Some (record { version = v; manifest = Ok m })) None) ≡ option_map (λ (l : Version × Path). l.0) (if b then Some (v, folder) else None)
 own_row folder v m true = refl
 own_row folder v m false = refl
 
@@ -42,15 +42,15 @@ pub version_on_page : (port : List ℕ) (files : Files) (found : FoundHome) (ask
 version_on_page port files (Err wrong) ask = refl
 version_on_page port files (Ok (in_overlay folder v m)) ask = own_row folder v m (same_ask (ask_of v) ask)
 version_on_page port files (Ok (in_registry given registry rows)) ask =
-    ap (option_map (λ (r : PageRow Tree). r.version)) (find_by (page_row port registry files) (λ r. same_ask (ask_of r.version) ask) rows)
+    ap (option_map (λ (r : PageRow Condition). r.version)) (find_by (page_row port registry files) (λ r. same_ask (ask_of r.version) ask) rows)
     ∙ twice (page_row port registry files) (λ r. r.version) (row_meant rows ask)
     ∙ sym (twice (row_listed registry) (λ l. l.0) (row_meant rows ask))
 
-own_manifest : (folder : Path) (v : Version) (m : Manifest Tree) (b : Bool) → IsSome {T = Version × Path} (if b then Some (v, folder) else None) → Some (Ok m) ≡ option_map (λ (r : PageRow Tree). r.manifest) (cond b (Some (record { version = v; manifest = Ok m })) None)
+own_manifest : (folder : Path) (v : Version) (m : Manifest Condition) (b : Bool) → IsSome {T = Version × Path} (if b then Some (v, folder) else None) → Some (Ok m) ≡ option_map (λ (r : PageRow Condition). r.manifest) (cond b (Some (record { version = v; manifest = Ok m })) None)
 own_manifest folder v m true some = refl
 own_manifest folder v m false some = (cc)
 
-pub manifest_on_overlay : (port : List ℕ) (files : Files) (folder : Path) (v : Version) (m : Manifest Tree) (ask : Ask) → IsSome (own_listed folder v ask) → Some (Ok m) ≡ manifest_in (page_at port files (Ok (in_overlay folder v m))) ask
+pub manifest_on_overlay : (port : List ℕ) (files : Files) (folder : Path) (v : Version) (m : Manifest Condition) (ask : Ask) → IsSome (own_listed folder v ask) → Some (Ok m) ≡ manifest_in (page_at port files (Ok (in_overlay folder v m))) ask
 manifest_on_overlay port files folder v m ask = own_manifest folder v m (same_ask (ask_of v) ask)
 
 pub manifest_on_table : (port : List ℕ) (registry : Path) (files : Files) (rows : List Row) (ask : Ask) → option_map (λ r. r.manifest) (row_in (map (page_row port registry files) rows) ask) ≡ option_map (λ r. row_manifest port registry r files) (row_meant rows ask)
@@ -145,5 +145,5 @@ folder_of_listed (in_overlay folder w m) ask l e = own_folder folder w l (same_a
 folder_of_listed (in_registry given registry rows) ask l e = table_folder registry rows ask l e
 
 -- an overlay's own version stands in its folder
-pub folder_of_own : (folder : Path) (v : Version) (m : Manifest Tree) → version_folder (in_overlay folder v m) v ≡ Some folder
+pub folder_of_own : (folder : Path) (v : Version) (m : Manifest Condition) → version_folder (in_overlay folder v m) v ≡ Some folder
 folder_of_own folder v m = ap (λ b. if b then Some folder else None) (own_version v)

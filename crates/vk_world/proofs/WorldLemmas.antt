@@ -11,7 +11,7 @@ use Rattle.vk_spec.specs.Calls.{is_failed}
 use Rattle.vk_spec.specs.States.{Told, State, with_asked}
 use Rattle.vk_spec.specs.Pages.{Page}
 use Rattle.vk_spec.specs.Catalogues.{ArePages, OnPage, OnlyAsked, Asks}
-use Rattle.vk_expr.specs.Trees.{Tree}
+use Rattle.vk_spec.specs.Conditions.{Condition}
 use Rattle.vk_catalogue.specs.Views.{cat_failed, seen_by}
 use Rattle.vk_catalogue.specs.declared.stops.CatStop.{CatStop}
 use Rattle.vk_files.specs.Kept.{Kept, paths_of, IsOf, IsSeen, ReadOnce}
@@ -126,7 +126,7 @@ only_asked before after {s = s} {s' = s'} sound stays l =
 
 -- ---- its answers are what the pages say
 
-pub asks_learned : {X A : Type 0} {answer : Result X CatStop} {Says : Files → X → Type 0} (before after : Library) {s s' : State} (view : X → A) (port : List ℕ) (PageSays : Page Tree → A → Type 0)
+pub asks_learned : {X A : Type 0} {answer : Result X CatStop} {Says : Files → X → Type 0} (before after : Library) {s s' : State} (view : X → A) (port : List ℕ) (PageSays : Page Condition → A → Type 0)
     → ((start : Start) (files : Files) → ArePages (page_of start files)) → IsSound s before → Stays before after
     → ((t : Told) → s.told ≡ Some t → (x : X) → Says t.files x → PageSays (page_of (start_of before) t.files port) (view x))
     → Learns answer Says (IsRight before) (IsRight after) (held before.files s) (held after.files s') → Asks port PageSays (seen_by view answer) (world_state s (learned_view before)) (world_state s' (learned_view after))
@@ -147,7 +147,7 @@ asks_learned {X} {answer = answer} {Says = Says} before after {s = s} {s' = s'} 
     told (Ok x) (Some t) is content old = page_says t is x (content old.files old.right).1
 
 -- what holds on a port's page holds of the page of the files
-pub on_page : (port : List ℕ) (P : Page Tree → Type 0) (lib : Library) (s : State) (t : Told) → s.told ≡ Some t → OnPage port P (world_state s (learned_view lib)) → P (page_of (start_of lib) t.files port)
+pub on_page : (port : List ℕ) (P : Page Condition → Type 0) (lib : Library) (s : State) (t : Told) → s.told ≡ Some t → OnPage port P (world_state s (learned_view lib)) → P (page_of (start_of lib) t.files port)
 on_page port P lib s t is holds = subst (λ (o : Option Told). IfSome (option_map (λ u. page_of (start_of lib) u.files) o) (λ p. P (p port))) is holds
 
 -- ---- the beginning and the end

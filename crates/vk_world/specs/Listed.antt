@@ -6,7 +6,7 @@ use Rattle.vk_spec.specs.Reading.{◌>>=◌}
 use Rattle.vk_spec.specs.Versions.{Version, Ask, ask_of, same_ask}
 use Rattle.vk_spec.specs.Manifests.{Manifest}
 use Rattle.vk_spec.specs.Pages.{Given, overlay, Wrong}
-use Rattle.vk_expr.specs.Trees.{Tree}
+use Rattle.vk_spec.specs.Conditions.{Condition}
 use Rattle.vk_registry.specs.Tables.{Row}
 use Rattle.vk_pages.specs.Agreement.{agreeing}
 use Rattle.vk_pages.specs.Homes.{Home, in_overlay, in_registry}
@@ -47,5 +47,5 @@ listed_in (Ok home) ask = listed_at home ask
 listed_in (Err wrong) ask = None
 
 -- the manifest that was found at a path, if it is that of the port and the version
-abbrev pub agreed : Path → List ℕ → Version → Result (Manifest Tree) Wrong → Result (Manifest Tree) Wrong
+abbrev pub agreed : Path → List ℕ → Version → Result (Manifest Condition) Wrong → Result (Manifest Condition) Wrong
 agreed path port v found = found >>= λ m. agreeing path port v m >>= λ same. Ok m

@@ -5,7 +5,7 @@ use Rattle.vk_spec.specs.Paths.{Path}
 use Rattle.vk_spec.specs.Files.{Files}
 use Rattle.vk_spec.specs.Manifests.{Manifest}
 use Rattle.vk_spec.specs.Pages as plain
-use Rattle.vk_expr.specs.Trees.{Tree}
+use Rattle.vk_spec.specs.Conditions.{Condition}
 use Rattle.vk_catalogue.specs.Views.{manifest_said}
 use Rattle.vk_files.specs.Notes.{AreRight}
 use Rattle.vk_files.specs.Views.{same_path}
@@ -14,7 +14,7 @@ use Rattle.vk_world.specs.declared.manifests.Manifests.{Manifests}
 
 -- a manifest, or what is wrong with its file
 abbrev pub FoundManifest : Type 0
-FoundManifest = Result (Manifest Tree) plain.Wrong
+FoundManifest = Result (Manifest Condition) plain.Wrong
 
 -- the paths, each with what was found there, in the order in which they were asked for
 abbrev pub manifests_in : Manifests → List (Path × FoundManifest)

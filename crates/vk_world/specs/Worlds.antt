@@ -5,7 +5,7 @@ use Rattle.vk_spec.specs.Files.{Files}
 use Rattle.vk_spec.specs.States.{Told, State, with_asked}
 use Rattle.vk_spec.specs.Versions.{Version}
 use Rattle.vk_spec.specs.Catalogues.{Pages, Origin, CatalogueState}
-use Rattle.vk_expr.specs.Trees.{Tree}
+use Rattle.vk_spec.specs.Conditions.{Condition}
 use Rattle.vk_files.specs.Kept.{Kept, IsOf, paths_of}
 use Rattle.vk_files.specs.Views.{kept_of}
 use Rattle.vk_opening.specs.Starts.{Start}
@@ -56,10 +56,10 @@ abbrev pub origin_of : Learned → State → Origin
 origin_of l tree = record { files = option_map (λ t. t.files) tree.told; log = option_map (λ t. log_before (asked_since l) t.log) tree.told; changes = tree.changes }
 
 -- the pages are those of the files
-abbrev pub pages_in : Learned → Option Told → Option (Pages Tree)
+abbrev pub pages_in : Learned → Option Told → Option (Pages Condition)
 pages_in l told = option_map (λ t. page_of (start_in l) t.files) told
 
-abbrev pub world_state : State → Learned → CatalogueState Tree
+abbrev pub world_state : State → Learned → CatalogueState Condition
 world_state tree l = record {
   pages = pages_in l tree.told;
   origin = origin_of l tree;
