@@ -109,7 +109,7 @@ module _ (inputs : Inputs) (facts chosen : List Fact) (is_planned : IsPlanned in
 
   pub instance_need : (i : Instance) → Contains (instances_of chosen) i → NeedOf i
   instance_need i h =
-      let r = contains-flat_map needed_in chosen i (contains-in_order instance_key instance_key-IsKey (flat_map needed_in chosen) i h) in
+      let r = contains-flat_map needed_in chosen i (contains-in_order instance_key (flat_map needed_in chosen) i h) in
       need_of i r.0 r.1 r.2
 
   pub need_instance : (i : Instance) (f : List ℕ) → Contains chosen (need (inst i) f) → Contains (instances_of chosen) i
@@ -222,7 +222,7 @@ module _ (inputs : Inputs) (order : IsOrder inputs.at_most) (rows : OverlaysHave
         | inl distinct ↦ (let short : length (i ∷ c.0) ≤ n = no_longer (i ∷ c.0) (instances_of chosen) distinct in_list in absurd (omega arith))
         | inr repeat ↦ (
             let r = repeat_cycle (targets_of inputs chosen) i c.0 c.2 repeat in
-            cycle_exists (targets_of inputs chosen) (instances_of chosen) (in_order-ascends instance_key instance_key-IsKey (flat_map needed_in chosen)) edges r.0 (in_list r.0 r.1) r.2
+            cycle_exists (targets_of inputs chosen) (instances_of chosen) (in_order-ascends instance_key (flat_map needed_in chosen)) edges r.0 (in_list r.0 r.1) r.2
             )
       ]
 

@@ -1,15 +1,16 @@
 -- Facts, instances and troubles are known by their keys.
-use Rattle.std.proofs.Common.{◌≡◌, refl, ap}
+use Rattle.std.proofs.Common.{◌≡◌, true, List, refl, ap, sym, subst}
 use Rattle.std.specs.Prelude.{Decides, bytes_eq}
+use Rattle.std.specs.List.{Contains}
 use Rattle.std.proofs.lemmas.Slice.Eq.{bytes_eq-Decides}
 use Rattle.vk_spec.specs.Pages.{Field, name, class, text, port}
 use Rattle.vk_spec.specs.Settings.{Instance}
 use Rattle.vk_resolution.specs.Keys.{IsKey}
 use Rattle.vk_resolution.specs.Settings.{root, inst, same_instance}
-use Rattle.vk_resolution.specs.Asking.{Fact, need, floor, visit, fact_key, same_fact}
+use Rattle.vk_resolution.specs.Asking.{Fact, need, floor, visit, fact_key, same_fact, is_among}
 use Rattle.vk_resolution.specs.Planning.{instance_key, feature_key}
 use Rattle.vk_resolution.specs.Faults.{Trouble, lacks_registry, lacks_baseline, unreadable, lacks_version, differs, trouble_key, same_trouble, field_number}
-use Rattle.vk_resolution.proofs.Members.{both_true, and_true}
+use Rattle.vk_resolution.proofs.Members.{both_true, and_true, any_contains, contains_any}
 use Rattle.vk_resolution.proofs.Orders.{same_key-Decides}
 
 pub fact_key-IsKey : IsKey fact_key
@@ -50,6 +51,13 @@ fact_key-IsKey (visit i f a) (visit j g b) e =
 
 pub same_fact-Decides : (x y : Fact) → Decides (same_fact x y) (x ≡ y)
 same_fact-Decides x y = let d = same_key-Decides (fact_key x) (fact_key y) in ((λ e. fact_key-IsKey x y (d.0 e)), λ e. d.1 (ap fact_key e))
+
+-- a fact is among facts where they contain it
+pub among_contains : (facts : List Fact) (x : Fact) → is_among facts x ≡ true → Contains facts x
+among_contains facts x e = let r = any_contains (same_fact x) facts e in subst (Contains facts) (sym ((same_fact-Decides x r.0).0 r.2)) r.1
+
+pub contains_among : (facts : List Fact) (x : Fact) → Contains facts x → is_among facts x ≡ true
+contains_among facts x h = contains_any (same_fact x) facts x h ((same_fact-Decides x x).1 refl)
 
 pub instance_key-IsKey : IsKey instance_key
 instance_key-IsKey i j e =

@@ -12,15 +12,15 @@ use Rattle.vk_spec.specs.Settings.{Instance}
 use Rattle.vk_resolution.specs.Keys.{in_order}
 use Rattle.vk_resolution.specs.Settings.{Who, root, inst, marks_of, triplet_of, feature_of}
 use Rattle.vk_resolution.specs.Givens.{manifest_at, is_pinned}
-use Rattle.vk_resolution.specs.Asking.{Fact, need, floor, visit}
+use Rattle.vk_resolution.specs.Asking.{Fact, need, floor, visit, same_fact, is_among}
 use Rattle.vk_resolution.specs.Consequences.{Inputs}
 use Rattle.vk_resolution.specs.Choices.{floors_of, chosen_of, version_key, is_top, tops_of}
 use Rattle.vk_resolution.specs.Reasons.{first_line, line_of, fact_at}
-use Rattle.vk_resolution.specs.Faults.{Trouble, trouble_key, same_trouble, troubles_of, told_of, Fault, troubled, conflicts, lacks_feature, isnt_supported, first_faults_of, conflict_of, conflicts_of, ports_in, feature_faults, judged, judged_at, judged_chosen, judged_need, third_faults_of}
+use Rattle.vk_resolution.specs.Faults.{Trouble, trouble_key, same_trouble, troubles_of, told_of, Fault, troubled, conflicts, lacks_feature, isnt_supported, first_faults_of, judged_on_line, conflict_of, conflicts_of, ports_in, feature_faults, judged, judged_at, judged_chosen, judged_need, third_faults_of}
 use Rattle.vk_resolution.specs.FaultLaws.{IsTold, FirstLinesMean, IsConflictLine, SecondLinesMean, IsJudgedBy, by_root, by_choice, IsWrongWith, no_such_feature, no_support, no_feature_support, IsJudged, ThirdLinesMean}
-use Rattle.vk_resolution.proofs.Members.{true_false, no_is_false, any_contains, contains_any, contains_map, map_contains, contains_single, option_contains, contains_option, contains_filter}
+use Rattle.vk_resolution.proofs.Members.{true_false, no_is_false, any_contains, contains_any, contains_map, map_contains, contains_single, option_contains, contains_option, contains_filter, filter_contains}
 use Rattle.vk_resolution.proofs.Orders.{contains-in_order, in_order-contains}
-use Rattle.vk_resolution.proofs.FactLemmas.{trouble_key-IsKey, same_trouble-Decides}
+use Rattle.vk_resolution.proofs.FactLemmas.{trouble_key-IsKey, same_trouble-Decides, same_fact-Decides, among_contains, contains_among}
 use Rattle.vk_resolution.proofs.Soundness.{map_some, then_some}
 use Rattle.vk_resolution.proofs.ChoiceLemmas.{line_exists, version_key-IsKey}
 
@@ -114,7 +114,7 @@ module _ (inputs : Inputs) (facts : List Fact) (p : List ℕ) (fault : Fault) wh
       let n = then_some (λ n. option_map (conflicts p v n w) (line_of facts (floor p (ask_of w)))) (line_of facts (floor p (ask_of v))) fault told in
       let m = map_some (conflicts p v n.0 w) (line_of facts (floor p (ask_of w))) fault n.2 in
       let floors : List Version = floors_of inputs facts p in
-      let back : (u : Version) → Contains (v ∷ w ∷ more) u → Contains floors u × (is_top inputs floors u ≡ true) = λ u at. contains_filter (is_top inputs floors) floors u (contains-in_order version_key version_key-IsKey (filter (is_top inputs floors) floors) u (subst (λ l. Contains l u) (sym e) at)) in
+      let back : (u : Version) → Contains (v ∷ w ∷ more) u → Contains floors u × (is_top inputs floors u ≡ true) = λ u at. contains_filter (is_top inputs floors) floors u (contains-in_order version_key (filter (is_top inputs floors) floors) u (subst (λ l. Contains l u) (sym e) at)) in
       let in_v = back v (contains_first v (w ∷ more)) in
       let in_w = back w (contains_later v w (w ∷ more) (contains_first w more)) in
       record {
@@ -185,6 +185,15 @@ module _ (inputs : Inputs) (who : Who) (f : List ℕ) (v : Option Version) (m : 
       (subst (λ o. Contains (feature_faults who f v (marks_of inputs.setting (triplet_of who)) o n) (isnt_supported who f v n)) (sym found)
       (subst (λ b. Contains (cond b [] (isnt_supported who f v n ∷ [])) (isnt_supported who f v n)) (sym none) (contains_first (isnt_supported who f v n) []))))
 
+-- a fact that has a line stands there
+line_step_contains : (x y : Fact) (ys : List Fact) (n : ℕ) (b : Bool) → same_fact x y ≡ b → ((m : ℕ) → line_of ys x ≡ Some m → Contains ys x) → cond b (Some 1) (option_map suc (line_of ys x)) ≡ Some n → Contains (y ∷ ys) x
+line_step_contains x y ys n true e rest line = subst (Contains (y ∷ ys)) (sym ((same_fact-Decides x y).0 e)) (contains_first y ys)
+line_step_contains x y ys n false e rest line = let r = map_some suc (line_of ys x) n line in contains_later y x ys (rest r.0 r.1)
+
+line_contains : (facts : List Fact) (x : Fact) (n : ℕ) → line_of facts x ≡ Some n → Contains facts x
+line_contains [] x n line = (cc)
+line_contains (y ∷ ys) x n line = line_step_contains x y ys n (same_fact x y) refl (line_contains ys x) line
+
 module _ (inputs : Inputs) (facts chosen : List Fact) (fault : Fault) where
   at_manifest : (i : Instance) (f : List ℕ) (n : ℕ) (v : Version) → Contains chosen (need (inst i) f) → line_of facts (need (inst i) f) ≡ Some n → chosen_of inputs facts i.port ≡ Some v → (manifest : Option (Result (Manifest Condition) Wrong)) → manifest_at inputs.pages i.port (ask_of v) ≡ manifest
       → Contains (judged_at inputs i f v manifest n) fault → IsJudged inputs facts chosen fault
@@ -204,9 +213,9 @@ module _ (inputs : Inputs) (facts chosen : List Fact) (fault : Fault) where
 
   third_is : Contains (third_faults_of inputs facts chosen) fault → IsJudged inputs facts chosen fault
   third_is h =
-      let r = contains-flat_map (λ x. flat_map (judged_need inputs facts x) (option_to_list (line_of facts x))) chosen fault h in
+      let r = contains-flat_map (judged_on_line inputs facts) (filter (is_among chosen) facts) fault h in
       let q = contains-flat_map (judged_need inputs facts r.0) (option_to_list (line_of facts r.0)) fault r.2 in
-      at_need r.0 q.0 r.1 (option_contains (line_of facts r.0) q.0 q.1) q.2
+      at_need r.0 q.0 (among_contains chosen r.0 (contains_filter (is_among chosen) facts r.0 r.1).1) (option_contains (line_of facts r.0) q.0 q.1) q.2
 
   judged_by_is : (who : Who) (f : List ℕ) (v : Option Version) (m : Manifest Condition) (n : ℕ) → IsJudgedBy inputs facts who v m → Contains (judged inputs.setting who f v m n) fault → Contains (judged_need inputs facts (need who f) n) fault
   judged_by_is _ f _ _ n (by_root t) h = h
@@ -215,7 +224,8 @@ module _ (inputs : Inputs) (facts chosen : List Fact) (fault : Fault) where
 
   is_third : IsJudged inputs facts chosen fault → Contains (third_faults_of inputs facts chosen) fault
   is_third j =
-      flat_map-contains (λ x. flat_map (judged_need inputs facts x) (option_to_list (line_of facts x))) chosen (need j.who j.f) fault j.needed
+      flat_map-contains (judged_on_line inputs facts) (filter (is_among chosen) facts) (need j.who j.f) fault
+      (filter_contains (is_among chosen) facts (need j.who j.f) (line_contains facts (need j.who j.f) j.n j.line) (contains_among chosen (need j.who j.f) j.needed))
       (flat_map-contains (judged_need inputs facts (need j.who j.f)) (option_to_list (line_of facts (need j.who j.f))) j.n fault (contains_option (line_of facts (need j.who j.f)) j.n j.line)
       (judged_by_is j.who j.f j.v j.m j.n j.judged_by (wrong_judged inputs j.who j.f j.v j.m j.n fault j.wrong)))
 

@@ -29,7 +29,7 @@ turned_back k l e = path_total.antisymm l k ∙ ap ordering_reverse e
 pub before_both : (k l : Key) → key_cmp k l ≡ Less → key_cmp l k ≡ Less → ⊥
 before_both k l e f = before_itself k (path_total.trans k l k e f)
 
-module _ {X : Type 0} (key : X → Key) (is_key : IsKey key) where
+module _ {X : Type 0} (key : X → Key) where
   put_cases : (x y z : X) (ys : List X) (o : Ordering) → key_cmp (key x) (key y) ≡ o → ((h : Contains (put_in key x ys) z) → (x ≡ z) ⊎ Contains ys z) → Contains (put_by o x y ys (put_in key x ys)) z → (x ≡ z) ⊎ Contains (y ∷ ys) z
   put_cases x y z ys Less e rest h = contains_cases x z (y ∷ ys) h
   put_cases x y z ys Equal e rest h = inr h
@@ -56,29 +56,12 @@ module _ {X : Type 0} (key : X → Key) (is_key : IsKey key) where
   put_in-keeps x z [] h = absurd (contains_nothing z h)
   put_in-keeps x z (y ∷ ys) h = put_old x y z ys (key_cmp (key x) (key y)) (put_in-keeps x z ys) h
 
-  put_new : (x y : X) (ys : List X) (o : Ordering) → key_cmp (key x) (key y) ≡ o → Contains (put_in key x ys) x → Contains (put_by o x y ys (put_in key x ys)) x
-  put_new x y ys Less e rest = contains_first x (y ∷ ys)
-  put_new x y ys Equal e rest = subst (Contains (y ∷ ys)) (sym (is_key x y (path_same (key x) (key y) e))) (contains_first y ys)
-  put_new x y ys Greater e rest = contains_later y x (put_in key x ys) rest
-
-  pub put_in-contains : (x : X) (ys : List X) → Contains (put_in key x ys) x
-  put_in-contains x [] = contains_first x []
-  put_in-contains x (y ∷ ys) = put_new x y ys (key_cmp (key x) (key y)) refl (put_in-contains x ys)
-
   pub contains-in_order : (xs : List X) (z : X) → Contains (in_order key xs) z → Contains xs z
   contains-in_order [] z h = h
   contains-in_order (x ∷ xs) z h =
       elim (contains-put_in x z (in_order key xs) h) [
         | inl same ↦ subst (Contains (x ∷ xs)) same (contains_first x xs)
         | inr later ↦ contains_later x z xs (contains-in_order xs z later)
-      ]
-
-  pub in_order-contains : (xs : List X) (z : X) → Contains xs z → Contains (in_order key xs) z
-  in_order-contains [] z h = h
-  in_order-contains (x ∷ xs) z h =
-      elim (contains_cases x z xs h) [
-        | inl same ↦ subst (Contains (in_order key (x ∷ xs))) same (put_in-contains x (in_order key xs))
-        | inr later ↦ put_in-keeps x z (in_order key xs) (in_order-contains xs z later)
       ]
 
   put_ascends : (x y : X) (ys : List X) (o : Ordering) → key_cmp (key x) (key y) ≡ o → Ascends key (y ∷ ys) → Ascends key (put_in key x ys) → Ascends key (put_by o x y ys (put_in key x ys))
@@ -105,9 +88,6 @@ module _ {X : Type 0} (key : X → Key) (is_key : IsKey key) where
   pub in_order-ascends : (xs : List X) → Ascends key (in_order key xs)
   in_order-ascends [] = tt
   in_order-ascends (x ∷ xs) = put_in-ascends x (in_order key xs) (in_order-ascends xs)
-
-  pub in_order-IsListing : (xs : List X) → IsListing key (Contains xs) (in_order key xs)
-  in_order-IsListing xs = record { each = λ z. (contains-in_order xs z, in_order-contains xs z); ascends = in_order-ascends xs }
 
   -- lists in order with the same members are one list
   pub ascending_one : (xs ys : List X) → Ascends key xs → Ascends key ys → ((z : X) → Contains xs z → Contains ys z) → ((z : X) → Contains ys z → Contains xs z) → xs ≡ ys
@@ -136,3 +116,25 @@ module _ {X : Type 0} (key : X → Key) (is_key : IsKey key) where
   pub ascends-NoRepeats : (xs : List X) → Ascends key xs → NoRepeats xs
   ascends-NoRepeats [] a = tt
   ascends-NoRepeats (x ∷ xs) a = ((λ h. before_itself (key x) (a.0 x h)), ascends-NoRepeats xs a.1)
+
+-- where different things have different keys, a list in order has all of them
+module _ {X : Type 0} (key : X → Key) (is_key : IsKey key) where
+  put_new : (x y : X) (ys : List X) (o : Ordering) → key_cmp (key x) (key y) ≡ o → Contains (put_in key x ys) x → Contains (put_by o x y ys (put_in key x ys)) x
+  put_new x y ys Less e rest = contains_first x (y ∷ ys)
+  put_new x y ys Equal e rest = subst (Contains (y ∷ ys)) (sym (is_key x y (path_same (key x) (key y) e))) (contains_first y ys)
+  put_new x y ys Greater e rest = contains_later y x (put_in key x ys) rest
+
+  pub put_in-contains : (x : X) (ys : List X) → Contains (put_in key x ys) x
+  put_in-contains x [] = contains_first x []
+  put_in-contains x (y ∷ ys) = put_new x y ys (key_cmp (key x) (key y)) refl (put_in-contains x ys)
+
+  pub in_order-contains : (xs : List X) (z : X) → Contains xs z → Contains (in_order key xs) z
+  in_order-contains [] z h = h
+  in_order-contains (x ∷ xs) z h =
+      elim (contains_cases x z xs h) [
+        | inl same ↦ subst (Contains (in_order key (x ∷ xs))) same (put_in-contains x (in_order key xs))
+        | inr later ↦ put_in-keeps key x z (in_order key xs) (in_order-contains xs z later)
+      ]
+
+  pub in_order-IsListing : (xs : List X) → IsListing key (Contains xs) (in_order key xs)
+  in_order-IsListing xs = record { each = λ z. (contains-in_order key xs z, in_order-contains xs z); ascends = in_order-ascends key xs }

@@ -15,17 +15,17 @@ use Rattle.vk_resolution.specs.Keys.{in_order}
 use Rattle.vk_resolution.specs.Least.{Rules, IsClosed, IsLeast, IsLeastInOrder}
 use Rattle.vk_resolution.specs.Settings.{root, inst, same_instance}
 use Rattle.vk_resolution.specs.Givens.{Pages, version_at, is_pinned}
-use Rattle.vk_resolution.specs.Asking.{Fact, need, floor, visit, fact_key, root_facts_of, same_fact}
+use Rattle.vk_resolution.specs.Asking.{Fact, need, floor, visit, fact_key, root_facts_of, same_fact, is_among}
 use Rattle.vk_resolution.specs.Consequences.{Inputs, Step, by_root, steps_from, rules_of}
 use Rattle.vk_resolution.specs.Choices.{floor_in, floors_of, given_version_of, greatest_of, chosen_of, tops_of}
 use Rattle.vk_resolution.specs.Reasons.{Reason, facts_of, first_line, line_of, first_cause, citing, in_lines, cause_of, IsReasons}
 use Rattle.vk_resolution.specs.Planning.{is_need, visit_of, planned_from, planned_rules_of, IsPlanned, instance_key, needed_in, instances_of, targets_in, targets_at, targets_of, HasHeight, places_from, Item, IsByHeight, order_of, IsPlan, IsCycle}
-use Rattle.vk_resolution.specs.Faults.{Trouble, Fault, has_cycle, trouble_key, same_trouble, given_troubles, manifest_troubles, floor_troubles, troubles_of, told_of, first_faults_of, conflict_of, conflicts_of, ports_in, second_faults_of, judged, judged_at, judged_chosen, judged_need, third_faults_of}
+use Rattle.vk_resolution.specs.Faults.{Trouble, Fault, has_cycle, trouble_key, same_trouble, given_troubles, manifest_troubles, floor_troubles, troubles_of, told_of, first_faults_of, judged_on_line, conflict_of, conflicts_of, ports_in, second_faults_of, judged, judged_at, judged_chosen, judged_need, third_faults_of}
 use Rattle.vk_resolution.specs.Outcomes.{Printing, lines_of, IsRefusal, by_first, by_second, by_third, by_fourth, IsAgreed, Outcome, planned, refused, IsOutcome}
 use Rattle.vk_resolution.specs.Agreement.{with_pages, AgreesOn, reasons_in, SameOutcome, published, UnaskedChangesNothing}
-use Rattle.vk_resolution.proofs.Members.{no_is_false, contains_single, map_contains}
+use Rattle.vk_resolution.proofs.Members.{no_is_false, contains_single, map_contains, contains_filter}
 use Rattle.vk_resolution.proofs.Orders.{contains-in_order}
-use Rattle.vk_resolution.proofs.FactLemmas.{fact_key-IsKey, instance_key-IsKey}
+use Rattle.vk_resolution.proofs.FactLemmas.{fact_key-IsKey, instance_key-IsKey, among_contains}
 use Rattle.vk_resolution.proofs.ChoiceLemmas.{given_floor}
 use Rattle.vk_resolution.proofs.PlanLemmas.{plan_stays_within}
 use Rattle.vk_resolution.proofs.AgreementLemmas.{flat_map_on, filter_map_on, agree_least, IsNeeded, visit_parts, floor_needed, same_some, given_same, pinned_same, asked_at_same, steps_same, same_least_list}
@@ -111,7 +111,7 @@ module _ (inputs : Inputs) (pages : Pages) (facts : List Fact) (least : IsLeast 
   pub second_same : second_faults_of (with_pages inputs pages) facts ≡ second_faults_of inputs facts
   second_same =
       flat_map_on (λ p. conflicts_of (with_pages inputs pages) facts p (chosen_of (with_pages inputs pages) facts p)) (λ p. conflicts_of inputs facts p (chosen_of inputs facts p)) (in_order (λ p. p ∷ []) (flat_map ports_in facts)) (λ p h. (
-      let r = contains-flat_map ports_in facts p (contains-in_order (λ p. p ∷ []) (λ x y e. (cc)) (flat_map ports_in facts) p h) in
+      let r = contains-flat_map ports_in facts p (contains-in_order (λ p. p ∷ []) (flat_map ports_in facts) p h) in
       let n = port_of p r.0 r.1 r.2 in
       ap (conflicts_of (with_pages inputs pages) facts p) (chosen_same p n) ∙ conflicts_same p n (chosen_of inputs facts p)
       ))
@@ -146,8 +146,8 @@ module _ (inputs : Inputs) (pages : Pages) (facts : List Fact) (least : IsLeast 
 
     pub third_same : third_faults_of (with_pages inputs pages) facts chosen ≡ third_faults_of inputs facts chosen
     third_same =
-        flat_map_on (λ x. flat_map (judged_need (with_pages inputs pages) facts x) (option_to_list (line_of facts x))) (λ x. flat_map (judged_need inputs facts x) (option_to_list (line_of facts x))) chosen
-        (λ x h. flat_map_on (judged_need (with_pages inputs pages) facts x) (judged_need inputs facts x) (option_to_list (line_of facts x)) (λ n k. judged_need_same x h n))
+        flat_map_on (judged_on_line (with_pages inputs pages) facts) (judged_on_line inputs facts) (filter (is_among chosen) facts)
+        (λ x h. flat_map_on (judged_need (with_pages inputs pages) facts x) (judged_need inputs facts x) (option_to_list (line_of facts x)) (λ n k. judged_need_same x (among_contains chosen x (contains_filter (is_among chosen) facts x h).1) n))
 
     targets_at_same : (i : Instance) (x : Fact) → Contains chosen x → targets_at (with_pages inputs pages) i x ≡ targets_at inputs i x
     targets_at_same i (need who f) h = refl
@@ -165,7 +165,7 @@ module _ (inputs : Inputs) (pages : Pages) (facts : List Fact) (least : IsLeast 
 
     instance_needed : (i : Instance) → Contains (instances_of chosen) i → IsNeeded facts i.port
     instance_needed i h =
-        let r = contains-flat_map needed_in chosen i (contains-in_order instance_key instance_key-IsKey (flat_map needed_in chosen) i h) in
+        let r = contains-flat_map needed_in chosen i (contains-in_order instance_key (flat_map needed_in chosen) i h) in
         let n = need_of i r.0 r.1 r.2 in
         needed_here i n.0 (within (need (inst i) n.0) n.1)
 

@@ -154,9 +154,9 @@ pub realistic_needs : HasNeeds Projects.realistic Projects.realistic_needs
 realistic_needs = needs Projects.realistic Projects.realistic_needs (λ bytes. refl)
 
 pub reports_alone : ReportsAlone
-reports_alone inputs report reports bytes apart o is =
+reports_alone inputs report reports bytes o is =
     let r = reports.outcome bytes in
-    ap report_of (outcome_is_one inputs bytes apart o r.0 is r.1) ∙ r.2
+    ap report_of (outcome_is_one inputs bytes o r.0 is r.1) ∙ r.2
 
 pub early_feature : Reports Projects.early_feature Projects.early_feature_report
 early_feature = reports Projects.early_feature Projects.early_feature_report refl (λ bytes. refl)

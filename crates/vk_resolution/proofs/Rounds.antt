@@ -43,11 +43,11 @@ module _ {X : Type 0} (rules : Rules X) (key : X → Key) (is_key : IsKey key) w
       ]
 
   new_ascends : (facts : List X) → Ascends key (new_from rules key facts)
-  new_ascends facts = in_order-ascends key is_key (filter (λ y. not (has_key key facts y)) (following rules facts))
+  new_ascends facts = in_order-ascends key (filter (λ y. not (has_key key facts y)) (following rules facts))
 
   pub new_follows : (facts : List X) (x : X) → Contains (new_from rules key facts) x → FollowsFrom rules (Contains facts) x × (Contains facts x → ⊥)
   new_follows facts x h =
-      let r = contains_filter (λ y. not (has_key key facts y)) (following rules facts) x (contains-in_order key is_key _ x h) in
+      let r = contains_filter (λ y. not (has_key key facts y)) (following rules facts) x (contains-in_order key _ x h) in
       (following_follows facts x r.0, λ held. true_false (has_key key facts x) (contains-has_key facts x held) (not_true (has_key key facts x) r.1))
 
   pub follows_new : (facts : List X) (x : X) → FollowsFrom rules (Contains facts) x → Contains facts x ⊎ Contains (new_from rules key facts) x
@@ -62,16 +62,16 @@ module _ {X : Type 0} (rules : Rules X) (key : X → Key) (is_key : IsKey key) w
     sound = λ x h. (new_follows facts x h).0;
     fresh = λ x h. (new_follows facts x h).1;
     complete = follows_new facts;
-    distinct = ascends-NoRepeats key is_key (new_from rules key facts) (new_ascends facts);
+    distinct = ascends-NoRepeats key (new_from rules key facts) (new_ascends facts);
   }
 
   pub round_level : (n : ℕ) → IsLevel rules n (round rules key n)
-  round_level zero = level_first rules (in_order key rules.roots) (contains-in_order key is_key rules.roots) (in_order-contains key is_key rules.roots) (ascends-NoRepeats key is_key (in_order key rules.roots) (in_order-ascends key is_key rules.roots))
+  round_level zero = level_first rules (in_order key rules.roots) (contains-in_order key rules.roots) (in_order-contains key is_key rules.roots) (ascends-NoRepeats key (in_order key rules.roots) (in_order-ascends key rules.roots))
   round_level (suc n) = level_next rules n (round rules key n) (new_from rules key (round rules key n)) (round_level n) (new_adds (round rules key n))
 
   -- each member of a round has a rank, at most its number
   pub ranked : (n : ℕ) (x : X) → Contains (round rules key n) x → (m : ℕ) × (m ≤ n) × HasRank rules m x
-  ranked zero x h = (zero, omega arith, root_rank rules x (contains-in_order key is_key rules.roots x h))
+  ranked zero x h = (zero, omega arith, root_rank rules x (contains-in_order key rules.roots x h))
   ranked (suc n) x h =
       elim (Contains-append_cases (round rules key n) (new_from rules key (round rules key n)) x h) [
         | inl old ↦ (let r = ranked n x old in (r.0, (let b : r.0 ≤ n = r.1 in omega arith), r.2))
@@ -79,7 +79,7 @@ module _ {X : Type 0} (rules : Rules X) (key : X → Key) (is_key : IsKey key) w
       ]
 
   pub round_by_rank : (n : ℕ) → IsByRank rules key (round rules key n)
-  round_by_rank zero = by_rank_level rules key zero (in_order key rules.roots) (in_order-ascends key is_key rules.roots) (λ x h. root_rank rules x (contains-in_order key is_key rules.roots x h))
+  round_by_rank zero = by_rank_level rules key zero (in_order key rules.roots) (in_order-ascends key rules.roots) (λ x h. root_rank rules x (contains-in_order key rules.roots x h))
   round_by_rank (suc n) =
       by_rank_next rules key n (round rules key n) (new_from rules key (round rules key n)) (round_level n) (new_adds (round rules key n)) (round_by_rank n) (new_ascends (round rules key n)) (ranked n)
 

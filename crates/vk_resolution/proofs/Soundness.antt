@@ -209,13 +209,13 @@ module _ (targets : Instance → List Instance) where
       let ps : List Numbered = r.0 in
       let sorted : List Numbered = in_order numbered_key ps in
       let each : (p : Numbered) → Contains sorted p → (p.1 ≡ p.1) × HasHeight targets p.0 p.1 = λ p h. (
-      let q = some_from (with_height targets n) instances ps r.1 p (contains-in_order numbered_key numbered_key-IsKey ps p h) in
+      let q = some_from (with_height targets n) instances ps r.1 p (contains-in_order numbered_key ps p h) in
       (refl, (height_is n q.0 p q.2).1)
       ) in
       subst (IsOrder instances) r.2 (record {
         to = λ i h. (
             let q = contains_map (λ (k : Numbered). k.1) sorted i h in
-            let s = some_from (with_height targets n) instances ps r.1 q.0 (contains-in_order numbered_key numbered_key-IsKey ps q.0 q.1) in
+            let s = some_from (with_height targets n) instances ps r.1 q.0 (contains-in_order numbered_key ps q.0 q.1) in
             subst (Contains instances) (sym (height_is n s.0 q.0 s.2).0 ∙ q.2) s.1
             );
         from = λ i h. (
@@ -226,7 +226,7 @@ module _ (targets : Instance → List Instance) where
             let q = contains_map (λ (k : Numbered). k.1) sorted i h in
             (q.0.0, subst (HasHeight targets q.0.0) q.2 (each q.0 q.1).1)
             );
-        sorted = by_height sorted (in_order-ascends numbered_key numbered_key-IsKey ps) (λ p h. (each p h).1);
+        sorted = by_height sorted (in_order-ascends numbered_key ps) (λ p h. (each p h).1);
       })
 
   -- from an instance within n, each way has at most n edges, and ends within what is left
@@ -351,8 +351,8 @@ module _ (targets : Instance → List Instance) where
   pub next_is : (n : ℕ) (first i : Instance) (p : Numbered) → next_by targets n first i ≡ Some p → IsNext targets first i p.1
   next_is n first i p e =
       let ps : List Numbered = filter_map (with_way targets n first) (targets i) in
-      let head = head_is (in_order numbered_key ps) p (in_order-ascends numbered_key numbered_key-IsKey ps) e in
-      let from = contains-filter_map (with_way targets n first) (targets i) p (contains-in_order numbered_key numbered_key-IsKey ps p head.0) in
+      let head = head_is (in_order numbered_key ps) p (in_order-ascends numbered_key ps) e in
+      let from = contains-filter_map (with_way targets n first) (targets i) p (contains-in_order numbered_key ps p head.0) in
       let way = way_is n first from.0 p from.2 in
       let below : p.0 < n = way.2 in
       record {
@@ -423,7 +423,7 @@ module _ (inputs : Inputs) (bytes : Printing) (n : ℕ) (facts : List Fact) (rea
         → IsOutcome inputs bytes o
     fourth_is third None o e made =
         let r = map_some (λ walk. refused (has_cycle walk ∷ []) reasons) (cycle_by (targets_of inputs chosen) n (instances_of chosen)) o made in
-        refusal (has_cycle r.0 ∷ []) o (by_fourth chosen first second is_planned third r.0 (cycle_is (targets_of inputs chosen) n (instances_of chosen) r.0 (in_order-ascends instance_key instance_key-IsKey (flat_map needed_in chosen)) r.1) refl) r.2
+        refusal (has_cycle r.0 ∷ []) o (by_fourth chosen first second is_planned third r.0 (cycle_is (targets_of inputs chosen) n (instances_of chosen) r.0 (in_order-ascends instance_key (flat_map needed_in chosen)) r.1) refl) r.2
     fourth_is third (Some order) o e made =
         let r = map_some (λ items. planned items reasons) (all_some (item_by inputs facts chosen order) order) o made in
         let plan = plan_is inputs n facts chosen order r.0 e r.1 in

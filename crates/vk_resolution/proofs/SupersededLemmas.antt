@@ -53,7 +53,7 @@ needs_b x = list_any (same_instance (x64 b)) (needed_in x)
 
 goes : (planned : List Fact) → IsPlanned superseded_reach reached planned → Contains (instances_of planned) (x64 b) → ⊥
 goes planned is_planned h =
-    let r = contains-flat_map needed_in planned (x64 b) (contains-in_order instance_key instance_key-IsKey (flat_map needed_in planned) (x64 b) h) in
+    let r = contains-flat_map needed_in planned (x64 b) (contains-in_order instance_key (flat_map needed_in planned) (x64 b) h) in
     let in_kept : Contains kept r.0 = is_planned.forced.within kept (round_least (planned_rules_of superseded_reach reached) fact_key fact_key-IsKey 12 refl).least.closed r.0 r.1 in
     let none : list_all (λ x. not (needs_b x)) kept ≡ true = refl in
     let passes : not (needs_b r.0) ≡ true = all_contains (λ x. not (needs_b x)) kept none r.0 in_kept in

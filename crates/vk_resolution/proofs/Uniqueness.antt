@@ -1,7 +1,9 @@
 -- There is one outcome.
-use Rattle.std.proofs.Common.{◌≡◌, ◌<◌, ℕ, zero, suc, ◌+◌, Bool, true, false, cond, List, [], ◌∷◌, ◌++◌, length, inl, inr, refl, ap, ap₂, sym, ◌∙◌, subst, arith}
+use Rattle.std.proofs.Common.{◌≡◌, ◌<◌, ℕ, zero, suc, ◌+◌, Bool, true, false, cond, List, [], ◌∷◌, ◌++◌, length, map, filter, inl, inr, refl, ap, ap₂, sym, ◌∙◌, subst, arith}
 use Rattle.std.specs.Prelude.{Option, Some, None, flat_map, slice_get}
 use Rattle.std.proofs.lemmas.List.Elements.{Contains-append_right}
+use Rattle.std.specs.declared.cmp.Ordering.{Ordering}
+use Rattle.std.specs.declared.cmp.Ordering.TheVariants.{Less, Equal, Greater}
 use Rattle.std.specs.Cmp.{both_ways}
 use Rattle.std.specs.List.{Contains, list_any, list_all}
 use Rattle.vk_spec.specs.Lists.{NoRepeats, IsWithin}
@@ -9,17 +11,17 @@ use Rattle.vk_spec.specs.Versions.{ask_of}
 use Rattle.vk_spec.proofs.ListLemmas.{contains_nothing, contains_first, contains_later, contains_cases, contains-flat_map, flat_map-contains}
 use Rattle.vk_spec.proofs.FileLemmas.{path_total, path_same}
 use Rattle.vk_spec.specs.Settings.{Instance}
-use Rattle.vk_resolution.specs.Keys.{Key, IsKey, in_order}
+use Rattle.vk_resolution.specs.Keys.{Key, key_cmp, IsKey, IsListing, put_by, put_in, in_order}
 use Rattle.vk_resolution.specs.Settings.{same_instance}
-use Rattle.vk_resolution.specs.Asking.{Fact, floor, fact_key}
+use Rattle.vk_resolution.specs.Asking.{Fact, floor, fact_key, same_fact, is_among}
 use Rattle.vk_resolution.specs.Consequences.{Inputs, rules_of}
 use Rattle.vk_resolution.specs.Choices.{chosen_of}
 use Rattle.vk_resolution.specs.Reasons.{Reason, facts_of, cause_of, line_of, IsReasons}
 use Rattle.vk_resolution.specs.Planning.{planned_rules_of, IsPlanned, instance_key, needed_in, instances_of, targets_at, targets_of, is_within, HasHeight, IsByHeight, feature_key, feature_in, features_of, places_from, Item, IsItem, order_of, IsPlan, has_way, IsOnCycle, IsFrom, IsNext, WalksOn, IsCycle}
-use Rattle.vk_resolution.specs.Faults.{Fault, has_cycle, judged_need, third_faults_of}
-use Rattle.vk_resolution.specs.Outcomes.{Printing, TellsApart, lines_of, IsRefusal, by_first, by_second, by_third, by_fourth, IsAgreed, planned, refused}
+use Rattle.vk_resolution.specs.Faults.{Fault, has_cycle, judged_on_line, third_faults_of}
+use Rattle.vk_resolution.specs.Outcomes.{Printing, lines_of, IsRefusal, by_first, by_second, by_third, by_fourth, IsAgreed, planned, refused}
 use Rattle.vk_resolution.specs.Walks.{Targets, HeightOrderIsOne}
-use Rattle.vk_resolution.specs.OutcomeLaws.{KeysAreOrdered, LinesAreOne, NeedsAreBefore, OutcomeIsOne}
+use Rattle.vk_resolution.specs.OutcomeLaws.{KeysAreOrdered, LinesAreListed, NeedsAreBefore, OutcomeIsOne}
 use Rattle.vk_resolution.proofs.Members.{any_contains, contains_any, all_contains, contains_all}
 use Rattle.vk_resolution.proofs.Orders.{before_both, before_itself, contains-in_order, in_order-contains, in_order-ascends, in_order-IsListing, ascending_one}
 use Rattle.vk_resolution.proofs.LeastLemmas.{least_same}
@@ -47,9 +49,9 @@ module _ {X : Type 0} where
       (λ e. contains_all f xs (λ x h. equal x ∙ all_contains g ys e x (same.to x h)))
 
   order_same : (key : X → Key) → IsKey key → (xs ys : List X) → SameMembers xs ys → in_order key xs ≡ in_order key ys
-  order_same key is_key xs ys same = ascending_one key is_key (in_order key xs) (in_order key ys) (in_order-ascends key is_key xs) (in_order-ascends key is_key ys)
-      (λ z h. in_order-contains key is_key ys z (same.to z (contains-in_order key is_key xs z h)))
-      (λ z h. in_order-contains key is_key xs z (same.from z (contains-in_order key is_key ys z h)))
+  order_same key is_key xs ys same = ascending_one key (in_order key xs) (in_order key ys) (in_order-ascends key xs) (in_order-ascends key ys)
+      (λ z h. in_order-contains key is_key ys z (same.to z (contains-in_order key xs z h)))
+      (λ z h. in_order-contains key is_key xs z (same.from z (contains-in_order key ys z h)))
 
   nothing_same : (xs ys : List X) → SameMembers xs ys → xs ≡ [] → ys ≡ []
   nothing_same xs [] same e = refl
@@ -60,6 +62,13 @@ map_members f xs ys same = record {
   to = λ y h. (let r = contains-flat_map f xs y h in flat_map-contains f ys r.0 y (same.to r.0 r.1) r.2);
   from = λ y h. (let r = contains-flat_map f ys y h in flat_map-contains f xs r.0 y (same.from r.0 r.1) r.2);
 }
+
+filter_step_same : {X : Type 0} (x : X) (b c : Bool) (xs ys : List X) → b ≡ c → xs ≡ ys → cond b (x ∷ xs) xs ≡ cond c (x ∷ ys) ys
+filter_step_same x b c xs ys e same = ap₂ (λ d (l : List _). cond d (x ∷ l) l) e same
+
+filter_same : {X : Type 0} (f g : X → Bool) (xs : List X) → ((x : X) → f x ≡ g x) → filter f xs ≡ filter g xs
+filter_same f g [] same = refl
+filter_same f g (x ∷ xs) same = filter_step_same x (f x) (g x) (filter f xs) (filter g xs) (same x) (filter_same f g xs same)
 
 -- edges with the same members have the same heights, ways and cycles
 module _ (one other : Targets) (same : (i : Instance) → SameMembers (one i) (other i)) where
@@ -173,8 +182,8 @@ module _ (inputs : Inputs) (facts one other : List Fact) (same : SameMembers one
   features_same : (i : Instance) → features_of one i ≡ features_of other i
   features_same i = order_same feature_key feature_key-IsKey (flat_map (feature_in i) one) (flat_map (feature_in i) other) (map_members (feature_in i) one other same)
 
-  third_members : SameMembers (third_faults_of inputs facts one) (third_faults_of inputs facts other)
-  third_members = map_members (λ x. flat_map (judged_need inputs facts x) (Rattle.std.specs.Prelude.option_to_list (line_of facts x))) one other same
+  third_same : third_faults_of inputs facts one ≡ third_faults_of inputs facts other
+  third_same = ap (flat_map (judged_on_line inputs facts)) (filter_same (is_among one) (is_among other) facts (λ x. any_same (same_fact x) (same_fact x) one other same (λ y. refl)))
 
   item_one : (order : List Instance) (k l : Item) → k.instance ≡ l.instance → IsItem inputs facts one order k → IsItem inputs facts other order l → k ≡ l
   item_one order k l e is is_other =
@@ -220,13 +229,7 @@ module _ (inputs : Inputs) (facts one other : List Fact) (same : SameMembers one
 planned_members : (inputs : Inputs) (facts one other : List Fact) → IsPlanned inputs facts one → IsPlanned inputs facts other → SameMembers one other
 planned_members inputs facts one other is is_other = record { to = least_same (planned_rules_of inputs facts) one other is is_other; from = least_same (planned_rules_of inputs facts) other one is_other is }
 
-module _ (inputs : Inputs) (bytes : Printing) (apart : TellsApart bytes) (facts : List Fact) where
-  line_key : Fault → Key
-  line_key f = bytes f ∷ []
-
-  lines_same : (xs ys : List Fault) → SameMembers xs ys → lines_of bytes xs ≡ lines_of bytes ys
-  lines_same xs ys same = order_same (λ f. bytes f ∷ []) (λ f g e. (let b : bytes f ≡ bytes g = (cc) in apart f g b)) xs ys same
-
+module _ (inputs : Inputs) (bytes : Printing) (facts : List Fact) where
   refusal_one : (lines more : List Fault) → IsRefusal inputs bytes facts lines → IsRefusal inputs bytes facts more → lines ≡ more
   refusal_one lines more (by_first some is) (by_first some2 is2) = is ∙ sym is2
   refusal_one lines more (by_first some is) (by_second none some2 is2) = absurd (some none)
@@ -239,13 +242,13 @@ module _ (inputs : Inputs) (bytes : Printing) (apart : TellsApart bytes) (facts 
   refusal_one lines more (by_third p first second is_p some is) (by_first some2 is2) = absurd (some2 first)
   refusal_one lines more (by_third p first second is_p some is) (by_second none some2 is2) = absurd (some2 second)
   refusal_one lines more (by_third p first second is_p some is) (by_third q first2 second2 is_q some2 is2) =
-      is ∙ lines_same (third_faults_of inputs facts p) (third_faults_of inputs facts q) (third_members inputs facts p q (planned_members inputs facts p q is_p is_q)) ∙ sym is2
+      is ∙ ap (lines_of bytes) (third_same inputs facts p q (planned_members inputs facts p q is_p is_q)) ∙ sym is2
   refusal_one lines more (by_third p first second is_p some is) (by_fourth q first2 second2 is_q third walk cycle is2) =
-      absurd (some (nothing_same (third_faults_of inputs facts q) (third_faults_of inputs facts p) (turned_members (third_members inputs facts p q (planned_members inputs facts p q is_p is_q))) third))
+      absurd (some (third_same inputs facts p q (planned_members inputs facts p q is_p is_q) ∙ third))
   refusal_one lines more (by_fourth p first second is_p third walk cycle is) (by_first some2 is2) = absurd (some2 first)
   refusal_one lines more (by_fourth p first second is_p third walk cycle is) (by_second none some2 is2) = absurd (some2 second)
   refusal_one lines more (by_fourth p first second is_p third walk cycle is) (by_third q first2 second2 is_q some2 is2) =
-      absurd (some2 (nothing_same (third_faults_of inputs facts p) (third_faults_of inputs facts q) (third_members inputs facts p q (planned_members inputs facts p q is_p is_q)) third))
+      absurd (some2 (sym (third_same inputs facts p q (planned_members inputs facts p q is_p is_q)) ∙ third))
   refusal_one lines more (by_fourth p first second is_p third walk cycle is) (by_fourth q first2 second2 is_q third2 walk2 cycle2 is2) =
       let members = planned_members inputs facts p q is_p is_q in
       let moved : IsCycle (targets_of inputs p) (instances_of p) walk2 =
@@ -257,7 +260,7 @@ module _ (inputs : Inputs) (bytes : Printing) (apart : TellsApart bytes) (facts 
   agreed_or_refused items lines agreed (by_first some is) = some agreed.first
   agreed_or_refused items lines agreed (by_second none some is) = some agreed.second
   agreed_or_refused items lines agreed (by_third q first second is_q some is) =
-      some (nothing_same (third_faults_of inputs facts agreed.planned) (third_faults_of inputs facts q) (third_members inputs facts agreed.planned q (planned_members inputs facts agreed.planned q agreed.is_planned is_q)) agreed.third)
+      some (sym (third_same inputs facts agreed.planned q (planned_members inputs facts agreed.planned q agreed.is_planned is_q)) ∙ agreed.third)
   agreed_or_refused items lines agreed (by_fourth q first second is_q third walk cycle is) =
       no_cycle_with_plan inputs facts agreed.planned q (planned_members inputs facts agreed.planned q agreed.is_planned is_q) items walk agreed.plan cycle
 
@@ -270,23 +273,45 @@ reasons_same inputs one other is is_other =
     reasons_one inputs (facts_of one) one other facts is.causes (λ r h. ap (λ l. cause_of inputs l r.fact) facts ∙ is_other.causes r h)
 
 pub outcome_is_one : OutcomeIsOne
-outcome_is_one inputs bytes apart (planned items reasons) (planned more others) one other =
+outcome_is_one inputs bytes (planned items reasons) (planned more others) one other =
     let same : reasons ≡ others = reasons_same inputs reasons others one.0 other.0 in
-    let plans : items ≡ more = agreed_one inputs bytes apart (facts_of reasons) items more one.1 (subst (λ l. IsAgreed inputs (facts_of l) more) (sym same) other.1) in
+    let plans : items ≡ more = agreed_one inputs bytes (facts_of reasons) items more one.1 (subst (λ l. IsAgreed inputs (facts_of l) more) (sym same) other.1) in
     ap₂ planned plans same
-outcome_is_one inputs bytes apart (planned items reasons) (refused lines others) one other =
+outcome_is_one inputs bytes (planned items reasons) (refused lines others) one other =
     let same : reasons ≡ others = reasons_same inputs reasons others one.0 other.0 in
-    absurd (agreed_or_refused inputs bytes apart (facts_of reasons) items lines one.1 (subst (λ l. IsRefusal inputs bytes (facts_of l) lines) (sym same) other.1))
-outcome_is_one inputs bytes apart (refused lines reasons) (planned items others) one other =
+    absurd (agreed_or_refused inputs bytes (facts_of reasons) items lines one.1 (subst (λ l. IsRefusal inputs bytes (facts_of l) lines) (sym same) other.1))
+outcome_is_one inputs bytes (refused lines reasons) (planned items others) one other =
     let same : reasons ≡ others = reasons_same inputs reasons others one.0 other.0 in
-    absurd (agreed_or_refused inputs bytes apart (facts_of others) items lines other.1 (subst (λ l. IsRefusal inputs bytes (facts_of l) lines) same one.1))
-outcome_is_one inputs bytes apart (refused lines reasons) (refused more others) one other =
+    absurd (agreed_or_refused inputs bytes (facts_of others) items lines other.1 (subst (λ l. IsRefusal inputs bytes (facts_of l) lines) same one.1))
+outcome_is_one inputs bytes (refused lines reasons) (refused more others) one other =
     let same : reasons ≡ others = reasons_same inputs reasons others one.0 other.0 in
-    let told : lines ≡ more = refusal_one inputs bytes apart (facts_of reasons) lines more one.1 (subst (λ l. IsRefusal inputs bytes (facts_of l) more) (sym same) other.1) in
+    let told : lines ≡ more = refusal_one inputs bytes (facts_of reasons) lines more one.1 (subst (λ l. IsRefusal inputs bytes (facts_of l) more) (sym same) other.1) in
     ap₂ refused told same
 
-pub lines_are_one : LinesAreOne
-lines_are_one bytes apart faults = in_order-IsListing (λ f. bytes f ∷ []) (λ f g e. (let b : bytes f ≡ bytes g = (cc) in apart f g b)) faults
+-- what is put in order by what it prints prints what is in order
+map_put : {X Y : Type 0} (f : X → Y) (o : Ordering) (x y : X) (ys later : List X) → map f (put_by o x y ys later) ≡ put_by o (f x) (f y) (map f ys) (map f later)
+map_put f Less x y ys later = refl
+map_put f Equal x y ys later = refl
+map_put f Greater x y ys later = refl
+
+map_put_in : {X Y : Type 0} (f : X → Y) (key : Y → Key) (x : X) (ys : List X) → map f (put_in (λ z. key (f z)) x ys) ≡ put_in key (f x) (map f ys)
+map_put_in f key x [] = refl
+map_put_in f key x (y ∷ ys) =
+    map_put f (key_cmp (key (f x)) (key (f y))) x y ys (put_in (λ z. key (f z)) x ys)
+    ∙ ap (put_by (key_cmp (key (f x)) (key (f y))) (f x) (f y) (map f ys)) (map_put_in f key x ys)
+
+map_in_order : {X Y : Type 0} (f : X → Y) (key : Y → Key) (xs : List X) → map f (in_order (λ z. key (f z)) xs) ≡ in_order key (map f xs)
+map_in_order f key [] = refl
+map_in_order f key (x ∷ xs) = map_put_in f key x (in_order (λ z. key (f z)) xs) ∙ ap (put_in key (f x)) (map_in_order f key xs)
+
+text_key-IsKey : IsKey (λ (text : List ℕ). text ∷ [])
+text_key-IsKey x y e = (cc)
+
+pub lines_are_listed : LinesAreListed
+lines_are_listed bytes faults = record {
+  from = λ f h. contains-in_order (λ g. bytes g ∷ []) faults f h;
+  printed = subst (IsListing (λ text. text ∷ []) (Contains (map bytes faults))) (sym (map_in_order bytes (λ text. text ∷ []) faults)) (in_order-IsListing (λ text. text ∷ []) text_key-IsKey (map bytes faults));
+}
 
 pub keys_are_ordered : KeysAreOrdered
 keys_are_ordered = record {

@@ -1,5 +1,6 @@
 -- Facts, and what one manifest asks for.
 use Rattle.std.specs.Prelude.{ℕ, Bool, List, [], ◌∷◌, ◌++◌, map, flat_map, Option, Some, None, if◌then◌else◌}
+use Rattle.std.specs.List.{list_any}
 use Rattle.vk_spec.specs.Versions.{Ask}
 use Rattle.vk_spec.specs.Manifests.{Manifest, Dependency, core, default}
 use Rattle.vk_spec.specs.Settings.{Setting, Instance}
@@ -23,6 +24,10 @@ fact_key (visit i f a) = (2 ∷ []) ∷ i.port ∷ i.triplet ∷ f ∷ a.text �
 -- facts are the same where their keys are
 abbrev pub same_fact : Fact → Fact → Bool
 same_fact x y = same_key (fact_key x) (fact_key y)
+
+-- whether a fact is among the facts
+abbrev pub is_among : List Fact → Fact → Bool
+is_among facts x = list_any (same_fact x) facts
 
 -- the floor of a minimum, if there is one
 abbrev pub floor_of : List ℕ → Option Ask → List Fact

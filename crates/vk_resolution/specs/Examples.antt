@@ -13,7 +13,7 @@ use Rattle.vk_resolution.specs.Givens.{Pages}
 use Rattle.vk_resolution.specs.Consequences.{Inputs}
 use Rattle.vk_resolution.specs.Planning.{Item}
 use Rattle.vk_resolution.specs.Faults.{Fault}
-use Rattle.vk_resolution.specs.Outcomes.{Printing, TellsApart, Outcome, planned, refused, IsOutcome}
+use Rattle.vk_resolution.specs.Outcomes.{Printing, Outcome, planned, refused, IsOutcome}
 
 -- the numbers of a dotted text, which end before a `+`
 abbrev pub numbers : List ℕ → List ℕ
@@ -137,4 +137,4 @@ HasNeeds inputs needs = (bytes : Printing) → (o : Outcome) × IsOutcome inputs
 
 -- a report is the only one
 abbrev pub ReportsAlone : Type 0
-ReportsAlone = (inputs : Inputs) (report : Report) → Reports inputs report → (bytes : Printing) → TellsApart bytes → (o : Outcome) → IsOutcome inputs bytes o → report_of o ≡ report
+ReportsAlone = (inputs : Inputs) (report : Report) → Reports inputs report → (bytes : Printing) (o : Outcome) → IsOutcome inputs bytes o → report_of o ≡ report

@@ -1,6 +1,6 @@
 -- The faults that stand, in four phases, each with the line that it cites.
 use Rattle.vk_spec.specs.Conditions.{holds, Condition}
-use Rattle.std.specs.Prelude.{ℕ, Bool, List, [], ◌∷◌, map, flat_map, Option, Some, None, option_map, option_and_then, option_to_list, Result, Ok, Err, bytes_eq, if◌then◌else◌}
+use Rattle.std.specs.Prelude.{ℕ, Bool, List, [], ◌∷◌, map, filter, flat_map, Option, Some, None, option_map, option_and_then, option_to_list, Result, Ok, Err, bytes_eq, if◌then◌else◌}
 use Rattle.std.specs.List.{list_any}
 use Rattle.vk_spec.specs.Paths.{Path}
 use Rattle.vk_spec.specs.Versions.{Version, Ask, ask_of}
@@ -10,7 +10,7 @@ use Rattle.vk_spec.specs.Settings.{Setting, Instance}
 use Rattle.vk_resolution.specs.Keys.{Key, same_key, in_order}
 use Rattle.vk_resolution.specs.Settings.{Marks, Who, root, inst, marks_of, triplet_of, feature_of}
 use Rattle.vk_resolution.specs.Givens.{manifest_at, is_pinned}
-use Rattle.vk_resolution.specs.Asking.{Fact, need, floor, visit}
+use Rattle.vk_resolution.specs.Asking.{Fact, need, floor, visit, is_among}
 use Rattle.vk_resolution.specs.Consequences.{Inputs}
 use Rattle.vk_resolution.specs.Choices.{floors_of, chosen_of, tops_of}
 use Rattle.vk_resolution.specs.Reasons.{first_line, line_of}
@@ -142,6 +142,10 @@ judged_need inputs facts (need (inst i) f) n = judged_chosen inputs i f (chosen_
 judged_need inputs facts (floor p a) n = []
 judged_need inputs facts (visit i f a) n = []
 
--- the lines of the third phase
+-- a fact, judged on its line
+abbrev pub judged_on_line : Inputs → List Fact → Fact → List Fault
+judged_on_line inputs facts x = flat_map (judged_need inputs facts x) (option_to_list (line_of facts x))
+
+-- the lines of the third phase: those of the facts that are planned, in their order
 abbrev pub third_faults_of : Inputs → List Fact → List Fact → List Fault
-third_faults_of inputs facts planned = flat_map (λ x. flat_map (judged_need inputs facts x) (option_to_list (line_of facts x))) planned
+third_faults_of inputs facts planned = flat_map (judged_on_line inputs facts) (filter (is_among planned) facts)

@@ -7,13 +7,9 @@ use Rattle.vk_resolution.specs.Reasons.{Reason, IsReasons, facts_of}
 use Rattle.vk_resolution.specs.Planning.{IsPlanned, Item, IsPlan, IsCycle, targets_of, instances_of}
 use Rattle.vk_resolution.specs.Faults.{Fault, has_cycle, first_faults_of, second_faults_of, third_faults_of}
 
--- what a line prints; different lines print different bytes
+-- what a fault prints
 abbrev pub Printing : Type 0
 Printing = Fault → List ℕ
-
--- different lines print different bytes
-abbrev pub TellsApart : Printing → Type 0
-TellsApart bytes = (f g : Fault) → bytes f ≡ bytes g → f ≡ g
 
 -- the lines of a phase, sorted by their bytes
 abbrev pub lines_of : Printing → List Fault → List Fault

@@ -9,6 +9,6 @@ returns-clause-facts g c = least_in_order_one
 pub returns-clause-things : goal.returns-clause-things
 returns-clause-things g c key is_key xs = (
   in_order-IsListing key is_key xs,
-  λ ys is. ascending_one key is_key ys (in_order key xs) is.ascends (in_order-ascends key is_key xs)
-      (λ z h. in_order-contains key is_key xs z ((is.each z).0 h)) (λ z h. (is.each z).1 (contains-in_order key is_key xs z h)),
+  λ ys is. ascending_one key ys (in_order key xs) is.ascends (in_order-ascends key xs)
+      (λ z h. in_order-contains key is_key xs z ((is.each z).0 h)) (λ z h. (is.each z).1 (contains-in_order key xs z h)),
 )
