@@ -90,7 +90,7 @@ module _ (inputs : Inputs) (facts : List Fact) (least : IsLeast (rules_of inputs
   cause_there : (x : Fact) → Contains facts x → (c : Cause ℕ) × (cause_of inputs facts x ≡ Some c)
   cause_there x h = cause_step_there x (list_any (same_fact x) (root_facts_of inputs.setting)) refl h
 
-  reasons_there : IsLeastInOrder (rules_of inputs) fact_key facts → (reasons : List Reason) × (facts_of reasons ≡ facts) × IsReasons inputs reasons
+  pub reasons_there : IsLeastInOrder (rules_of inputs) fact_key facts → (reasons : List Reason) × (facts_of reasons ≡ facts) × IsReasons inputs reasons
   reasons_there ordered =
       let r = all_some_there (λ x. option_map (λ c. record { fact = x; cause = c }) (cause_of inputs facts x)) facts (λ x h. (let c = cause_there x h in (record { fact = x; cause = c.0 }, ap (option_map (λ k. record { fact = x; cause = k })) c.1))) in
       let is = reasons_are inputs facts r.0 ordered r.1 in

@@ -226,7 +226,7 @@ module _ (inputs : Inputs) (facts one other : List Fact) (same : SameMembers one
       let height = plan.heights first ((plan.all first).1 (subst (λ l. Contains l first) (sym instances_same) cycle.planned)) in
       heights_have_no_cycle (targets_of inputs one) height.0 first height.1 (on_cycle_to (targets_of inputs other) (targets_of inputs one) (λ i. turned_members (targets_same i)) first cycle.on_cycle)
 
-planned_members : (inputs : Inputs) (facts one other : List Fact) → IsPlanned inputs facts one → IsPlanned inputs facts other → SameMembers one other
+pub planned_members : (inputs : Inputs) (facts one other : List Fact) → IsPlanned inputs facts one → IsPlanned inputs facts other → SameMembers one other
 planned_members inputs facts one other is is_other = record { to = least_same (planned_rules_of inputs facts) one other is is_other; from = least_same (planned_rules_of inputs facts) other one is_other is }
 
 module _ (inputs : Inputs) (bytes : Printing) (facts : List Fact) where
@@ -267,7 +267,7 @@ module _ (inputs : Inputs) (bytes : Printing) (facts : List Fact) where
   agreed_one : (items more : List Item) → IsAgreed inputs facts items → IsAgreed inputs facts more → items ≡ more
   agreed_one items more one other = plan_one inputs facts one.planned other.planned (planned_members inputs facts one.planned other.planned one.is_planned other.is_planned) items more one.plan other.plan
 
-reasons_same : (inputs : Inputs) (one other : List Reason) → IsReasons inputs one → IsReasons inputs other → one ≡ other
+pub reasons_same : (inputs : Inputs) (one other : List Reason) → IsReasons inputs one → IsReasons inputs other → one ≡ other
 reasons_same inputs one other is is_other =
     let facts : facts_of one ≡ facts_of other = least_in_order_one (rules_of inputs) fact_key fact_key-IsKey (facts_of one) (facts_of other) is.facts is_other.facts in
     reasons_one inputs (facts_of one) one other facts is.causes (λ r h. ap (λ l. cause_of inputs l r.fact) facts ∙ is_other.causes r h)

@@ -10,6 +10,9 @@ pub mod Reasons
 pub mod Planning
 pub mod Faults
 pub mod Outcomes
+pub mod Lines
+pub mod Closures
+pub mod Selections
 pub mod Computed
 pub mod Examples
 pub mod Projects
@@ -19,6 +22,7 @@ pub mod Laws
 pub mod Service
 pub mod Agreement
 pub mod Walks
+pub mod PlannedSets
 pub mod Superseded
 pub mod OutcomeLaws
 pub mod FaultLaws
