@@ -22,3 +22,4 @@ pub mod SentenceLemmas
 pub mod FaultLemmas
 pub mod ClosureLemmas
 pub mod SelectionLemmas
+pub mod PlanSetLemmas

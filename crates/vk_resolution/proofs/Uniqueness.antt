@@ -38,7 +38,7 @@ turned_members : {X : Type 0} {xs ys : List X} → SameMembers xs ys → SameMem
 turned_members same = record { to = same.from; from = same.to }
 
 module _ {X : Type 0} where
-  any_same : (f g : X → Bool) (xs ys : List X) → SameMembers xs ys → ((x : X) → f x ≡ g x) → list_any f xs ≡ list_any g ys
+  pub any_same : (f g : X → Bool) (xs ys : List X) → SameMembers xs ys → ((x : X) → f x ≡ g x) → list_any f xs ≡ list_any g ys
   any_same f g xs ys same equal = both_ways (list_any f xs) (list_any g ys)
       (λ e. (let r = any_contains f xs e in contains_any g ys r.0 (same.to r.0 r.1) (sym (equal r.0) ∙ r.2)))
       (λ e. (let r = any_contains g ys e in contains_any f xs r.0 (same.from r.0 r.1) (equal r.0 ∙ r.2)))
@@ -80,13 +80,13 @@ module _ (one other : Targets) (same : (i : Instance) → SameMembers (one i) (o
   way_same zero i j = refl
   way_same (suc n) i j = any_same (λ k. has_way one n k j) (λ k. has_way other n k j) (one i) (other i) (same i) (λ k. way_same n k j)
 
-  height_to : (n : ℕ) (i : Instance) → HasHeight one n i → HasHeight other n i
+  pub height_to : (n : ℕ) (i : Instance) → HasHeight one n i → HasHeight other n i
   height_to n i height = record { within = sym (within_same n i) ∙ height.within; no_lower = λ m lower. sym (within_same m i) ∙ height.no_lower m lower }
 
   height_back : (n : ℕ) (i : Instance) → HasHeight other n i → HasHeight one n i
   height_back n i height = record { within = within_same n i ∙ height.within; no_lower = λ m lower. within_same m i ∙ height.no_lower m lower }
 
-  by_height_to : (is : List Instance) → IsByHeight one is → IsByHeight other is
+  pub by_height_to : (is : List Instance) → IsByHeight one is → IsByHeight other is
   by_height_to [] order = tt
   by_height_to (i ∷ is) order = ((λ j h m n height_i height_j. order.0 j h m n (height_back m i height_i) (height_back n j height_j)), by_height_to is order.1)
 
@@ -114,7 +114,7 @@ module _ (one other : Targets) (same : (i : Instance) → SameMembers (one i) (o
   walks_to first i [] walk = next_to first i first walk
   walks_to first i (j ∷ js) walk = (walk.0, next_to first i j walk.1, walks_to first j js walk.2)
 
-  cycle_to : (instances walk : List Instance) → IsCycle one instances walk → IsCycle other instances walk
+  pub cycle_to : (instances walk : List Instance) → IsCycle one instances walk → IsCycle other instances walk
   cycle_to instances [] cycle = absurd cycle
   cycle_to instances (first ∷ rest) cycle = record {
     planned = cycle.planned;
@@ -154,7 +154,7 @@ module _ (targets : Targets) where
       }) in
       (cc)
 
-places_same : {X : Type 0} (n : ℕ) (f g : X → Bool) (xs : List X) → ((x : X) → f x ≡ g x) → places_from n f xs ≡ places_from n g xs
+pub places_same : {X : Type 0} (n : ℕ) (f g : X → Bool) (xs : List X) → ((x : X) → f x ≡ g x) → places_from n f xs ≡ places_from n g xs
 places_same n f g [] same = refl
 places_same n f g (x ∷ xs) same = ap₂ (λ b l. cond b (n ∷ l) l) (same x) (places_same (n + 1) f g xs same)
 
@@ -176,7 +176,7 @@ module _ (inputs : Inputs) (facts one other : List Fact) (same : SameMembers one
   targets_same : (i : Instance) → SameMembers (targets_of inputs one i) (targets_of inputs other i)
   targets_same i = map_members (targets_at inputs i) one other same
 
-  instances_same : instances_of one ≡ instances_of other
+  pub instances_same : instances_of one ≡ instances_of other
   instances_same = order_same instance_key instance_key-IsKey (flat_map needed_in one) (flat_map needed_in other) (map_members needed_in one other same)
 
   features_same : (i : Instance) → features_of one i ≡ features_of other i
@@ -199,7 +199,7 @@ module _ (inputs : Inputs) (facts one other : List Fact) (same : SameMembers one
       ∙ sym is_other.needs in
       λ t. record { instance = e t; version = version t; line = line t; features = features t; needs = needs t }
 
-  items_one : (order : List Instance) (xs ys : List Item) → order_of xs ≡ order_of ys → ((k : Item) → Contains xs k → IsItem inputs facts one order k) → ((k : Item) → Contains ys k → IsItem inputs facts other order k) → xs ≡ ys
+  pub items_one : (order : List Instance) (xs ys : List Item) → order_of xs ≡ order_of ys → ((k : Item) → Contains xs k → IsItem inputs facts one order k) → ((k : Item) → Contains ys k → IsItem inputs facts other order k) → xs ≡ ys
   items_one order [] [] e a b = refl
   items_one order [] (y ∷ ys) e a b = (cc)
   items_one order (x ∷ xs) [] e a b = (cc)
@@ -350,7 +350,7 @@ place_step m n test x xs true e rest h =
     ]
 place_step m n test x xs false e rest h = let r = rest h in (suc r.0, r.1, (let p : n ≡ (m + 1) + r.0 = r.2 in let q : n ≡ m + suc r.0 = omega arith in q), r.3, r.4)
 
-place_passes : {X : Type 0} (m n : ℕ) (test : X → Bool) (xs : List X) → Contains (places_from m test xs) n → (k : ℕ) × (y : X) × (n ≡ m + k) × (slice_get xs k ≡ Some y) × (test y ≡ true)
+pub place_passes : {X : Type 0} (m n : ℕ) (test : X → Bool) (xs : List X) → Contains (places_from m test xs) n → (k : ℕ) × (y : X) × (n ≡ m + k) × (slice_get xs k ≡ Some y) × (test y ≡ true)
 place_passes m n test [] h = absurd (contains_nothing n h)
 place_passes m n test (x ∷ xs) h = place_step m n test x xs (test x) refl (place_passes (m + 1) n test xs) h
 

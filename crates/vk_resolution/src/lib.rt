@@ -5,21 +5,26 @@
 
 mod agreement;
 mod choices;
+mod closures;
 mod faults;
 mod least;
 mod outcomes;
+mod planned_sets;
 mod plans;
 mod projects;
 mod reasons;
+mod selections;
 mod sentences;
 mod superseded;
 mod walks;
 
 pub use agreement::only_what_was_asked_matters;
 pub use choices::a_choice_is_the_least_version_allowed;
+pub use closures::a_closure_is_one_or_has_too_many_facts;
 pub use faults::fault_lines_mean_what_they_say;
 pub use least::{a_derived_list_is_the_least, an_order_is_one, there_is_one_least_list};
 pub use outcomes::{orders_are_total, there_is_one_outcome};
+pub use planned_sets::a_planned_set_in_order_is_the_plan;
 pub use plans::{a_plan_serves_its_manifests, a_plan_stays_within_the_reasons};
 pub use projects::{
     a_feature_of_one_version, a_minimum_outside_the_table, a_raised_minimum, a_realistic_project,
@@ -28,6 +33,7 @@ pub use projects::{
     root_features, superseded_versions, the_smallest_project,
 };
 pub use reasons::reasons_show_what_they_claim;
+pub use selections::choices_are_made_or_conflicts_told;
 pub use sentences::rules_mean_their_sentences;
 pub use superseded::superseded_versions_count_and_go;
 pub use walks::{heights_exist_where_no_cycle_is, one_shortest_cycle_is_told};
