@@ -23,3 +23,4 @@ pub mod FaultLemmas
 pub mod ClosureLemmas
 pub mod SelectionLemmas
 pub mod PlanSetLemmas
+pub mod PrintLemmas

@@ -25,4 +25,5 @@ pub mod Walks
 pub mod PlannedSets
 pub mod Superseded
 pub mod OutcomeLaws
+pub mod Printouts
 pub mod FaultLaws

@@ -11,6 +11,7 @@ mod least;
 mod outcomes;
 mod planned_sets;
 mod plans;
+mod printouts;
 mod projects;
 mod reasons;
 mod selections;
@@ -26,6 +27,7 @@ pub use least::{a_derived_list_is_the_least, an_order_is_one, there_is_one_least
 pub use outcomes::{orders_are_total, there_is_one_outcome};
 pub use planned_sets::a_planned_set_in_order_is_the_plan;
 pub use plans::{a_plan_serves_its_manifests, a_plan_stays_within_the_reasons};
+pub use printouts::{faults_are_printed, plans_are_printed, reports_are_printed};
 pub use projects::{
     a_feature_of_one_version, a_minimum_outside_the_table, a_raised_minimum, a_realistic_project,
     bad_files, conflicts, cycles, default_features, failing_ports, host_instances,
