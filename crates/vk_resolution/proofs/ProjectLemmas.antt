@@ -9,7 +9,8 @@ use Rattle.vk_resolution.specs.Computed.{outcome_by, off_list_by, reasons_by, if
 use Rattle.vk_resolution.specs.Examples.{Report, report_of, Reports, needs_in, HasNeeds, ReportsAlone}
 use Rattle.vk_resolution.specs.Projects
 use Rattle.vk_resolution.proofs.FactLemmas.{fact_key-IsKey}
-use Rattle.vk_resolution.proofs.Soundness.{outcome_is, map_some, closed_round, reasons_are}
+use Rattle.vk_resolution.proofs.Soundness.{map_some, closed_round, reasons_are}
+use Rattle.vk_resolution.proofs.ComputedOutcome.{outcome_is}
 use Rattle.vk_resolution.proofs.OffLists.{off_listed}
 use Rattle.vk_resolution.proofs.Uniqueness.{outcome_is_one}
 

@@ -1,10 +1,11 @@
 -- Laws of heights and cycles, over any edges.
-use Rattle.std.specs.Prelude.{◌≡◌, ◌<◌, ◌≤◌, ℕ, suc, true, List, [], ◌∷◌, ◌++◌, length}
+use Rattle.std.specs.Prelude.{◌≡◌, ◌↔◌, ◌<◌, ◌≤◌, ℕ, suc, true, List, [], ◌∷◌, ◌++◌, length, Some}
 use Rattle.std.specs.List.{Contains}
 use Rattle.vk_spec.specs.Lists.{NoRepeats, IsWithin}
 use Rattle.vk_spec.specs.Settings.{Instance}
 use Rattle.vk_resolution.specs.Keys.{Ascends}
 use Rattle.vk_resolution.specs.Planning.{instance_key, HasHeight, IsByHeight, has_way, IsOnCycle, IsCycle}
+use Rattle.vk_resolution.specs.Computed.{cycle_by}
 
 -- what each instance depends on
 abbrev pub Targets : Type 0
@@ -35,6 +36,10 @@ TargetsStandBefore = (targets : Targets) (before after : List Instance) (i j : I
 -- where there is a cycle, exactly one walk is told
 abbrev pub CycleExists : Type 0
 CycleExists = (targets : Targets) (instances : List Instance) → Ascends instance_key instances → AreEdgesOf targets instances → (i : Instance) → Contains instances i → IsOnCycle targets i → (walk : List Instance) × IsCycle targets instances walk
+
+-- the search answers that walk, and no other
+abbrev pub CycleIsFound : Type 0
+CycleIsFound = (targets : Targets) (instances : List Instance) → Ascends instance_key instances → AreEdgesOf targets instances → (walk : List Instance) → (cycle_by targets instances ≡ Some walk) ↔ IsCycle targets instances walk
 
 -- the walk is one
 abbrev pub CycleIsOne : Type 0
