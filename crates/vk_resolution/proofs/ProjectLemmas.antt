@@ -82,6 +82,9 @@ cycle = reports Projects.cycle Projects.cycle_report refl (λ bytes. refl)
 pub two_cycles : Reports Projects.two_cycles Projects.two_cycles_report
 two_cycles = reports Projects.two_cycles Projects.two_cycles_report refl (λ bytes. refl)
 
+pub leads_in : Reports Projects.leads_in Projects.leads_in_report
+leads_in = reports Projects.leads_in Projects.leads_in_report refl (λ bytes. refl)
+
 pub own_feature : Reports Projects.own_feature Projects.own_feature_report
 own_feature = reports Projects.own_feature Projects.own_feature_report refl (λ bytes. refl)
 

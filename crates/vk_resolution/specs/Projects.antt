@@ -646,3 +646,10 @@ early_feature = project (with_features (on d) bz2 ∷ []) (pages_of ((d, listed 
 
 abbrev pub early_feature_report : Report
 early_feature_report = plans (line_with d one 6 (bz2 ∷ []) ∷ []) 9
+
+-- a project that leads into a cycle, which its least instance isn't on
+abbrev pub leads_in : Inputs
+leads_in = project (on a ∷ []) (pages_of (single a (on b ∷ []) ∷ single b (on c ∷ []) ∷ single c (on b ∷ []) ∷ []))
+
+abbrev pub leads_in_report : Report
+leads_in_report = refuses (has_cycle (x64 b ∷ x64 c ∷ []) ∷ []) 17

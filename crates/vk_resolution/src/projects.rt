@@ -2,7 +2,7 @@
 ghost use Rattle.vk_spec.specs.Versions.{IsOrder};
 ghost use Rattle.vk_resolution.specs.Reasons.{IsReasons};
 ghost use Rattle.vk_resolution.specs.Examples.{HasNeeds, Reports, ReportsAlone, at_most};
-ghost use Rattle.vk_resolution.specs.Projects.{below_baseline, below_baseline_report, builds_with_floor, builds_with_floor_report, conflict, conflict_report, cross_build, cross_build_report, cycle, cycle_report, damaged_manifest, damaged_manifest_report, damaged_overlay, damaged_overlay_report, default_feature, default_feature_report, dropped_feature, dropped_feature_report, early_feature, early_feature_report, failed_override, failed_override_report, host_platform, host_platform_report, missing_feature, missing_feature_report, missing_minimum, missing_minimum_report, named_feature, named_feature_report, named_root, named_root_report, native_build, native_build_report, new_feature, new_feature_report, no_baseline_entry, no_baseline_entry_report, no_table, no_table_report, off_by_port, off_by_port_report, off_by_root, off_by_root_report, off_where_it_applies, off_where_it_applies_report, on_by_another, on_by_another_report, other_manifest, other_manifest_report, other_overlay, other_overlay_report, overlaid_port, overlaid_port_report, overridden, overridden_report, own_feature, own_feature_report, own_minimum, own_minimum_report, raised_minimum, raised_minimum_reasons, raised_minimum_report, realistic, realistic_needs, realistic_report, smallest, smallest_report, stale_baseline, stale_baseline_report, superseded_minimum, superseded_minimum_report, superseded_reach, superseded_reach_report, two_cycles, two_cycles_report, unrelated_builds, unrelated_builds_report, unserved, unserved_report, unsupported_feature, unsupported_feature_report, unsupported_port, unsupported_port_report};
+ghost use Rattle.vk_resolution.specs.Projects.{below_baseline, below_baseline_report, builds_with_floor, builds_with_floor_report, conflict, conflict_report, cross_build, cross_build_report, cycle, cycle_report, damaged_manifest, damaged_manifest_report, damaged_overlay, damaged_overlay_report, default_feature, default_feature_report, dropped_feature, dropped_feature_report, early_feature, early_feature_report, failed_override, failed_override_report, host_platform, host_platform_report, leads_in, leads_in_report, missing_feature, missing_feature_report, missing_minimum, missing_minimum_report, named_feature, named_feature_report, named_root, named_root_report, native_build, native_build_report, new_feature, new_feature_report, no_baseline_entry, no_baseline_entry_report, no_table, no_table_report, off_by_port, off_by_port_report, off_by_root, off_by_root_report, off_where_it_applies, off_where_it_applies_report, on_by_another, on_by_another_report, other_manifest, other_manifest_report, other_overlay, other_overlay_report, overlaid_port, overlaid_port_report, overridden, overridden_report, own_feature, own_feature_report, own_minimum, own_minimum_report, raised_minimum, raised_minimum_reasons, raised_minimum_report, realistic, realistic_needs, realistic_report, smallest, smallest_report, stale_baseline, stale_baseline_report, superseded_minimum, superseded_minimum_report, superseded_reach, superseded_reach_report, two_cycles, two_cycles_report, unrelated_builds, unrelated_builds_report, unserved, unserved_report, unsupported_feature, unsupported_feature_report, unsupported_port, unsupported_port_report};
 
 /// The order on versions in these projects is an order, and what one reports is all that it can report.
 pub fn reports_are_the_only_ones()
@@ -81,10 +81,11 @@ pub fn host_instances()
     ensures platform { Reports host_platform host_platform_report }
 {}
 
-/// A cycle is told from its least instance on, and a port that asks for a feature of its own is none.
+/// A cycle is told from its least instance on, wherever one comes into it, and a port that asks for a feature of its own is none.
 pub fn cycles()
     ensures three { Reports cycle cycle_report }
     ensures two { Reports two_cycles two_cycles_report }
+    ensures leads_in { Reports leads_in leads_in_report }
     ensures own { Reports own_feature own_feature_report }
 {}
 
