@@ -25,7 +25,7 @@ module _ (inputs : Inputs) (bytes : Printing) (n : ℕ) (facts : List Fact) (rea
         → IsOutcome inputs bytes o
     fourth_is third None o e made =
         let r = map_some (λ walk. refused (has_cycle walk ∷ []) reasons) (cycle_by (targets_of inputs chosen) (instances_of chosen)) o made in
-        refusal (has_cycle r.0 ∷ []) o (by_fourth chosen first second is_planned third r.0 (cycle_is (targets_of inputs chosen) (instances_of chosen) (planned_edges inputs facts chosen is_planned) r.0 (in_order-ascends instance_key instance_key-IsKey (flat_map needed_in chosen)) r.1) refl) r.2
+        refusal (has_cycle r.0 ∷ []) o (by_fourth chosen first second is_planned third r.0 (cycle_is (targets_of inputs chosen) (instances_of chosen) (planned_edges inputs facts chosen is_planned).stay r.0 (in_order-ascends instance_key instance_key-IsKey (flat_map needed_in chosen)) r.1) refl) r.2
     fourth_is third (Some order) o e made =
         let r = map_some (λ items. planned items reasons) (all_some (item_by inputs facts chosen order) order) o made in
         let plan = plan_is inputs n facts chosen order r.0 e r.1 in

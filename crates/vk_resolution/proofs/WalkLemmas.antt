@@ -12,7 +12,7 @@ use Rattle.vk_resolution.specs.Keys.{Key, key_cmp, Ascends, in_order}
 use Rattle.vk_resolution.specs.Settings.{same_instance}
 use Rattle.vk_resolution.specs.Planning.{instance_key, is_within, HasHeight, IsByHeight, has_way, IsOnCycle, IsFrom, IsNext, WalksOn, IsCycleFrom, IsCycle}
 use Rattle.vk_resolution.specs.Computed.{Numbered, numbered_key, least_from, on_cycle_within, first_on_cycle, with_way, head_of, next_by, walk_by, cycle_by}
-use Rattle.vk_resolution.specs.Walks.{Targets, AreEdgesOf, HeightsHaveNoCycle, NoCycleGivesHeights, TargetsAreLower, TargetsStandBefore, CycleExists, CycleIsFound, CycleIsOne, IsRound, IsShortestRound, CycleIsShortest}
+use Rattle.vk_resolution.specs.Walks.{Targets, EdgesStay, EdgesLeave, HeightsHaveNoCycle, NoCycleGivesHeights, TargetsAreLower, TargetsStandBefore, CycleExists, CycleIsFound, CycleIsOne, IsRound, IsShortestRound, CycleIsShortest}
 use Rattle.vk_resolution.proofs.Members.{true_or_false, true_false, no_is_false, any_contains, contains_any, all_contains, not_all, found_contains, nothing_found, filter_map-contains}
 use Rattle.vk_resolution.proofs.Orders.{turned_back, before_both, in_order-contains}
 use Rattle.vk_resolution.proofs.LeastLemmas.{no_longer}
@@ -75,13 +75,13 @@ module _ (targets : Targets) where
   repeat_cycle i [] chain (inr later) = absurd later
   repeat_cycle i (j ∷ js) chain (inr later) = let r = repeat_cycle j js chain.1 later in (r.0, contains_later i r.0 (j ∷ js) r.1, r.2)
 
-  module _ (instances : List Instance) (edges : AreEdgesOf targets instances) where
+  module _ (instances : List Instance) (stay : EdgesStay targets instances) where
     pub chain_in : (i : Instance) (js : List Instance) → IsChain targets i js → Contains instances i → IsWithin (i ∷ js) instances
     chain_in i [] chain h k at = elim (contains_cases i k [] at) [ inl same ↦ subst (Contains instances) same h | inr none ↦ absurd (contains_nothing k none) ]
     chain_in i (j ∷ js) chain h k at =
         elim (contains_cases i k (j ∷ js) at) [
           | inl same ↦ subst (Contains instances) same h
-          | inr later ↦ chain_in j js chain.1 (edges.stay i h j chain.0) k later
+          | inr later ↦ chain_in j js chain.1 (stay i h j chain.0) k later
         ]
 
     no_cycle_height : ((i : Instance) → Contains instances i → IsOnCycle targets i → ⊥) → (i : Instance) → Contains instances i → (n : ℕ) × HasHeight targets n i
@@ -99,7 +99,7 @@ module _ (targets : Targets) where
         ]
 
 pub no_cycle_gives_heights : NoCycleGivesHeights
-no_cycle_gives_heights targets instances edges none = no_cycle_height targets instances edges none
+no_cycle_gives_heights targets instances stay none = no_cycle_height targets instances stay none
 
 pub targets_are_lower : TargetsAreLower
 targets_are_lower targets zero n i j height_i height_j edge = let clash : false ≡ true = all_contains (λ k. false) (targets i) height_i.within j edge in (cc)
@@ -230,13 +230,13 @@ module _ (targets : Targets) where
   rest_facts : (first : Instance) (rest : List Instance) → (walk : WalksOn targets first first rest) → WalkFacts first (first_step first first rest walk).1.steps rest
   rest_facts first rest walk = walk_facts first first rest (first_step first first rest walk).1.steps walk refl
 
-  pub cycle_shortest : (instances : List Instance) → AreEdgesOf targets instances → (first : Instance) (rest : List Instance) → IsCycle targets instances (first ∷ rest) → IsShortestRound targets first rest
-  cycle_shortest instances edges first rest cycle =
+  pub cycle_shortest : (instances : List Instance) → EdgesLeave targets → (first : Instance) (rest : List Instance) → IsCycle targets instances (first ∷ rest) → IsShortestRound targets first rest
+  cycle_shortest instances leave first rest cycle =
       let step = first_step first first rest cycle.walk in
       let facts = rest_facts first rest cycle.walk in
       record {
         distinct = (walk_others first first rest cycle.walk, facts.distinct);
-        some = walk_some first rest (edges.leave first) cycle.walk;
+        some = walk_some first rest (leave first) cycle.walk;
         edges = walk_round first first rest cycle.walk;
         shortest = λ n way. (
             let r = way_edge n first first way in
@@ -249,7 +249,7 @@ module _ (targets : Targets) where
       }
 
 pub cycle_is_shortest : CycleIsShortest
-cycle_is_shortest targets instances edges first rest cycle = cycle_shortest targets instances edges first rest cycle
+cycle_is_shortest targets instances leave first rest cycle = cycle_shortest targets instances leave first rest cycle
 
 cycle_one : (targets : Targets) (instances : List Instance) (one : Instance) (js : List Instance) (other : Instance) (ks : List Instance) → IsCycleFrom targets instances one js → IsCycleFrom targets instances other ks → one ∷ js ≡ other ∷ ks
 cycle_one targets instances one js other ks is is_other =
@@ -285,7 +285,7 @@ module _ (targets : Targets) (test : Instance → Bool) (first : Instance) where
   found_least [] ascends e i h passes = absurd (contains_nothing i h)
   found_least (k ∷ is) ascends e i h passes = least_step k is (test k) refl ascends (found_least is ascends.1) e i h passes
 
-module _ (targets : Targets) (instances : List Instance) (edges : AreEdgesOf targets instances) where
+module _ (targets : Targets) (instances : List Instance) (stay : EdgesStay targets instances) where
   -- the instances along a shortest way, each with its own shortest way
   pub record AlongWay (first : Instance) (n : ℕ) (xs : List Instance) : Type 0 where
     pub long : length xs ≡ suc n
@@ -309,7 +309,7 @@ module _ (targets : Targets) (instances : List Instance) (edges : AreEdgesOf tar
         way = r.2;
         no_shorter = λ m lower. no_is_false (has_way targets m r.0 first) (λ way. true_false (has_way targets (suc m) i first) (edge_way targets m i r.0 first r.1 way) (from.no_shorter (suc m) (omega arith)));
       } in
-      let rest = along n r.0 first (edges.stay i h r.0 r.1) back in (
+      let rest = along n r.0 first (stay i h r.0 r.1) back in (
         i ∷ rest.0,
         record {
           long = ap suc rest.1.long;
@@ -343,7 +343,7 @@ module _ (targets : Targets) (instances : List Instance) (edges : AreEdgesOf tar
   cycle_bound i h cycle =
       let r = way_edge targets cycle.0 i i cycle.1 in
       let s = shortest_way targets cycle.0 r.0 i r.2 in
-      (s.0, way_bound s.0 r.0 i (edges.stay i h r.0 r.1) s.2, edge_way targets s.0 i r.0 i r.1 s.2.way)
+      (s.0, way_bound s.0 r.0 i (stay i h r.0 r.1) s.2, edge_way targets s.0 i r.0 i r.1 s.2.way)
 
   -- what the search takes is on a cycle
   within_cycle : (i : Instance) → on_cycle_within targets (length instances) i ≡ true → IsOnCycle targets i
@@ -391,7 +391,7 @@ module _ (targets : Targets) (instances : List Instance) (edges : AreEdgesOf tar
       let ps : List Numbered = filter_map (with_way targets (length instances) first) (targets i) in
       let listed : with_way targets (length instances) first k ≡ Some (m, k) = elim (way_listed targets (length instances) m first k from) [
         | inl is ↦ is
-        | inr long ↦ (let below : m < length instances = way_bound m k first (edges.stay i h k edge) from in absurd (omega arith))
+        | inr long ↦ (let below : m < length instances = way_bound m k first (stay i h k edge) from in absurd (omega arith))
       ] in
       by (in_order numbered_key ps) refl (in_order-contains numbered_key numbered_key-IsKey ps (m, k) (filter_map-contains (with_way targets (length instances) first) (targets i) k (m, k) edge listed))
     where
@@ -414,7 +414,7 @@ module _ (targets : Targets) (instances : List Instance) (edges : AreEdgesOf tar
   walk_there (suc n) (suc m) first i p h next steps below =
       let is = next_is targets (length instances) first i p next in
       let back : IsFrom targets (suc n) p.1 first = subst (λ k. IsFrom targets k p.1 first) steps is.back in
-      let in_p : Contains instances p.1 = edges.stay i h p.1 is.edge in
+      let in_p : Contains instances p.1 = stay i h p.1 is.edge in
       let r = way_edge targets n p.1 first back.way in
       let s = shortest_way targets n r.0 first r.2 in
       let q = next_there first p.1 r.0 s.0 in_p r.1 s.2 in
@@ -440,24 +440,24 @@ module _ (targets : Targets) (instances : List Instance) (edges : AreEdgesOf tar
           let s = shortest_way targets on.0 r.0 first r.2 in
           let p = next_there first first r.0 s.0 found.0 r.1 s.2 in
           let is = next_is targets (length instances) first first p.0 p.1 in
-          let walk = walk_there is.steps (length instances) first first p.0 found.0 p.1 refl (way_bound is.steps p.0.1 first (edges.stay first found.0 p.0.1 is.edge) is.back) in (
+          let walk = walk_there is.steps (length instances) first first p.0 found.0 p.1 refl (way_bound is.steps p.0.1 first (stay first found.0 p.0.1 is.edge) is.back) in (
             first ∷ walk.0,
             ap (option_and_then (λ k. option_map (λ js. k ∷ js) (walk_by targets (length instances) k (length instances) k))) e ∙ ap (option_map (λ js. first ∷ js)) walk.1,
           )
 
 pub cycle_exists : CycleExists
-cycle_exists targets instances ascends edges i h cycle = let r = cycle_there targets instances edges i h cycle in (r.0, cycle_is targets instances edges r.0 ascends r.1)
+cycle_exists targets instances ascends stay i h cycle = let r = cycle_there targets instances stay i h cycle in (r.0, cycle_is targets instances stay r.0 ascends r.1)
 
 on_cycle_of : (targets : Targets) (instances walk : List Instance) → IsCycle targets instances walk → (i : Instance) × Contains instances i × IsOnCycle targets i
 on_cycle_of targets instances [] is = absurd is
 on_cycle_of targets instances (first ∷ rest) is = (first, is.planned, is.on_cycle)
 
 pub cycle_is_found : CycleIsFound
-cycle_is_found targets instances ascends edges walk = (
-  cycle_is targets instances edges walk ascends,
+cycle_is_found targets instances ascends stay walk = (
+  cycle_is targets instances stay walk ascends,
   λ is. (
       let i = on_cycle_of targets instances walk is in
-      let r = cycle_there targets instances edges i.0 i.1 i.2 in
-      r.1 ∙ ap Some (cycle_is_one targets instances r.0 walk (cycle_is targets instances edges r.0 ascends r.1) is)
+      let r = cycle_there targets instances stay i.0 i.1 i.2 in
+      r.1 ∙ ap Some (cycle_is_one targets instances r.0 walk (cycle_is targets instances stay r.0 ascends r.1) is)
       ),
 )
