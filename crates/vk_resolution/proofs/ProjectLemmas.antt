@@ -164,3 +164,21 @@ reports_alone inputs report reports bytes apart o is =
 
 pub early_feature : Reports Projects.early_feature Projects.early_feature_report
 early_feature = reports Projects.early_feature Projects.early_feature_report refl (λ bytes. refl)
+
+pub overridden_without_table : Reports Projects.overridden_without_table Projects.overridden_without_table_report
+overridden_without_table = reports Projects.overridden_without_table Projects.overridden_without_table_report refl (λ bytes. refl)
+
+pub conflict_by_text : Reports Projects.conflict_by_text Projects.conflict_by_text_report
+conflict_by_text = reports Projects.conflict_by_text Projects.conflict_by_text_report refl (λ bytes. refl)
+
+pub floors_by_text : Reports Projects.floors_by_text Projects.floors_by_text_report
+floors_by_text = reports Projects.floors_by_text Projects.floors_by_text_report refl (λ bytes. refl)
+
+pub off_by_default_feature : Reports Projects.off_by_default_feature Projects.off_by_default_feature_report
+off_by_default_feature = reports Projects.off_by_default_feature Projects.off_by_default_feature_report refl (λ bytes. refl)
+
+pub off_by_own_feature : Reports Projects.off_by_own_feature Projects.off_by_own_feature_report
+off_by_own_feature = reports Projects.off_by_own_feature Projects.off_by_own_feature_report refl (λ bytes. refl)
+
+pub visits_by_feature : IsReasons Projects.visits_by_feature Projects.visits_by_feature_reasons
+visits_by_feature = reasons Projects.visits_by_feature (facts_of Projects.visits_by_feature_reasons) Projects.visits_by_feature_reasons refl refl

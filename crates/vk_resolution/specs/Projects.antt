@@ -3,7 +3,7 @@ use Rattle.std.specs.Prelude.{ℕ, Bool, true, false, List, [], ◌∷◌, Some,
 use Rattle.vk_spec.specs.Paths.{Path}
 use Rattle.vk_spec.specs.Versions.{Version, date, text}
 use Rattle.vk_spec.specs.Manifests.{Manifest, Dependency, Feature, Override, core}
-use Rattle.vk_spec.specs.Pages.{name as field_name, text as field_text, Wrong, no_registry, no_baseline, bad_file, disagrees, overlay, override, Row, Page}
+use Rattle.vk_spec.specs.Pages.{name as field_name, text as field_text, Wrong, no_registry, no_baseline, bad_file, disagrees, baseline, overlay, override, Row, Page}
 use Rattle.vk_spec.specs.Conditions.{Condition, always, mark, negation, all, condition, no_conditions}
 use Rattle.vk_resolution.specs.Settings.{root, inst}
 use Rattle.vk_resolution.specs.Asking.{need, floor, visit}
@@ -653,3 +653,102 @@ leads_in = project (on a ∷ []) (pages_of (single a (on b ∷ []) ∷ single b 
 
 abbrev pub leads_in_report : Report
 leads_in_report = refuses (has_cycle (x64 b ∷ x64 c ∷ []) ∷ []) 17
+
+-- an override pins also where the port's table can't be read
+abbrev pub other_table_path : Path
+other_table_path = codes "." ∷ codes "reg" ∷ codes "versions" ∷ codes "b-" ∷ codes "b.json" ∷ []
+
+abbrev pub overridden_without_table : Inputs
+overridden_without_table = failing (bad_file other_table_path [] (codes "absent")) (record { name = b; ask = ask (codes "9") } ∷ [])
+
+abbrev pub overridden_without_table_report : Report
+overridden_without_table_report = refuses (troubled (unreadable other_table_path [] (codes "absent")) 3 ∷ []) 4
+
+-- a version with a port-version, its row, and a dependency with such a minimum
+abbrev pub ported : Version → ℕ → Version
+ported v n = record { class = v.class; text = v.text; port = n }
+
+abbrev pub bare_row : List ℕ → Version → Row Condition
+bare_row port v = record { version = v; manifest = Ok (manifest port v []) }
+
+abbrev pub at_least_port : List ℕ → List ℕ → ℕ → Dependency Condition
+at_least_port port t n = record { name = port; defaults = true; features = []; host = false; platform = always; minimum = Some (record { text = t; port = n }) }
+
+-- floors in conflict are told by text first, and then by port-version
+abbrev pub conflict_by_text : Inputs
+conflict_by_text = project (on p ∷ on q ∷ []) (pages_of (
+    single p (on s ∷ [])
+    ∷ single q (at_least s beta ∷ [])
+    ∷ (s, record { given = Ok (baseline (record { text = alpha; port = 1 })); rows = bare_row s (ported (text_version alpha) 1) ∷ text_release s beta ∷ [] })
+    ∷ []))
+
+abbrev pub conflict_by_text_report : Report
+conflict_by_text_report = refuses (conflicts s (ported (text_version alpha) 1) 16 (text_version beta) 15 ∷ []) 20
+
+-- floors of one rank stand by text first, and then by port-version
+abbrev pub floors_by_text : Inputs
+floors_by_text = project (at_least_port b one 1 ∷ at_least_port b (codes "2") 0 ∷ []) (pages_of (
+    (b, listed one (release b one [] ∷ bare_row b (ported (version one) 1) ∷ release b (codes "2") [] ∷ []))
+    ∷ []))
+
+abbrev pub floors_by_text_report : Report
+floors_by_text_report = plans (planned_line b (codes "2") 6 ∷ []) 13
+
+-- visits of one rank stand by feature first, and then by version
+abbrev pub visits_by_feature : Inputs
+visits_by_feature = project (at_least b (codes "2") ∷ at_least b three ∷ []) (pages_of ((b, listed one (release b one [] ∷ release b (codes "2") [] ∷ release b three [] ∷ [])) ∷ []))
+
+abbrev pub visits_by_feature_reasons : List Reason
+visits_by_feature_reasons =
+    record { fact = need (root (codes "x64-linux")) core; cause = by_root }
+    ∷ record { fact = need (root (codes "x64-linux")) default; cause = by_root }
+    ∷ record { fact = need (inst (x64 b)) core; cause = by_one 1 }
+    ∷ record { fact = need (inst (x64 b)) default; cause = by_one 1 }
+    ∷ record { fact = floor b (ask (codes "2")); cause = by_minimum 1 }
+    ∷ record { fact = floor b (ask three); cause = by_minimum 1 }
+    ∷ record { fact = floor b (ask one); cause = by_baseline 3 }
+    ∷ record { fact = visit (x64 b) core (ask (codes "2")); cause = by_two 3 5 }
+    ∷ record { fact = visit (x64 b) core (ask three); cause = by_two 3 6 }
+    ∷ record { fact = visit (x64 b) default (ask (codes "2")); cause = by_two 4 5 }
+    ∷ record { fact = visit (x64 b) default (ask three); cause = by_two 4 6 }
+    ∷ record { fact = visit (x64 b) core (ask one); cause = by_two 3 7 }
+    ∷ record { fact = visit (x64 b) default (ask one); cause = by_two 4 7 }
+    ∷ []
+
+-- what the root's default features ask counts for the off list
+abbrev pub off_by_default_feature : Inputs
+off_by_default_feature = record {
+  setting = setting (record {
+    name = None;
+    version = None;
+    supports = always;
+    dependencies = [];
+    default_features = use_of y ∷ [];
+    features = feature y (without_defaults (on d) ∷ []) ∷ [];
+    overrides = [];
+  }) x64_linux x64_linux (x64 d ∷ []);
+  pages = pages_of (d_page ∷ []);
+  at_most = at_most;
+}
+
+abbrev pub off_by_default_feature_report : Report
+off_by_default_feature_report = plans (planned_line d one 5 ∷ []) 6
+
+-- and so does what the root asks of itself
+abbrev pub off_by_own_feature : Inputs
+off_by_own_feature = record {
+  setting = setting (record {
+    name = Some g;
+    version = None;
+    supports = always;
+    dependencies = with_features (on g) y ∷ [];
+    default_features = [];
+    features = feature y (without_defaults (on d) ∷ []) ∷ [];
+    overrides = [];
+  }) x64_linux x64_linux (x64 d ∷ []);
+  pages = pages_of (d_page ∷ []);
+  at_most = at_most;
+}
+
+abbrev pub off_by_own_feature_report : Report
+off_by_own_feature_report = plans (planned_line d one 5 ∷ []) 6
