@@ -182,3 +182,12 @@ off_by_own_feature = reports Projects.off_by_own_feature Projects.off_by_own_fea
 
 pub visits_by_feature : IsReasons Projects.visits_by_feature Projects.visits_by_feature_reasons
 visits_by_feature = reasons Projects.visits_by_feature (facts_of Projects.visits_by_feature_reasons) Projects.visits_by_feature_reasons refl refl
+
+pub every_cause : Reports Projects.every_cause Projects.every_cause_report
+every_cause = reports Projects.every_cause Projects.every_cause_report refl (λ bytes. refl)
+
+pub every_cause_needs : HasNeeds Projects.every_cause Projects.every_cause_needs
+every_cause_needs = needs Projects.every_cause Projects.every_cause_needs (λ bytes. refl)
+
+pub every_cause_line_by_line : IsReasons Projects.every_cause Projects.every_cause_reasons
+every_cause_line_by_line = reasons Projects.every_cause (facts_of Projects.every_cause_reasons) Projects.every_cause_reasons refl refl

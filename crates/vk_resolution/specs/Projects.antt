@@ -5,9 +5,10 @@ use Rattle.vk_spec.specs.Versions.{Version, date, text}
 use Rattle.vk_spec.specs.Manifests.{Manifest, Dependency, Feature, Override, core}
 use Rattle.vk_spec.specs.Pages.{name as field_name, text as field_text, Wrong, no_registry, no_baseline, bad_file, disagrees, baseline, overlay, override, Row, Page}
 use Rattle.vk_spec.specs.Conditions.{Condition, always, mark, negation, all, condition, no_conditions}
+use Rattle.vk_spec.specs.Settings.{Instance}
 use Rattle.vk_resolution.specs.Settings.{root, inst}
 use Rattle.vk_resolution.specs.Asking.{need, floor, visit}
-use Rattle.vk_resolution.specs.Consequences.{Inputs, by_root, by_baseline, by_minimum, by_one, by_two}
+use Rattle.vk_resolution.specs.Consequences.{Inputs, by_root, by_baseline, by_override, by_overlay, by_minimum, by_one, by_two}
 use Rattle.vk_resolution.specs.Reasons.{Reason}
 use Rattle.vk_resolution.specs.Faults.{troubled, lacks_registry, lacks_baseline, unreadable, lacks_version, differs, conflicts, lacks_feature, isnt_supported, has_cycle}
 use Rattle.vk_resolution.specs.Examples.{version, ask, on, at_least, use_of, manifest, release, listed, pages_of, root_with, setting, x64_linux, arm64_linux, project, x64, at_most, Line, Report, plans, refuses}
@@ -752,3 +753,113 @@ off_by_own_feature = record {
 
 abbrev pub off_by_own_feature_report : Report
 off_by_own_feature_report = plans (planned_line d one 5 ∷ []) 6
+
+-- every kind of cause: x of a asks a itself for y and a higher minimum, y has a host tool, d is off for the target alone, p is overridden, w overlaid
+abbrev pub two : List ℕ
+two = codes "2"
+
+abbrev pub one_one : List ℕ
+one_one = codes "1.1"
+
+abbrev pub one_two : List ℕ
+one_two = codes "1.2"
+
+abbrev pub arm64 : List ℕ → Instance
+arm64 port = record { port = port; triplet = codes "arm64-linux" }
+
+abbrev pub a_row : List ℕ → Dependency Condition → Dependency Condition → List (Dependency Condition) → Row Condition
+a_row v on_w of_x of_y = record {
+  version = version v;
+  manifest = Ok (record {
+    name = Some a;
+    version = Some (version v);
+    supports = always;
+    dependencies = on_w ∷ [];
+    default_features = use_of f ∷ [];
+    features = feature f [] ∷ feature x (of_x ∷ []) ∷ feature y of_y ∷ [];
+    overrides = [];
+  });
+}
+
+abbrev pub every_cause : Inputs
+every_cause = record {
+  setting = setting (root_overriding (with_features (at_least a one_one) x ∷ without_defaults (on d) ∷ at_least p (codes "9") ∷ []) p one) arm64_linux x64_linux (arm64 d ∷ []);
+  pages = pages_of ((
+    a,
+    listed one_dot (
+        release a one_dot []
+        ∷ a_row one_one (at_least w (codes "9")) (with_features (at_least a one_two) y) []
+        ∷ a_row one_two (on w) (with_features (on a) y) (for_host (on t) ∷ [])
+        ∷ []),
+  )
+      ∷ d_page
+      ∷ (p, record { given = Ok (override (ask one)); rows = release p one [] ∷ release p (codes "9") [] ∷ [] })
+      ∷ single t (on d ∷ [])
+      ∷ (w, record { given = Ok (overlay (version two)); rows = release w two [] ∷ [] })
+      ∷ []);
+  at_most = at_most;
+}
+
+abbrev pub arm_line_with : List ℕ → List ℕ → ℕ → List (List ℕ) → Line
+arm_line_with port v n fs = record { port = port; triplet = codes "arm64-linux"; version = v; number = n; features = core ∷ fs }
+
+abbrev pub every_cause_report : Report
+every_cause_report =
+    plans (arm_line d 11 ∷ line_with d one 11 (f ∷ []) ∷ arm_line p 12 ∷ arm_line_with w two 27 [] ∷ planned_line t one 41 ∷ arm_line_with a one_two 20 (f ∷ x ∷ y ∷ []) ∷ []) 49
+
+abbrev pub every_cause_needs : List (List ℕ)
+every_cause_needs = [] ∷ [] ∷ [] ∷ [] ∷ (1 ∷ []) ∷ (3 ∷ 4 ∷ []) ∷ []
+
+-- its reasons, line by line
+abbrev pub every_cause_reasons : List Reason
+every_cause_reasons =
+    record { fact = need (root (codes "arm64-linux")) core; cause = by_root }
+    ∷ record { fact = need (root (codes "arm64-linux")) default; cause = by_root }
+    ∷ record { fact = need (inst (arm64 a)) core; cause = by_one 1 }
+    ∷ record { fact = need (inst (arm64 a)) default; cause = by_one 1 }
+    ∷ record { fact = need (inst (arm64 a)) x; cause = by_one 1 }
+    ∷ record { fact = need (inst (arm64 d)) core; cause = by_one 1 }
+    ∷ record { fact = need (inst (arm64 p)) core; cause = by_one 1 }
+    ∷ record { fact = need (inst (arm64 p)) default; cause = by_one 1 }
+    ∷ record { fact = floor a (ask one_one); cause = by_minimum 1 }
+    ∷ record { fact = floor a (ask one_dot); cause = by_baseline 3 }
+    ∷ record { fact = floor d (ask one); cause = by_baseline 6 }
+    ∷ record { fact = floor p (ask one); cause = by_override 7 }
+    ∷ record { fact = visit (arm64 a) core (ask one_one); cause = by_two 3 9 }
+    ∷ record { fact = visit (arm64 a) default (ask one_one); cause = by_two 4 9 }
+    ∷ record { fact = visit (arm64 a) x (ask one_one); cause = by_two 5 9 }
+    ∷ record { fact = need (inst (arm64 a)) f; cause = by_one 14 }
+    ∷ record { fact = need (inst (arm64 a)) y; cause = by_one 15 }
+    ∷ record { fact = need (inst (arm64 w)) core; cause = by_one 13 }
+    ∷ record { fact = need (inst (arm64 w)) default; cause = by_one 13 }
+    ∷ record { fact = floor a (ask one_two); cause = by_minimum 15 }
+    ∷ record { fact = visit (arm64 a) core (ask one_dot); cause = by_two 3 10 }
+    ∷ record { fact = visit (arm64 a) default (ask one_dot); cause = by_two 4 10 }
+    ∷ record { fact = visit (arm64 a) x (ask one_dot); cause = by_two 5 10 }
+    ∷ record { fact = visit (arm64 d) core (ask one); cause = by_two 6 11 }
+    ∷ record { fact = visit (arm64 p) core (ask one); cause = by_two 7 12 }
+    ∷ record { fact = visit (arm64 p) default (ask one); cause = by_two 8 12 }
+    ∷ record { fact = floor w (ask two); cause = by_overlay 18 }
+    ∷ record { fact = visit (arm64 a) core (ask one_two); cause = by_two 3 20 }
+    ∷ record { fact = visit (arm64 a) default (ask one_two); cause = by_two 4 20 }
+    ∷ record { fact = visit (arm64 a) f (ask one_dot); cause = by_two 16 10 }
+    ∷ record { fact = visit (arm64 a) f (ask one_one); cause = by_two 16 9 }
+    ∷ record { fact = visit (arm64 a) f (ask one_two); cause = by_two 16 20 }
+    ∷ record { fact = visit (arm64 a) x (ask one_two); cause = by_two 5 20 }
+    ∷ record { fact = visit (arm64 a) y (ask one_dot); cause = by_two 17 10 }
+    ∷ record { fact = visit (arm64 a) y (ask one_one); cause = by_two 17 9 }
+    ∷ record { fact = visit (arm64 a) y (ask one_two); cause = by_two 17 20 }
+    ∷ record { fact = need (inst (x64 t)) core; cause = by_one 36 }
+    ∷ record { fact = need (inst (x64 t)) default; cause = by_one 36 }
+    ∷ record { fact = visit (arm64 w) core (ask two); cause = by_two 18 27 }
+    ∷ record { fact = visit (arm64 w) default (ask two); cause = by_two 19 27 }
+    ∷ record { fact = floor t (ask one); cause = by_baseline 37 }
+    ∷ record { fact = visit (x64 t) core (ask one); cause = by_two 37 41 }
+    ∷ record { fact = visit (x64 t) default (ask one); cause = by_two 38 41 }
+    ∷ record { fact = need (inst (x64 d)) core; cause = by_one 42 }
+    ∷ record { fact = need (inst (x64 d)) default; cause = by_one 42 }
+    ∷ record { fact = visit (x64 d) core (ask one); cause = by_two 44 11 }
+    ∷ record { fact = visit (x64 d) default (ask one); cause = by_two 45 11 }
+    ∷ record { fact = need (inst (x64 d)) f; cause = by_one 47 }
+    ∷ record { fact = visit (x64 d) f (ask one); cause = by_two 48 11 }
+    ∷ []
