@@ -1,5 +1,5 @@
 -- The outcome that is computed is an outcome.
-use Rattle.std.proofs.Common.{◌≡◌, ℕ, Bool, true, false, cond, List, [], ◌∷◌, refl, sym, subst}
+use Rattle.std.proofs.Common.{◌≡◌, ℕ, Bool, true, false, cond, List, [], ◌∷◌, length, refl, sym, subst}
 use Rattle.std.specs.Prelude.{Option, Some, None, option_and_then, flat_map}
 use Rattle.vk_spec.specs.Settings.{Instance}
 use Rattle.vk_resolution.specs.Asking.{Fact, fact_key}
@@ -21,28 +21,28 @@ module _ (inputs : Inputs) (bytes : Printing) (n : ℕ) (facts : List Fact) (rea
   refusal lines o is e = subst (IsOutcome inputs bytes) e (is_reasons, subst (λ l. IsRefusal inputs bytes l lines) (sym same) is)
 
   module _ (first : first_faults_of inputs facts ≡ []) (second : second_faults_of inputs facts ≡ []) (chosen : List Fact) (is_planned : IsPlanned inputs facts chosen) where
-    fourth_is : (third : third_faults_of inputs facts chosen ≡ []) (ordered : Option (List Instance)) (o : Outcome) → order_by (targets_of inputs chosen) n (instances_of chosen) ≡ ordered → order_or_cycle inputs facts chosen reasons ordered ≡ Some o
+    fourth_is : (third : third_faults_of inputs facts chosen ≡ []) (ordered : Option (List Instance)) (o : Outcome) → order_by (targets_of inputs chosen) (length (instances_of chosen)) (instances_of chosen) ≡ ordered → order_or_cycle inputs facts chosen reasons ordered ≡ Some o
         → IsOutcome inputs bytes o
     fourth_is third None o e made =
         let r = map_some (λ walk. refused (has_cycle walk ∷ []) reasons) (cycle_by (targets_of inputs chosen) (instances_of chosen)) o made in
         refusal (has_cycle r.0 ∷ []) o (by_fourth chosen first second is_planned third r.0 (cycle_is (targets_of inputs chosen) (instances_of chosen) (planned_edges inputs facts chosen is_planned).stay r.0 (in_order-ascends instance_key instance_key-IsKey (flat_map needed_in chosen)) r.1) refl) r.2
     fourth_is third (Some order) o e made =
         let r = map_some (λ items. planned items reasons) (all_some (item_by inputs facts chosen order) order) o made in
-        let plan = plan_is inputs n facts chosen order r.0 e r.1 in
+        let plan = plan_is inputs (length (instances_of chosen)) facts chosen order r.0 e r.1 in
         let agreed : IsAgreed inputs facts r.0 = record { first = first; second = second; planned = chosen; is_planned = is_planned; third = third; plan = plan } in
         subst (IsOutcome inputs bytes) r.2 (is_reasons, subst (λ l. IsAgreed inputs l r.0) (sym same) agreed)
 
-    third_is : (b : Bool) (o : Outcome) → is_nothing (third_faults_of inputs facts chosen) ≡ b → cond b (plan_by inputs n facts chosen reasons) (Some (refused (lines_of bytes (third_faults_of inputs facts chosen)) reasons)) ≡ Some o → IsOutcome inputs bytes o
-    third_is true o e made = fourth_is (is_nothing-nil _ e) (order_by (targets_of inputs chosen) n (instances_of chosen)) o refl made
+    third_is : (b : Bool) (o : Outcome) → is_nothing (third_faults_of inputs facts chosen) ≡ b → cond b (plan_by inputs facts chosen reasons) (Some (refused (lines_of bytes (third_faults_of inputs facts chosen)) reasons)) ≡ Some o → IsOutcome inputs bytes o
+    third_is true o e made = fourth_is (is_nothing-nil _ e) (order_by (targets_of inputs chosen) (length (instances_of chosen)) (instances_of chosen)) o refl made
     third_is false o e made =
         let is : refused (lines_of bytes (third_faults_of inputs facts chosen)) reasons ≡ o = (cc) in
         refusal (lines_of bytes (third_faults_of inputs facts chosen)) o (by_third chosen first second is_planned (nothing_is _ e) refl) is
 
   second_is : (first : first_faults_of inputs facts ≡ []) (b : Bool) (o : Outcome) → is_nothing (second_faults_of inputs facts) ≡ b
-      → cond b (option_and_then (third_by inputs bytes n facts reasons) (if_closed (planned_rules_of inputs facts) fact_key (round (planned_rules_of inputs facts) fact_key n))) (Some (refused (lines_of bytes (second_faults_of inputs facts)) reasons)) ≡ Some o
+      → cond b (option_and_then (third_by inputs bytes facts reasons) (if_closed (planned_rules_of inputs facts) fact_key (round (planned_rules_of inputs facts) fact_key n))) (Some (refused (lines_of bytes (second_faults_of inputs facts)) reasons)) ≡ Some o
       → IsOutcome inputs bytes o
   second_is first true o e made =
-      let r = then_some (third_by inputs bytes n facts reasons) (if_closed (planned_rules_of inputs facts) fact_key (round (planned_rules_of inputs facts) fact_key n)) o made in
+      let r = then_some (third_by inputs bytes facts reasons) (if_closed (planned_rules_of inputs facts) fact_key (round (planned_rules_of inputs facts) fact_key n)) o made in
       let least = closed_round (planned_rules_of inputs facts) fact_key fact_key-IsKey n r.0 r.1 in
       third_is first (is_nothing-nil _ e) r.0 least.least (is_nothing (third_faults_of inputs facts r.0)) o refl r.2
   second_is first false o e made =

@@ -125,18 +125,18 @@ order_or_cycle inputs facts chosen reasons None = option_map (λ walk. refused (
 order_or_cycle inputs facts chosen reasons (Some order) = option_map (λ items. planned items reasons) (all_some (item_by inputs facts chosen order) order)
 
 -- the plan or the fault of the fourth phase
-abbrev pub plan_by : Inputs → ℕ → List Fact → List Fact → List Reason → Option Outcome
-plan_by inputs n facts chosen reasons = order_or_cycle inputs facts chosen reasons (order_by (targets_of inputs chosen) n (instances_of chosen))
+abbrev pub plan_by : Inputs → List Fact → List Fact → List Reason → Option Outcome
+plan_by inputs facts chosen reasons = order_or_cycle inputs facts chosen reasons (order_by (targets_of inputs chosen) (length (instances_of chosen)) (instances_of chosen))
 
 -- the third phase, then the plan
-abbrev pub third_by : Inputs → Printing → ℕ → List Fact → List Reason → List Fact → Option Outcome
-third_by inputs bytes n facts reasons chosen =
-    if is_nothing (third_faults_of inputs facts chosen) then plan_by inputs n facts chosen reasons else Some (refused (lines_of bytes (third_faults_of inputs facts chosen)) reasons)
+abbrev pub third_by : Inputs → Printing → List Fact → List Reason → List Fact → Option Outcome
+third_by inputs bytes facts reasons chosen =
+    if is_nothing (third_faults_of inputs facts chosen) then plan_by inputs facts chosen reasons else Some (refused (lines_of bytes (third_faults_of inputs facts chosen)) reasons)
 
 -- the second phase, then the third
 abbrev pub second_by : Inputs → Printing → ℕ → List Fact → List Reason → Option Outcome
 second_by inputs bytes n facts reasons =
-    if is_nothing (second_faults_of inputs facts) then option_and_then (third_by inputs bytes n facts reasons) (if_closed (planned_rules_of inputs facts) fact_key (round (planned_rules_of inputs facts) fact_key n))
+    if is_nothing (second_faults_of inputs facts) then option_and_then (third_by inputs bytes facts reasons) (if_closed (planned_rules_of inputs facts) fact_key (round (planned_rules_of inputs facts) fact_key n))
     else Some (refused (lines_of bytes (second_faults_of inputs facts)) reasons)
 
 -- the first phase, then the second
@@ -144,7 +144,7 @@ abbrev pub first_by : Inputs → Printing → ℕ → List Fact → List Reason 
 first_by inputs bytes n facts reasons =
     if is_nothing (first_faults_of inputs facts) then second_by inputs bytes n facts reasons else Some (refused (lines_of bytes (first_faults_of inputs facts)) reasons)
 
--- the outcome, where n rounds and heights below n are enough
+-- the outcome, where n rounds are enough
 abbrev pub outcome_by : Inputs → Printing → ℕ → Option Outcome
 outcome_by inputs bytes n =
     option_and_then (λ facts. option_and_then (first_by inputs bytes n facts) (reasons_by inputs facts)) (if_closed (rules_of inputs) fact_key (round (rules_of inputs) fact_key n))
