@@ -213,7 +213,7 @@ module _ (inputs : Inputs) (order : IsOrder inputs.at_most) (rows : OverlaysHave
   -- a cycle, where one has none
   cycle_there_is : (i : Instance) → Contains (instances_of chosen) i → is_within (targets_of inputs chosen) (length (instances_of chosen)) i ≡ false → (walk : List Instance) × IsCycle (targets_of inputs chosen) (instances_of chosen) walk
   cycle_there_is i h long =
-      let edges = planned_edges inputs facts chosen is_planned in
+      let edges = (planned_edges inputs facts chosen is_planned).stay in
       let n : ℕ = length (instances_of chosen) in
       let c = long_chain (targets_of inputs chosen) n i long in
       let too_long : length (i ∷ c.0) ≡ suc (suc n) = ap suc c.1 in

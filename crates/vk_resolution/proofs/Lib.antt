@@ -16,6 +16,7 @@ pub mod OutcomeLemmas
 pub mod WalkLemmas
 pub mod SupersededLemmas
 pub mod Existence
+pub mod ComputedOutcome
 pub mod Uniqueness
 pub mod ExampleLemmas
 pub mod SentenceLemmas

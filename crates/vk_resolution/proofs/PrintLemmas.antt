@@ -7,7 +7,8 @@ use Rattle.vk_resolution.specs.Lines.{fault_line, report_text}
 use Rattle.vk_resolution.specs.Agreement.{reasons_in}
 use Rattle.vk_resolution.specs.Computed.{outcome_by}
 use Rattle.vk_resolution.specs.Printouts.{lines, Prints, told_lines, Tells}
-use Rattle.vk_resolution.proofs.Soundness.{outcome_is, map_some}
+use Rattle.vk_resolution.proofs.Soundness.{map_some}
+use Rattle.vk_resolution.proofs.ComputedOutcome.{outcome_is}
 
 pub prints : (inputs : Inputs) (texts : List (List ℕ)) → option_map report_text (outcome_by inputs fault_line 12) ≡ Some (lines texts) → Prints inputs texts
 prints inputs texts computed = let r = map_some report_text (outcome_by inputs fault_line 12) (lines texts) computed in (r.0, outcome_is inputs fault_line 12 r.0 r.1, r.2)

@@ -9,7 +9,8 @@ use Rattle.vk_resolution.specs.Computed.{outcome_by, off_list_by, reasons_by, if
 use Rattle.vk_resolution.specs.Examples.{Report, report_of, Reports, needs_in, HasNeeds, ReportsAlone}
 use Rattle.vk_resolution.specs.Projects
 use Rattle.vk_resolution.proofs.FactLemmas.{fact_key-IsKey}
-use Rattle.vk_resolution.proofs.Soundness.{outcome_is, map_some, closed_round, reasons_are}
+use Rattle.vk_resolution.proofs.Soundness.{map_some, closed_round, reasons_are}
+use Rattle.vk_resolution.proofs.ComputedOutcome.{outcome_is}
 use Rattle.vk_resolution.proofs.OffLists.{off_listed}
 use Rattle.vk_resolution.proofs.Uniqueness.{outcome_is_one}
 
@@ -80,6 +81,9 @@ cycle = reports Projects.cycle Projects.cycle_report refl (λ bytes. refl)
 
 pub two_cycles : Reports Projects.two_cycles Projects.two_cycles_report
 two_cycles = reports Projects.two_cycles Projects.two_cycles_report refl (λ bytes. refl)
+
+pub leads_in : Reports Projects.leads_in Projects.leads_in_report
+leads_in = reports Projects.leads_in Projects.leads_in_report refl (λ bytes. refl)
 
 pub own_feature : Reports Projects.own_feature Projects.own_feature_report
 own_feature = reports Projects.own_feature Projects.own_feature_report refl (λ bytes. refl)
@@ -160,3 +164,30 @@ reports_alone inputs report reports bytes o is =
 
 pub early_feature : Reports Projects.early_feature Projects.early_feature_report
 early_feature = reports Projects.early_feature Projects.early_feature_report refl (λ bytes. refl)
+
+pub overridden_without_table : Reports Projects.overridden_without_table Projects.overridden_without_table_report
+overridden_without_table = reports Projects.overridden_without_table Projects.overridden_without_table_report refl (λ bytes. refl)
+
+pub conflict_by_text : Reports Projects.conflict_by_text Projects.conflict_by_text_report
+conflict_by_text = reports Projects.conflict_by_text Projects.conflict_by_text_report refl (λ bytes. refl)
+
+pub floors_by_text : Reports Projects.floors_by_text Projects.floors_by_text_report
+floors_by_text = reports Projects.floors_by_text Projects.floors_by_text_report refl (λ bytes. refl)
+
+pub off_by_default_feature : Reports Projects.off_by_default_feature Projects.off_by_default_feature_report
+off_by_default_feature = reports Projects.off_by_default_feature Projects.off_by_default_feature_report refl (λ bytes. refl)
+
+pub off_by_own_feature : Reports Projects.off_by_own_feature Projects.off_by_own_feature_report
+off_by_own_feature = reports Projects.off_by_own_feature Projects.off_by_own_feature_report refl (λ bytes. refl)
+
+pub visits_by_feature : IsReasons Projects.visits_by_feature Projects.visits_by_feature_reasons
+visits_by_feature = reasons Projects.visits_by_feature (facts_of Projects.visits_by_feature_reasons) Projects.visits_by_feature_reasons refl refl
+
+pub every_cause : Reports Projects.every_cause Projects.every_cause_report
+every_cause = reports Projects.every_cause Projects.every_cause_report refl (λ bytes. refl)
+
+pub every_cause_needs : HasNeeds Projects.every_cause Projects.every_cause_needs
+every_cause_needs = needs Projects.every_cause Projects.every_cause_needs (λ bytes. refl)
+
+pub every_cause_line_by_line : IsReasons Projects.every_cause Projects.every_cause_reasons
+every_cause_line_by_line = reasons Projects.every_cause (facts_of Projects.every_cause_reasons) Projects.every_cause_reasons refl refl

@@ -1,6 +1,6 @@
 -- What is computed is what the definitions say.
 use Rattle.std.proofs.Common.{◌≡◌, ◌≢◌, ◌<◌, ◌≤◌, ◌⊎◌, ℕ, zero, suc, ◌+◌, ◌-◌, Bool, true, false, cond, List, [], ◌∷◌, map, inl, inr, refl, ap, sym, ◌∙◌, subst, arith}
-use Rattle.std.specs.Prelude.{Option, Some, None, option_map, option_and_then, filter_map, flat_map}
+use Rattle.std.specs.Prelude.{Option, Some, None, option_map, option_and_then, filter_map}
 use Rattle.std.specs.declared.cmp.Ordering.TheVariants.{Less, Equal, Greater}
 use Rattle.std.specs.Cmp.{tied_itself}
 use Rattle.std.specs.List.{Contains, list_any}
@@ -16,15 +16,13 @@ use Rattle.vk_resolution.specs.Asking.{Fact, floor, fact_key}
 use Rattle.vk_resolution.specs.Consequences.{Inputs, rules_of}
 use Rattle.vk_resolution.specs.Choices.{chosen_of}
 use Rattle.vk_resolution.specs.Reasons.{Reason, facts_of, cause_of, line_of, IsReasons}
-use Rattle.vk_resolution.specs.Planning.{planned_rules_of, IsPlanned, instance_key, needed_in, instances_of, targets_of, is_within, HasHeight, features_of, places_from, Item, IsItem, IsByHeight, order_of, IsPlan, has_way, IsOnCycle, IsFrom, IsNext, WalksOn, IsCycle}
-use Rattle.vk_resolution.specs.Faults.{Fault, has_cycle, first_faults_of, second_faults_of, third_faults_of}
-use Rattle.vk_resolution.specs.Outcomes.{Printing, lines_of, IsRefusal, by_first, by_second, by_third, by_fourth, IsAgreed, Outcome, planned, refused, IsOutcome}
-use Rattle.vk_resolution.specs.Computed.{is_nothing, new_from, round, if_closed, all_some, reasons_by, least_from, Numbered, numbered_key, with_height, order_by, item_by, first_on_cycle, with_way, head_of, next_by, walk_by, cycle_by, order_or_cycle, plan_by, third_by, second_by, first_by, outcome_by}
+use Rattle.vk_resolution.specs.Planning.{instance_key, instances_of, targets_of, is_within, HasHeight, features_of, places_from, Item, IsItem, IsByHeight, order_of, IsPlan, has_way, IsOnCycle, IsFrom, IsNext, WalksOn}
+use Rattle.vk_resolution.specs.Computed.{is_nothing, new_from, round, if_closed, all_some, reasons_by, least_from, Numbered, numbered_key, with_height, order_by, item_by, with_way, head_of, next_by, walk_by}
 use Rattle.vk_resolution.proofs.Members.{any_contains, all_contains, contains_map, map_contains, contains-filter_map, filter_map-contains, true_false}
 use Rattle.vk_resolution.proofs.Orders.{contains-in_order, in_order-contains, in_order-ascends}
 use Rattle.vk_resolution.proofs.Rounds.{is_nothing-nil, round_least}
 use Rattle.vk_resolution.proofs.Levels.{number_before}
-use Rattle.vk_resolution.proofs.FactLemmas.{fact_key-IsKey, instance_key-IsKey, same_instance-Decides}
+use Rattle.vk_resolution.proofs.FactLemmas.{instance_key-IsKey, same_instance-Decides}
 
 -- an answer that comes through an optional value
 pub then_some : {A B : Type 0} (f : A → Option B) (o : Option A) (y : B) → option_and_then f o ≡ Some y → (x : A) × (o ≡ Some x) × (f x ≡ Some y)
@@ -35,7 +33,7 @@ pub map_some : {A B : Type 0} (f : A → B) (o : Option A) (y : B) → option_ma
 map_some f None y e = (cc)
 map_some f (Some x) y e = let same : f x ≡ y = (cc) in (x, refl, same)
 
-nothing_is : {X : Type 0} (xs : List X) → is_nothing xs ≡ false → xs ≢ []
+pub nothing_is : {X : Type 0} (xs : List X) → is_nothing xs ≡ false → xs ≢ []
 nothing_is [] e = (cc)
 nothing_is (x ∷ xs) e = λ h. (cc)
 
@@ -269,40 +267,6 @@ module _ (targets : Instance → List Instance) where
       let clash : Equal ≡ Greater = sym (tied_itself path_total k) ∙ tied in
       (cc)
 
-  pub record IsLeastOnCycle (instances : List Instance) (first : Instance) : Type 0 where
-    pub listed : Contains instances first
-    pub on_cycle : IsOnCycle targets first
-    pub least : (i : Instance) → Contains instances i → IsOnCycle targets i → key_cmp (instance_key first) (instance_key i) ≢ Greater
-
-  on_cycle_step : (n : ℕ) (first i : Instance) (is : List Instance) (b : Bool) → is_within targets n i ≡ b → Ascends instance_key (i ∷ is) → (first_on_cycle targets n is ≡ Some first → IsLeastOnCycle is first)
-      → cond b (first_on_cycle targets n is) (option_map (λ k. i) (least_from 0 n (λ k. has_way targets (suc k) i i))) ≡ Some first → IsLeastOnCycle (i ∷ is) first
-  on_cycle_step n first i is true within ascends later e =
-      let r = later e in
-      record {
-        listed = contains_later i first is r.listed;
-        on_cycle = r.on_cycle;
-        least = λ j h cycle. elim (contains_cases i j is h) [
-          | inl same ↦ absurd (within_no_cycle n i within (subst (IsOnCycle targets) (sym same) cycle))
-          | inr in_rest ↦ r.least j in_rest cycle
-        ];
-      }
-  on_cycle_step n first i is false within ascends later e =
-      let r = map_some (λ (k : ℕ). i) (least_from 0 n (λ k. has_way targets (suc k) i i)) first e in
-      let same_first : i ≡ first = r.2 in
-      let passes = least_first (λ k. has_way targets (suc k) i i) 0 n r.0 r.1 in
-      subst (IsLeastOnCycle (i ∷ is)) same_first (record {
-        listed = contains_first i is;
-        on_cycle = (r.0, passes.passes);
-        least = λ j h cycle. elim (contains_cases i j is h) [
-          | inl same ↦ not_greater_same (instance_key i) (instance_key j) (ap instance_key same)
-          | inr in_rest ↦ not_greater_less (instance_key i) (instance_key j) (ascends.0 j in_rest)
-        ];
-      })
-
-  first_is : (n : ℕ) (is : List Instance) (first : Instance) → Ascends instance_key is → first_on_cycle targets n is ≡ Some first → IsLeastOnCycle is first
-  first_is n [] first ascends e = (cc)
-  first_is n (i ∷ is) first ascends e = on_cycle_step n first i is (is_within targets n i) refl ascends (first_is n is first ascends.1) e
-
   -- the shortest way is one
   pub one_shortest : (m n : ℕ) (i j : Instance) → IsFrom targets m i j → IsFrom targets n i j → m ≡ n
   one_shortest m n i j one other =
@@ -375,18 +339,11 @@ module _ (targets : Instance → List Instance) where
       let r = map_some (λ ks. p.1 ∷ ks) rest js h in
       subst (WalksOn targets first i) r.2 ((λ same. true_false (same_instance p.1 first) ((same_instance-Decides p.1 first).1 same) e), next, later r.0 r.1)
 
-  walk_is : (n m : ℕ) (first i : Instance) (js : List Instance) → walk_by targets n first m i ≡ Some js → WalksOn targets first i js
+  pub walk_is : (n m : ℕ) (first i : Instance) (js : List Instance) → walk_by targets n first m i ≡ Some js → WalksOn targets first i js
   walk_is n zero first i js e = (cc)
   walk_is n (suc m) first i js e =
       let r = then_some (λ (p : Numbered). cond (same_instance p.1 first) (Some []) (option_map (λ ks. p.1 ∷ ks) (walk_by targets n first m p.1))) (next_by targets n first i) js e in
       walk_step n first i r.0 (walk_by targets n first m r.0.1) js (same_instance r.0.1 first) refl (next_is n first i r.0 r.1) (λ ks h. walk_is n m first r.0.1 ks h) r.2
-
-  pub cycle_is : (n : ℕ) (instances walk : List Instance) → Ascends instance_key instances → cycle_by targets n instances ≡ Some walk → IsCycle targets instances walk
-  cycle_is n instances walk ascends e =
-      let r = then_some (λ first. option_map (λ js. first ∷ js) (walk_by targets n first n first)) (first_on_cycle targets n instances) walk e in
-      let q = map_some (λ js. r.0 ∷ js) (walk_by targets n r.0 n r.0) walk r.2 in
-      let least = first_is n instances r.0 ascends r.1 in
-      subst (IsCycle targets instances) q.2 (record { planned = least.listed; on_cycle = least.on_cycle; least = least.least; walk = walk_is n n r.0 r.0 q.0 q.1 })
 
 item_is : (inputs : Inputs) (facts chosen : List Fact) (order : List Instance) (i : Instance) (item : Item) → item_by inputs facts chosen order i ≡ Some item → (item.instance ≡ i) × IsItem inputs facts chosen order item
 item_is inputs facts chosen order i item e =
@@ -413,51 +370,3 @@ plan_is inputs n facts chosen order items ordered made =
 pub nothing_or : {X : Type 0} (xs : List X) → (xs ≡ []) ⊎ (xs ≢ [])
 nothing_or [] = inl refl
 nothing_or (x ∷ xs) = inr (λ e. (cc))
-
-module _ (inputs : Inputs) (bytes : Printing) (n : ℕ) (facts : List Fact) (reasons : List Reason) (same : facts_of reasons ≡ facts) (is_reasons : IsReasons inputs reasons) where
-  refusal : (lines : List Fault) (o : Outcome) → IsRefusal inputs bytes facts lines → refused lines reasons ≡ o → IsOutcome inputs bytes o
-  refusal lines o is e = subst (IsOutcome inputs bytes) e (is_reasons, subst (λ l. IsRefusal inputs bytes l lines) (sym same) is)
-
-  module _ (first : first_faults_of inputs facts ≡ []) (second : second_faults_of inputs facts ≡ []) (chosen : List Fact) (is_planned : IsPlanned inputs facts chosen) where
-    fourth_is : (third : third_faults_of inputs facts chosen ≡ []) (ordered : Option (List Instance)) (o : Outcome) → order_by (targets_of inputs chosen) n (instances_of chosen) ≡ ordered → order_or_cycle inputs n facts chosen reasons ordered ≡ Some o
-        → IsOutcome inputs bytes o
-    fourth_is third None o e made =
-        let r = map_some (λ walk. refused (has_cycle walk ∷ []) reasons) (cycle_by (targets_of inputs chosen) n (instances_of chosen)) o made in
-        refusal (has_cycle r.0 ∷ []) o (by_fourth chosen first second is_planned third r.0 (cycle_is (targets_of inputs chosen) n (instances_of chosen) r.0 (in_order-ascends instance_key (flat_map needed_in chosen)) r.1) refl) r.2
-    fourth_is third (Some order) o e made =
-        let r = map_some (λ items. planned items reasons) (all_some (item_by inputs facts chosen order) order) o made in
-        let plan = plan_is inputs n facts chosen order r.0 e r.1 in
-        let agreed : IsAgreed inputs facts r.0 = record { first = first; second = second; planned = chosen; is_planned = is_planned; third = third; plan = plan } in
-        subst (IsOutcome inputs bytes) r.2 (is_reasons, subst (λ l. IsAgreed inputs l r.0) (sym same) agreed)
-
-    third_is : (b : Bool) (o : Outcome) → is_nothing (third_faults_of inputs facts chosen) ≡ b → cond b (plan_by inputs n facts chosen reasons) (Some (refused (lines_of bytes (third_faults_of inputs facts chosen)) reasons)) ≡ Some o → IsOutcome inputs bytes o
-    third_is true o e made = fourth_is (is_nothing-nil _ e) (order_by (targets_of inputs chosen) n (instances_of chosen)) o refl made
-    third_is false o e made =
-        let is : refused (lines_of bytes (third_faults_of inputs facts chosen)) reasons ≡ o = (cc) in
-        refusal (lines_of bytes (third_faults_of inputs facts chosen)) o (by_third chosen first second is_planned (nothing_is _ e) refl) is
-
-  second_is : (first : first_faults_of inputs facts ≡ []) (b : Bool) (o : Outcome) → is_nothing (second_faults_of inputs facts) ≡ b
-      → cond b (option_and_then (third_by inputs bytes n facts reasons) (if_closed (planned_rules_of inputs facts) fact_key (round (planned_rules_of inputs facts) fact_key n))) (Some (refused (lines_of bytes (second_faults_of inputs facts)) reasons)) ≡ Some o
-      → IsOutcome inputs bytes o
-  second_is first true o e made =
-      let r = then_some (third_by inputs bytes n facts reasons) (if_closed (planned_rules_of inputs facts) fact_key (round (planned_rules_of inputs facts) fact_key n)) o made in
-      let least = closed_round (planned_rules_of inputs facts) fact_key fact_key-IsKey n r.0 r.1 in
-      third_is first (is_nothing-nil _ e) r.0 least.least (is_nothing (third_faults_of inputs facts r.0)) o refl r.2
-  second_is first false o e made =
-      let is : refused (lines_of bytes (second_faults_of inputs facts)) reasons ≡ o = (cc) in
-      refusal (lines_of bytes (second_faults_of inputs facts)) o (by_second first (nothing_is _ e) refl) is
-
-  first_phase_is : (b : Bool) (o : Outcome) → is_nothing (first_faults_of inputs facts) ≡ b → cond b (second_by inputs bytes n facts reasons) (Some (refused (lines_of bytes (first_faults_of inputs facts)) reasons)) ≡ Some o → IsOutcome inputs bytes o
-  first_phase_is true o e made = second_is (is_nothing-nil _ e) (is_nothing (second_faults_of inputs facts)) o refl made
-  first_phase_is false o e made =
-      let is : refused (lines_of bytes (first_faults_of inputs facts)) reasons ≡ o = (cc) in
-      refusal (lines_of bytes (first_faults_of inputs facts)) o (by_first (nothing_is _ e) refl) is
-
--- what is computed is the outcome
-pub outcome_is : (inputs : Inputs) (bytes : Printing) (n : ℕ) (o : Outcome) → outcome_by inputs bytes n ≡ Some o → IsOutcome inputs bytes o
-outcome_is inputs bytes n o e =
-    let r = then_some (λ facts. option_and_then (first_by inputs bytes n facts) (reasons_by inputs facts)) (if_closed (rules_of inputs) fact_key (round (rules_of inputs) fact_key n)) o e in
-    let q = then_some (first_by inputs bytes n r.0) (reasons_by inputs r.0) o r.2 in
-    let ordered = closed_round (rules_of inputs) fact_key fact_key-IsKey n r.0 r.1 in
-    let is = reasons_are inputs r.0 q.0 ordered q.1 in
-    first_phase_is inputs bytes n r.0 q.0 is.0 is.1 (is_nothing (first_faults_of inputs r.0)) o refl q.2

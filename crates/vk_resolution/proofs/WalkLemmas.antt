@@ -1,8 +1,8 @@
 -- Heights and cycles.
-use Rattle.std.proofs.Common.{◌≡◌, ◌≢◌, ◌<◌, ◌≤◌, ◌⊎◌, ℕ, zero, suc, ◌+◌, Bool, true, false, List, [], ◌∷◌, ◌++◌, length, inl, inr, refl, ap, sym, ◌∙◌, subst, arith}
-use Rattle.std.specs.Prelude.{Option, Some, None, filter_map}
+use Rattle.std.proofs.Common.{◌≡◌, ◌≢◌, ◌<◌, ◌≤◌, ◌⊎◌, ℕ, zero, suc, ◌+◌, Bool, true, false, cond, List, [], ◌∷◌, ◌++◌, length, inl, inr, refl, ap, sym, ◌∙◌, subst, arith}
+use Rattle.std.specs.Prelude.{Option, Some, None, option_map, option_and_then, is_some, filter_map}
 use Rattle.std.specs.declared.cmp.Ordering.TheVariants.{Less, Equal, Greater}
-use Rattle.std.specs.List.{Contains, list_any}
+use Rattle.std.specs.List.{Contains, list_any, find}
 use Rattle.std.proofs.lemmas.List.Elements.{Contains-append_right, Contains-append_cases}
 use Rattle.vk_spec.specs.Lists.{NoRepeats, IsWithin}
 use Rattle.vk_spec.proofs.ListLemmas.{contains_nothing, contains_first, contains_later, contains_cases}
@@ -11,14 +11,14 @@ use Rattle.vk_spec.specs.Settings.{Instance}
 use Rattle.vk_resolution.specs.Keys.{Key, key_cmp, Ascends, in_order}
 use Rattle.vk_resolution.specs.Settings.{same_instance}
 use Rattle.vk_resolution.specs.Planning.{instance_key, is_within, HasHeight, IsByHeight, has_way, IsOnCycle, IsFrom, IsNext, WalksOn, IsCycleFrom, IsCycle}
-use Rattle.vk_resolution.specs.Computed.{Numbered, numbered_key, least_from, with_way, head_of}
-use Rattle.vk_resolution.specs.Walks.{Targets, AreEdgesOf, HeightsHaveNoCycle, NoCycleGivesHeights, TargetsAreLower, TargetsStandBefore, CycleExists, CycleIsOne, IsRound, IsShortestRound, CycleIsShortest}
-use Rattle.vk_resolution.proofs.Members.{true_or_false, true_false, no_is_false, any_contains, contains_any, all_contains, not_all, filter_map-contains}
+use Rattle.vk_resolution.specs.Computed.{Numbered, numbered_key, least_from, on_cycle_within, first_on_cycle, with_way, head_of, next_by, walk_by, cycle_by}
+use Rattle.vk_resolution.specs.Walks.{Targets, EdgesStay, EdgesLeave, HeightsHaveNoCycle, NoCycleGivesHeights, TargetsAreLower, TargetsStandBefore, CycleExists, CycleIsFound, CycleIsOne, IsRound, IsShortestRound, CycleIsShortest}
+use Rattle.vk_resolution.proofs.Members.{true_or_false, true_false, no_is_false, any_contains, contains_any, all_contains, not_all, found_contains, nothing_found, filter_map-contains}
 use Rattle.vk_resolution.proofs.Orders.{turned_back, before_both, in_order-contains}
 use Rattle.vk_resolution.proofs.LeastLemmas.{no_longer}
 use Rattle.vk_resolution.proofs.Levels.{number_before}
 use Rattle.vk_resolution.proofs.FactLemmas.{instance_key-IsKey, same_instance-Decides}
-use Rattle.vk_resolution.proofs.Soundness.{IsFirstPass, least_first, least_none, least_below, numbered_key-IsKey, one_height, within_no_cycle, one_shortest, way_listed, next_is, not_greater_less, not_greater_same}
+use Rattle.vk_resolution.proofs.Soundness.{IsFirstPass, least_first, least_none, least_below, numbered_key-IsKey, one_height, within_no_cycle, one_shortest, way_listed, next_is, walk_is, then_some, map_some, not_greater_less, not_greater_same}
 
 -- what passes has a least
 pub least_passes : (test : ℕ → Bool) (n : ℕ) → test n ≡ true → (m : ℕ) × (m ≤ n) × IsFirstPass test 0 m
@@ -75,13 +75,13 @@ module _ (targets : Targets) where
   repeat_cycle i [] chain (inr later) = absurd later
   repeat_cycle i (j ∷ js) chain (inr later) = let r = repeat_cycle j js chain.1 later in (r.0, contains_later i r.0 (j ∷ js) r.1, r.2)
 
-  module _ (instances : List Instance) (edges : AreEdgesOf targets instances) where
+  module _ (instances : List Instance) (stay : EdgesStay targets instances) where
     pub chain_in : (i : Instance) (js : List Instance) → IsChain targets i js → Contains instances i → IsWithin (i ∷ js) instances
     chain_in i [] chain h k at = elim (contains_cases i k [] at) [ inl same ↦ subst (Contains instances) same h | inr none ↦ absurd (contains_nothing k none) ]
     chain_in i (j ∷ js) chain h k at =
         elim (contains_cases i k (j ∷ js) at) [
           | inl same ↦ subst (Contains instances) same h
-          | inr later ↦ chain_in j js chain.1 (edges.stay i h j chain.0) k later
+          | inr later ↦ chain_in j js chain.1 (stay i h j chain.0) k later
         ]
 
     no_cycle_height : ((i : Instance) → Contains instances i → IsOnCycle targets i → ⊥) → (i : Instance) → Contains instances i → (n : ℕ) × HasHeight targets n i
@@ -99,7 +99,7 @@ module _ (targets : Targets) where
         ]
 
 pub no_cycle_gives_heights : NoCycleGivesHeights
-no_cycle_gives_heights targets instances edges none = no_cycle_height targets instances edges none
+no_cycle_gives_heights targets instances stay none = no_cycle_height targets instances stay none
 
 pub targets_are_lower : TargetsAreLower
 targets_are_lower targets zero n i j height_i height_j edge = let clash : false ≡ true = all_contains (λ k. false) (targets i) height_i.within j edge in (cc)
@@ -230,13 +230,13 @@ module _ (targets : Targets) where
   rest_facts : (first : Instance) (rest : List Instance) → (walk : WalksOn targets first first rest) → WalkFacts first (first_step first first rest walk).1.steps rest
   rest_facts first rest walk = walk_facts first first rest (first_step first first rest walk).1.steps walk refl
 
-  pub cycle_shortest : (instances : List Instance) → AreEdgesOf targets instances → (first : Instance) (rest : List Instance) → IsCycle targets instances (first ∷ rest) → IsShortestRound targets first rest
-  cycle_shortest instances edges first rest cycle =
+  pub cycle_shortest : (instances : List Instance) → EdgesLeave targets → (first : Instance) (rest : List Instance) → IsCycle targets instances (first ∷ rest) → IsShortestRound targets first rest
+  cycle_shortest instances leave first rest cycle =
       let step = first_step first first rest cycle.walk in
       let facts = rest_facts first rest cycle.walk in
       record {
         distinct = (walk_others first first rest cycle.walk, facts.distinct);
-        some = walk_some first rest (edges.leave first) cycle.walk;
+        some = walk_some first rest (leave first) cycle.walk;
         edges = walk_round first first rest cycle.walk;
         shortest = λ n way. (
             let r = way_edge n first first way in
@@ -249,7 +249,7 @@ module _ (targets : Targets) where
       }
 
 pub cycle_is_shortest : CycleIsShortest
-cycle_is_shortest targets instances edges first rest cycle = cycle_shortest targets instances edges first rest cycle
+cycle_is_shortest targets instances leave first rest cycle = cycle_shortest targets instances leave first rest cycle
 
 cycle_one : (targets : Targets) (instances : List Instance) (one : Instance) (js : List Instance) (other : Instance) (ks : List Instance) → IsCycleFrom targets instances one js → IsCycleFrom targets instances other ks → one ∷ js ≡ other ∷ ks
 cycle_one targets instances one js other ks is is_other =
@@ -263,7 +263,29 @@ cycle_is_one targets instances [] other is is_other = absurd is
 cycle_is_one targets instances (one ∷ js) [] is is_other = absurd is_other
 cycle_is_one targets instances (one ∷ js) (other ∷ ks) is is_other = cycle_one targets instances one js other ks is is_other
 
-module _ (targets : Targets) (instances : List Instance) (edges : AreEdgesOf targets instances) where
+-- what is found in a list in order is the least that passes
+module _ (targets : Targets) (test : Instance → Bool) (first : Instance) where
+  abbrev IsLeastPass : List Instance → Type 0
+  IsLeastPass is = (i : Instance) → Contains is i → test i ≡ true → key_cmp (instance_key first) (instance_key i) ≢ Greater
+
+  least_step : (k : Instance) (is : List Instance) (b : Bool) → test k ≡ b → Ascends instance_key (k ∷ is) → (find test is ≡ Some first → IsLeastPass is) → cond b (Some k) (find test is) ≡ Some first → IsLeastPass (k ∷ is)
+  least_step k is true e ascends later found i h passes =
+      let same : k ≡ first = (cc) in
+      elim (contains_cases k i is h) [
+        | inl here ↦ not_greater_same targets (instance_key first) (instance_key i) (ap instance_key (sym same ∙ here))
+        | inr rest ↦ not_greater_less targets (instance_key first) (instance_key i) (subst (λ j. key_cmp (instance_key j) (instance_key i) ≡ Less) same (ascends.0 i rest))
+      ]
+  least_step k is false e ascends later found i h passes =
+      elim (contains_cases k i is h) [
+        | inl here ↦ absurd (true_false (test i) passes (subst (λ j. test j ≡ false) here e))
+        | inr rest ↦ later found i rest passes
+      ]
+
+  found_least : (is : List Instance) → Ascends instance_key is → find test is ≡ Some first → IsLeastPass is
+  found_least [] ascends e i h passes = absurd (contains_nothing i h)
+  found_least (k ∷ is) ascends e i h passes = least_step k is (test k) refl ascends (found_least is ascends.1) e i h passes
+
+module _ (targets : Targets) (instances : List Instance) (stay : EdgesStay targets instances) where
   -- the instances along a shortest way, each with its own shortest way
   pub record AlongWay (first : Instance) (n : ℕ) (xs : List Instance) : Type 0 where
     pub long : length xs ≡ suc n
@@ -287,7 +309,7 @@ module _ (targets : Targets) (instances : List Instance) (edges : AreEdgesOf tar
         way = r.2;
         no_shorter = λ m lower. no_is_false (has_way targets m r.0 first) (λ way. true_false (has_way targets (suc m) i first) (edge_way targets m i r.0 first r.1 way) (from.no_shorter (suc m) (omega arith)));
       } in
-      let rest = along n r.0 first (edges.stay i h r.0 r.1) back in (
+      let rest = along n r.0 first (stay i h r.0 r.1) back in (
         i ∷ rest.0,
         record {
           long = ap suc rest.1.long;
@@ -321,93 +343,121 @@ module _ (targets : Targets) (instances : List Instance) (edges : AreEdgesOf tar
   cycle_bound i h cycle =
       let r = way_edge targets cycle.0 i i cycle.1 in
       let s = shortest_way targets cycle.0 r.0 i r.2 in
-      (s.0, way_bound s.0 r.0 i (edges.stay i h r.0 r.1) s.2, edge_way targets s.0 i r.0 i r.1 s.2.way)
+      (s.0, way_bound s.0 r.0 i (stay i h r.0 r.1) s.2, edge_way targets s.0 i r.0 i r.1 s.2.way)
 
-  on_cycle_or : (i : Instance) → Contains instances i → IsOnCycle targets i ⊎ (IsOnCycle targets i → ⊥)
-  on_cycle_or i h = by (least_from 0 (length instances) (λ n. has_way targets (suc n) i i)) refl
+  -- what the search takes is on a cycle
+  within_cycle : (i : Instance) → on_cycle_within targets (length instances) i ≡ true → IsOnCycle targets i
+  within_cycle i = by (least_from 0 (length instances) (λ n. has_way targets (suc n) i i)) refl
     where
-      by : (o : Option ℕ) → least_from 0 (length instances) (λ n. has_way targets (suc n) i i) ≡ o → IsOnCycle targets i ⊎ (IsOnCycle targets i → ⊥)
-      by None e = inr (λ cycle. (
+      by : (o : Option ℕ) → least_from 0 (length instances) (λ n. has_way targets (suc n) i i) ≡ o → is_some o ≡ true → IsOnCycle targets i
+      by None e some = (cc)
+      by (Some n) e some = (n, (least_first (λ k. has_way targets (suc k) i i) 0 (length instances) n e).passes)
+
+  -- and it takes each listed instance that is on one
+  cycle_within : (i : Instance) → Contains instances i → IsOnCycle targets i → on_cycle_within targets (length instances) i ≡ true
+  cycle_within i h cycle = by (least_from 0 (length instances) (λ n. has_way targets (suc n) i i)) refl
+    where
+      by : (o : Option ℕ) → least_from 0 (length instances) (λ n. has_way targets (suc n) i i) ≡ o → is_some o ≡ true
+      by None e =
           let r = cycle_bound i h cycle in
           let below : r.0 < length instances = r.1 in
-          true_false (has_way targets (suc r.0) i i) r.2 (least_none (λ n. has_way targets (suc n) i i) 0 (length instances) e r.0 (omega arith) (omega arith))
-          ))
-      by (Some n) e = inl (n, (least_first (λ k. has_way targets (suc k) i i) 0 (length instances) n e).passes)
+          absurd (true_false (has_way targets (suc r.0) i i) r.2 (least_none (λ n. has_way targets (suc n) i i) 0 (length instances) e r.0 (omega arith) (omega arith)))
+      by (Some n) e = refl
 
-  -- the first of a list in order that is on a cycle
-  least_on_cycle : (is : List Instance) → Ascends instance_key is → IsWithin is instances → (i : Instance) → Contains is i → IsOnCycle targets i
-      → (first : Instance) × Contains is first × IsOnCycle targets first × ((j : Instance) → Contains is j → IsOnCycle targets j → key_cmp (instance_key first) (instance_key j) ≢ Greater)
-  least_on_cycle [] ascends within i h cycle = absurd (contains_nothing i h)
-  least_on_cycle (k ∷ is) ascends within i h cycle =
-      elim (on_cycle_or k (within k (contains_first k is))) [
-        | inl on ↦ (
-          k,
-          contains_first k is,
-          on,
-          λ j at other. elim (contains_cases k j is at) [
-            | inl same ↦ not_greater_same targets (instance_key k) (instance_key j) (ap instance_key same)
-            | inr later ↦ not_greater_less targets (instance_key k) (instance_key j) (ascends.0 j later)
-          ],
-        )
-        | inr off ↦ elim (contains_cases k i is h) [
-          | inl same ↦ absurd (off (subst (IsOnCycle targets) (sym same) cycle))
-          | inr later ↦ (
-              let r = least_on_cycle is ascends.1 (λ j at. within j (contains_later k j is at)) i later cycle in (
-                r.0,
-                contains_later k r.0 is r.1,
-                r.2,
-                λ j at other. elim (contains_cases k j is at) [
-                  | inl same ↦ absurd (off (subst (IsOnCycle targets) (sym same) other))
-                  | inr in_rest ↦ r.3 j in_rest other
-                ],
-              )
-              )
-        ]
-      ]
+  -- what is found is the least of all that are listed and on a cycle
+  pub record IsLeastOnCycle (first : Instance) : Type 0 where
+    pub listed : Contains instances first
+    pub on_cycle : IsOnCycle targets first
+    pub least : (i : Instance) → Contains instances i → IsOnCycle targets i → key_cmp (instance_key first) (instance_key i) ≢ Greater
+
+  first_is : (first : Instance) → Ascends instance_key instances → first_on_cycle targets instances ≡ Some first → IsLeastOnCycle first
+  first_is first ascends e =
+      let test : Instance → Bool = on_cycle_within targets (length instances) in
+      let r = found_contains test instances first e in
+      record { listed = r.0; on_cycle = within_cycle first r.1; least = λ i h cycle. found_least targets test first instances ascends e i h (cycle_within i h cycle) }
+
+  -- what the search answers is the walk that is told
+  pub cycle_is : (walk : List Instance) → Ascends instance_key instances → cycle_by targets instances ≡ Some walk → IsCycle targets instances walk
+  cycle_is walk ascends e =
+      let n : ℕ = length instances in
+      let r = then_some (λ first. option_map (λ js. first ∷ js) (walk_by targets n first n first)) (first_on_cycle targets instances) walk e in
+      let q = map_some (λ js. r.0 ∷ js) (walk_by targets n r.0 n r.0) walk r.2 in
+      let least = first_is r.0 ascends r.1 in
+      subst (IsCycle targets instances) q.2 (record { planned = least.listed; on_cycle = least.on_cycle; least = least.least; walk = walk_is targets n n r.0 r.0 q.0 q.1 })
 
   -- where a target leads back, there is a next
-  has_next : (first i k : Instance) (m : ℕ) → Contains instances i → Contains (targets i) k → IsFrom targets m k first → (j : Instance) × IsNext targets first i j
-  has_next first i k m h edge from =
+  next_there : (first i k : Instance) (m : ℕ) → Contains instances i → Contains (targets i) k → IsFrom targets m k first → (p : Numbered) × (next_by targets (length instances) first i ≡ Some p)
+  next_there first i k m h edge from =
       let ps : List Numbered = filter_map (with_way targets (length instances) first) (targets i) in
       let listed : with_way targets (length instances) first k ≡ Some (m, k) = elim (way_listed targets (length instances) m first k from) [
         | inl is ↦ is
-        | inr long ↦ (let below : m < length instances = way_bound m k first (edges.stay i h k edge) from in absurd (omega arith))
+        | inr long ↦ (let below : m < length instances = way_bound m k first (stay i h k edge) from in absurd (omega arith))
       ] in
-      let held : Contains (in_order numbered_key ps) (m, k) = in_order-contains numbered_key numbered_key-IsKey ps (m, k) (filter_map-contains (with_way targets (length instances) first) (targets i) k (m, k) edge listed) in
-      by (in_order numbered_key ps) refl held
+      by (in_order numbered_key ps) refl (in_order-contains numbered_key numbered_key-IsKey ps (m, k) (filter_map-contains (with_way targets (length instances) first) (targets i) k (m, k) edge listed))
     where
-      by : (sorted : List Numbered) → in_order numbered_key (filter_map (with_way targets (length instances) first) (targets i)) ≡ sorted → Contains sorted (m, k) → (j : Instance) × IsNext targets first i j
+      by : (sorted : List Numbered) → in_order numbered_key (filter_map (with_way targets (length instances) first) (targets i)) ≡ sorted → Contains sorted (m, k) → (p : Numbered) × (next_by targets (length instances) first i ≡ Some p)
       by [] e held = absurd (contains_nothing (m, k) held)
-      by (p ∷ sorted) e held = (p.1, next_is targets (length instances) first i p (ap head_of e))
+      by (p ∷ sorted) e held = (p, ap head_of e)
 
-  walk_from : (n : ℕ) (first i j : Instance) → Contains instances i → (next : IsNext targets first i j) → next.steps ≡ n → (js : List Instance) × WalksOn targets first i js
-  walk_from zero first i j h next steps =
-      let same : j ≡ first = zero_is targets j first (subst (λ m. has_way targets m j first ≡ true) steps next.back.way) in
-      ([], subst (IsNext targets first i) same next)
-  walk_from (suc n) first i j h next steps =
-      let back : IsFrom targets (suc n) j first = subst (λ m. IsFrom targets m j first) steps next.back in
-      let in_j : Contains instances j = edges.stay i h j next.edge in
-      let r = way_edge targets n j first back.way in
+  abbrev walk_after : ℕ → Instance → Numbered → Option (List Instance)
+  walk_after m first p = cond (same_instance p.1 first) (Some []) (option_map (λ js. p.1 ∷ js) (walk_by targets (length instances) first m p.1))
+
+  -- from an instance that has a next, the walk comes back in one step more than the next's way has
+  walk_there : (n m : ℕ) (first i : Instance) (p : Numbered) → Contains instances i → (next : next_by targets (length instances) first i ≡ Some p) → (next_is targets (length instances) first i p next).steps ≡ n → n < m
+      → (js : List Instance) × (walk_by targets (length instances) first m i ≡ Some js)
+  walk_there n zero first i p h next steps below = absurd (omega arith)
+  walk_there zero (suc m) first i p h next steps below =
+      let is = next_is targets (length instances) first i p next in
+      let back : p.1 ≡ first = zero_is targets p.1 first (subst (λ k. has_way targets k p.1 first ≡ true) steps is.back.way) in
+      let same : same_instance p.1 first ≡ true = (same_instance-Decides p.1 first).1 back in
+      ([], ap (option_and_then (walk_after m first)) next ∙ ap (λ b. cond b (Some []) (option_map (λ js. p.1 ∷ js) (walk_by targets (length instances) first m p.1))) same)
+  walk_there (suc n) (suc m) first i p h next steps below =
+      let is = next_is targets (length instances) first i p next in
+      let back : IsFrom targets (suc n) p.1 first = subst (λ k. IsFrom targets k p.1 first) steps is.back in
+      let in_p : Contains instances p.1 = stay i h p.1 is.edge in
+      let r = way_edge targets n p.1 first back.way in
       let s = shortest_way targets n r.0 first r.2 in
-      let after = has_next first j r.0 s.0 in_j r.1 s.2 in
-      let rest = walk_from n first j after.0 in_j after.1 (next_steps targets first j after.0 n back after.1) in
-      let other : j ≢ first = λ same. (
-      let none : suc n ≡ 0 = one_shortest targets (suc n) 0 j first back (record { way = (same_instance-Decides j first).1 same; no_shorter = λ m lower. absurd (omega arith) }) in
+      let q = next_there first p.1 r.0 s.0 in_p r.1 s.2 in
+      let rest = walk_there n m first p.1 q.0 in_p q.1 (next_steps targets first p.1 q.0.1 n back (next_is targets (length instances) first p.1 q.0 q.1)) (omega arith) in
+      let other : same_instance p.1 first ≡ false = no_is_false (same_instance p.1 first) (λ same. (
+      let none : suc n ≡ 0 = one_shortest targets (suc n) 0 p.1 first back (record { way = same; no_shorter = λ k lower. absurd (omega arith) }) in
       absurd (omega arith)
-      ) in
-      (j ∷ rest.0, (other, next, rest.1))
+      )) in (
+        p.1 ∷ rest.0,
+        ap (option_and_then (walk_after m first)) next ∙ ap (λ b. cond b (Some []) (option_map (λ js. p.1 ∷ js) (walk_by targets (length instances) first m p.1))) other ∙ ap (option_map (λ js. p.1 ∷ js)) rest.1,
+      )
 
-  walk_back : (first j : Instance) → Contains instances first → (next : IsNext targets first first j) → (js : List Instance) × WalksOn targets first first js
-  walk_back first j h next = walk_from next.steps first first j h next refl
-
-  pub cycle_there : Ascends instance_key instances → (i : Instance) → Contains instances i → IsOnCycle targets i → (walk : List Instance) × IsCycle targets instances walk
-  cycle_there ascends i h cycle =
-      let r = least_on_cycle instances ascends (λ j at. at) i h cycle in
-      let e = way_edge targets r.2.0 r.0 r.0 r.2.1 in
-      let s = shortest_way targets r.2.0 e.0 r.0 e.2 in
-      let next = has_next r.0 r.0 e.0 s.0 r.1 e.1 s.2 in
-      let walk = walk_back r.0 next.0 r.1 next.1 in
-      (r.0 ∷ walk.0, record { planned = r.1; on_cycle = r.2; least = r.3; walk = walk.1 })
+  -- where a listed instance is on a cycle, the search answers a walk
+  cycle_there : (i : Instance) → Contains instances i → IsOnCycle targets i → (walk : List Instance) × (cycle_by targets instances ≡ Some walk)
+  cycle_there i h cycle = by (first_on_cycle targets instances) refl
+    where
+      by : (o : Option Instance) → first_on_cycle targets instances ≡ o → (walk : List Instance) × (cycle_by targets instances ≡ Some walk)
+      by None e = absurd (true_false (on_cycle_within targets (length instances) i) (cycle_within i h cycle) (nothing_found (on_cycle_within targets (length instances)) instances e i h))
+      by (Some first) e =
+          let found = found_contains (on_cycle_within targets (length instances)) instances first e in
+          let on = within_cycle first found.1 in
+          let r = way_edge targets on.0 first first on.1 in
+          let s = shortest_way targets on.0 r.0 first r.2 in
+          let p = next_there first first r.0 s.0 found.0 r.1 s.2 in
+          let is = next_is targets (length instances) first first p.0 p.1 in
+          let walk = walk_there is.steps (length instances) first first p.0 found.0 p.1 refl (way_bound is.steps p.0.1 first (stay first found.0 p.0.1 is.edge) is.back) in (
+            first ∷ walk.0,
+            ap (option_and_then (λ k. option_map (λ js. k ∷ js) (walk_by targets (length instances) k (length instances) k))) e ∙ ap (option_map (λ js. first ∷ js)) walk.1,
+          )
 
 pub cycle_exists : CycleExists
-cycle_exists targets instances ascends edges i h cycle = cycle_there targets instances edges ascends i h cycle
+cycle_exists targets instances ascends stay i h cycle = let r = cycle_there targets instances stay i h cycle in (r.0, cycle_is targets instances stay r.0 ascends r.1)
+
+on_cycle_of : (targets : Targets) (instances walk : List Instance) → IsCycle targets instances walk → (i : Instance) × Contains instances i × IsOnCycle targets i
+on_cycle_of targets instances [] is = absurd is
+on_cycle_of targets instances (first ∷ rest) is = (first, is.planned, is.on_cycle)
+
+pub cycle_is_found : CycleIsFound
+cycle_is_found targets instances ascends stay walk = (
+  cycle_is targets instances stay walk ascends,
+  λ is. (
+      let i = on_cycle_of targets instances walk is in
+      let r = cycle_there targets instances stay i.0 i.1 i.2 in
+      r.1 ∙ ap Some (cycle_is_one targets instances r.0 walk (cycle_is targets instances stay r.0 ascends r.1) is)
+      ),
+)

@@ -1,6 +1,6 @@
 -- The definitions computed: rounds that end in the least list, and from it the outcome.
-use Rattle.std.specs.Prelude.{ℕ, zero, suc, Bool, true, false, not, ◌&&◌, List, [], ◌∷◌, ◌++◌, map, filter, flat_map, filter_map, Option, Some, None, option_map, option_and_then, if◌then◌else◌}
-use Rattle.std.specs.List.{list_any, list_all}
+use Rattle.std.specs.Prelude.{ℕ, zero, suc, Bool, true, false, not, ◌&&◌, List, [], ◌∷◌, ◌++◌, map, filter, flat_map, filter_map, Option, Some, None, option_map, option_and_then, is_some, length, if◌then◌else◌}
+use Rattle.std.specs.List.{list_any, list_all, find}
 use Rattle.vk_spec.specs.Versions.{ask_of}
 use Rattle.vk_resolution.specs.Keys.{Key, same_key, in_order}
 use Rattle.vk_resolution.specs.Least.{Rules}
@@ -87,11 +87,13 @@ item_by inputs facts chosen order i =
       needs = places_from 0 (λ j. list_any (same_instance j) (targets_of inputs chosen i)) order;
     }) (line_of facts (floor i.port (ask_of v)))) (chosen_of inputs facts i.port)
 
--- the first instance of a list that is on a cycle, where those before it have heights
-abbrev pub first_on_cycle : (Instance → List Instance) → ℕ → List Instance → Option Instance
-first_on_cycle targets n [] = None
-first_on_cycle targets n (i ∷ is) =
-    if is_within targets n i then first_on_cycle targets n is else option_map (λ k. i) (least_from 0 n (λ k. has_way targets (suc k) i i))
+-- whether a way of at most n edges leads back
+abbrev pub on_cycle_within : (Instance → List Instance) → ℕ → Instance → Bool
+on_cycle_within targets n i = is_some (least_from 0 n (λ k. has_way targets (suc k) i i))
+
+-- the first listed instance on a cycle of at most as many edges as there are instances
+abbrev pub first_on_cycle : (Instance → List Instance) → List Instance → Option Instance
+first_on_cycle targets instances = find (on_cycle_within targets (length instances)) instances
 
 -- a target with the length of its shortest way back
 abbrev pub with_way : (Instance → List Instance) → ℕ → Instance → Instance → Option Numbered
@@ -113,27 +115,28 @@ walk_by targets n first (suc m) i =
     option_and_then (λ (p : Numbered). let rest = walk_by targets n first m p.1 in if same_instance p.1 first then Some [] else option_map (λ js. p.1 ∷ js) rest) (next_by targets n first i)
 
 -- the cycle that is told
-abbrev pub cycle_by : (Instance → List Instance) → ℕ → List Instance → Option (List Instance)
-cycle_by targets n instances = option_and_then (λ first. option_map (λ js. first ∷ js) (walk_by targets n first n first)) (first_on_cycle targets n instances)
+abbrev pub cycle_by : (Instance → List Instance) → List Instance → Option (List Instance)
+cycle_by targets instances =
+    option_and_then (λ first. option_map (λ js. first ∷ js) (walk_by targets (length instances) first (length instances) first)) (first_on_cycle targets instances)
 
 -- a plan where there is an order, else the cycle
-abbrev pub order_or_cycle : Inputs → ℕ → List Fact → List Fact → List Reason → Option (List Instance) → Option Outcome
-order_or_cycle inputs n facts chosen reasons None = option_map (λ walk. refused (has_cycle walk ∷ []) reasons) (cycle_by (targets_of inputs chosen) n (instances_of chosen))
-order_or_cycle inputs n facts chosen reasons (Some order) = option_map (λ items. planned items reasons) (all_some (item_by inputs facts chosen order) order)
+abbrev pub order_or_cycle : Inputs → List Fact → List Fact → List Reason → Option (List Instance) → Option Outcome
+order_or_cycle inputs facts chosen reasons None = option_map (λ walk. refused (has_cycle walk ∷ []) reasons) (cycle_by (targets_of inputs chosen) (instances_of chosen))
+order_or_cycle inputs facts chosen reasons (Some order) = option_map (λ items. planned items reasons) (all_some (item_by inputs facts chosen order) order)
 
 -- the plan or the fault of the fourth phase
-abbrev pub plan_by : Inputs → ℕ → List Fact → List Fact → List Reason → Option Outcome
-plan_by inputs n facts chosen reasons = order_or_cycle inputs n facts chosen reasons (order_by (targets_of inputs chosen) n (instances_of chosen))
+abbrev pub plan_by : Inputs → List Fact → List Fact → List Reason → Option Outcome
+plan_by inputs facts chosen reasons = order_or_cycle inputs facts chosen reasons (order_by (targets_of inputs chosen) (length (instances_of chosen)) (instances_of chosen))
 
 -- the third phase, then the plan
-abbrev pub third_by : Inputs → Printing → ℕ → List Fact → List Reason → List Fact → Option Outcome
-third_by inputs bytes n facts reasons chosen =
-    if is_nothing (third_faults_of inputs facts chosen) then plan_by inputs n facts chosen reasons else Some (refused (lines_of bytes (third_faults_of inputs facts chosen)) reasons)
+abbrev pub third_by : Inputs → Printing → List Fact → List Reason → List Fact → Option Outcome
+third_by inputs bytes facts reasons chosen =
+    if is_nothing (third_faults_of inputs facts chosen) then plan_by inputs facts chosen reasons else Some (refused (lines_of bytes (third_faults_of inputs facts chosen)) reasons)
 
 -- the second phase, then the third
 abbrev pub second_by : Inputs → Printing → ℕ → List Fact → List Reason → Option Outcome
 second_by inputs bytes n facts reasons =
-    if is_nothing (second_faults_of inputs facts) then option_and_then (third_by inputs bytes n facts reasons) (if_closed (planned_rules_of inputs facts) fact_key (round (planned_rules_of inputs facts) fact_key n))
+    if is_nothing (second_faults_of inputs facts) then option_and_then (third_by inputs bytes facts reasons) (if_closed (planned_rules_of inputs facts) fact_key (round (planned_rules_of inputs facts) fact_key n))
     else Some (refused (lines_of bytes (second_faults_of inputs facts)) reasons)
 
 -- the first phase, then the second
@@ -141,7 +144,7 @@ abbrev pub first_by : Inputs → Printing → ℕ → List Fact → List Reason 
 first_by inputs bytes n facts reasons =
     if is_nothing (first_faults_of inputs facts) then second_by inputs bytes n facts reasons else Some (refused (lines_of bytes (first_faults_of inputs facts)) reasons)
 
--- the outcome, where n rounds and heights below n are enough
+-- the outcome, where n rounds are enough
 abbrev pub outcome_by : Inputs → Printing → ℕ → Option Outcome
 outcome_by inputs bytes n =
     option_and_then (λ facts. option_and_then (first_by inputs bytes n facts) (reasons_by inputs facts)) (if_closed (rules_of inputs) fact_key (round (rules_of inputs) fact_key n))

@@ -3,11 +3,12 @@ use Rattle.std.specs.Prelude.{ℕ, Bool, true, false, List, [], ◌∷◌, Some,
 use Rattle.vk_spec.specs.Paths.{Path}
 use Rattle.vk_spec.specs.Versions.{Version, date, text}
 use Rattle.vk_spec.specs.Manifests.{Manifest, Dependency, Feature, Override, core}
-use Rattle.vk_spec.specs.Pages.{name as field_name, text as field_text, Wrong, no_registry, no_baseline, bad_file, disagrees, overlay, override, Row, Page}
+use Rattle.vk_spec.specs.Pages.{name as field_name, text as field_text, Wrong, no_registry, no_baseline, bad_file, disagrees, baseline, overlay, override, Row, Page}
 use Rattle.vk_spec.specs.Conditions.{Condition, always, mark, negation, all, condition, no_conditions}
+use Rattle.vk_spec.specs.Settings.{Instance}
 use Rattle.vk_resolution.specs.Settings.{root, inst}
 use Rattle.vk_resolution.specs.Asking.{need, floor, visit}
-use Rattle.vk_resolution.specs.Consequences.{Inputs, by_root, by_baseline, by_minimum, by_one, by_two}
+use Rattle.vk_resolution.specs.Consequences.{Inputs, by_root, by_baseline, by_override, by_overlay, by_minimum, by_one, by_two}
 use Rattle.vk_resolution.specs.Reasons.{Reason}
 use Rattle.vk_resolution.specs.Faults.{troubled, lacks_registry, lacks_baseline, unreadable, lacks_version, differs, conflicts, lacks_feature, isnt_supported, has_cycle}
 use Rattle.vk_resolution.specs.Examples.{version, ask, on, at_least, use_of, manifest, release, listed, pages_of, root_with, setting, x64_linux, arm64_linux, project, x64, at_most, Line, Report, plans, refuses}
@@ -646,3 +647,219 @@ early_feature = project (with_features (on d) bz2 ∷ []) (pages_of ((d, listed 
 
 abbrev pub early_feature_report : Report
 early_feature_report = plans (line_with d one 6 (bz2 ∷ []) ∷ []) 9
+
+-- a project that leads into a cycle, which its least instance isn't on
+abbrev pub leads_in : Inputs
+leads_in = project (on a ∷ []) (pages_of (single a (on b ∷ []) ∷ single b (on c ∷ []) ∷ single c (on b ∷ []) ∷ []))
+
+abbrev pub leads_in_report : Report
+leads_in_report = refuses (has_cycle (x64 b ∷ x64 c ∷ []) ∷ []) 17
+
+-- an override pins also where the port's table can't be read
+abbrev pub other_table_path : Path
+other_table_path = codes "." ∷ codes "reg" ∷ codes "versions" ∷ codes "b-" ∷ codes "b.json" ∷ []
+
+abbrev pub overridden_without_table : Inputs
+overridden_without_table = failing (bad_file other_table_path [] (codes "absent")) (record { name = b; ask = ask (codes "9") } ∷ [])
+
+abbrev pub overridden_without_table_report : Report
+overridden_without_table_report = refuses (troubled (unreadable other_table_path [] (codes "absent")) 3 ∷ []) 4
+
+-- a version with a port-version, its row, and a dependency with such a minimum
+abbrev pub ported : Version → ℕ → Version
+ported v n = record { class = v.class; text = v.text; port = n }
+
+abbrev pub bare_row : List ℕ → Version → Row Condition
+bare_row port v = record { version = v; manifest = Ok (manifest port v []) }
+
+abbrev pub at_least_port : List ℕ → List ℕ → ℕ → Dependency Condition
+at_least_port port t n = record { name = port; defaults = true; features = []; host = false; platform = always; minimum = Some (record { text = t; port = n }) }
+
+-- floors in conflict are told by text first, and then by port-version
+abbrev pub conflict_by_text : Inputs
+conflict_by_text = project (on p ∷ on q ∷ []) (pages_of (
+    single p (on s ∷ [])
+    ∷ single q (at_least s beta ∷ [])
+    ∷ (s, record { given = Ok (baseline (record { text = alpha; port = 1 })); rows = bare_row s (ported (text_version alpha) 1) ∷ text_release s beta ∷ [] })
+    ∷ []))
+
+abbrev pub conflict_by_text_report : Report
+conflict_by_text_report = refuses (conflicts s (ported (text_version alpha) 1) 16 (text_version beta) 15 ∷ []) 20
+
+-- floors of one rank stand by text first, and then by port-version
+abbrev pub floors_by_text : Inputs
+floors_by_text = project (at_least_port b one 1 ∷ at_least_port b (codes "2") 0 ∷ []) (pages_of (
+    (b, listed one (release b one [] ∷ bare_row b (ported (version one) 1) ∷ release b (codes "2") [] ∷ []))
+    ∷ []))
+
+abbrev pub floors_by_text_report : Report
+floors_by_text_report = plans (planned_line b (codes "2") 6 ∷ []) 13
+
+-- visits of one rank stand by feature first, and then by version
+abbrev pub visits_by_feature : Inputs
+visits_by_feature = project (at_least b (codes "2") ∷ at_least b three ∷ []) (pages_of ((b, listed one (release b one [] ∷ release b (codes "2") [] ∷ release b three [] ∷ [])) ∷ []))
+
+abbrev pub visits_by_feature_reasons : List Reason
+visits_by_feature_reasons =
+    record { fact = need (root (codes "x64-linux")) core; cause = by_root }
+    ∷ record { fact = need (root (codes "x64-linux")) default; cause = by_root }
+    ∷ record { fact = need (inst (x64 b)) core; cause = by_one 1 }
+    ∷ record { fact = need (inst (x64 b)) default; cause = by_one 1 }
+    ∷ record { fact = floor b (ask (codes "2")); cause = by_minimum 1 }
+    ∷ record { fact = floor b (ask three); cause = by_minimum 1 }
+    ∷ record { fact = floor b (ask one); cause = by_baseline 3 }
+    ∷ record { fact = visit (x64 b) core (ask (codes "2")); cause = by_two 3 5 }
+    ∷ record { fact = visit (x64 b) core (ask three); cause = by_two 3 6 }
+    ∷ record { fact = visit (x64 b) default (ask (codes "2")); cause = by_two 4 5 }
+    ∷ record { fact = visit (x64 b) default (ask three); cause = by_two 4 6 }
+    ∷ record { fact = visit (x64 b) core (ask one); cause = by_two 3 7 }
+    ∷ record { fact = visit (x64 b) default (ask one); cause = by_two 4 7 }
+    ∷ []
+
+-- what the root's default features ask counts for the off list
+abbrev pub off_by_default_feature : Inputs
+off_by_default_feature = record {
+  setting = setting (record {
+    name = None;
+    version = None;
+    supports = always;
+    dependencies = [];
+    default_features = use_of y ∷ [];
+    features = feature y (without_defaults (on d) ∷ []) ∷ [];
+    overrides = [];
+  }) x64_linux x64_linux (x64 d ∷ []);
+  pages = pages_of (d_page ∷ []);
+  at_most = at_most;
+}
+
+abbrev pub off_by_default_feature_report : Report
+off_by_default_feature_report = plans (planned_line d one 5 ∷ []) 6
+
+-- and so does what the root asks of itself
+abbrev pub off_by_own_feature : Inputs
+off_by_own_feature = record {
+  setting = setting (record {
+    name = Some g;
+    version = None;
+    supports = always;
+    dependencies = with_features (on g) y ∷ [];
+    default_features = [];
+    features = feature y (without_defaults (on d) ∷ []) ∷ [];
+    overrides = [];
+  }) x64_linux x64_linux (x64 d ∷ []);
+  pages = pages_of (d_page ∷ []);
+  at_most = at_most;
+}
+
+abbrev pub off_by_own_feature_report : Report
+off_by_own_feature_report = plans (planned_line d one 5 ∷ []) 6
+
+-- every kind of cause: x of a asks a itself for y and a higher minimum, y has a host tool, d is off for the target alone, p is overridden, w overlaid
+abbrev pub two : List ℕ
+two = codes "2"
+
+abbrev pub one_one : List ℕ
+one_one = codes "1.1"
+
+abbrev pub one_two : List ℕ
+one_two = codes "1.2"
+
+abbrev pub arm64 : List ℕ → Instance
+arm64 port = record { port = port; triplet = codes "arm64-linux" }
+
+abbrev pub a_row : List ℕ → Dependency Condition → Dependency Condition → List (Dependency Condition) → Row Condition
+a_row v on_w of_x of_y = record {
+  version = version v;
+  manifest = Ok (record {
+    name = Some a;
+    version = Some (version v);
+    supports = always;
+    dependencies = on_w ∷ [];
+    default_features = use_of f ∷ [];
+    features = feature f [] ∷ feature x (of_x ∷ []) ∷ feature y of_y ∷ [];
+    overrides = [];
+  });
+}
+
+abbrev pub every_cause : Inputs
+every_cause = record {
+  setting = setting (root_overriding (with_features (at_least a one_one) x ∷ without_defaults (on d) ∷ at_least p (codes "9") ∷ []) p one) arm64_linux x64_linux (arm64 d ∷ []);
+  pages = pages_of ((
+    a,
+    listed one_dot (
+        release a one_dot []
+        ∷ a_row one_one (at_least w (codes "9")) (with_features (at_least a one_two) y) []
+        ∷ a_row one_two (on w) (with_features (on a) y) (for_host (on t) ∷ [])
+        ∷ []),
+  )
+      ∷ d_page
+      ∷ (p, record { given = Ok (override (ask one)); rows = release p one [] ∷ release p (codes "9") [] ∷ [] })
+      ∷ single t (on d ∷ [])
+      ∷ (w, record { given = Ok (overlay (version two)); rows = release w two [] ∷ [] })
+      ∷ []);
+  at_most = at_most;
+}
+
+abbrev pub arm_line_with : List ℕ → List ℕ → ℕ → List (List ℕ) → Line
+arm_line_with port v n fs = record { port = port; triplet = codes "arm64-linux"; version = v; number = n; features = core ∷ fs }
+
+abbrev pub every_cause_report : Report
+every_cause_report =
+    plans (arm_line d 11 ∷ line_with d one 11 (f ∷ []) ∷ arm_line p 12 ∷ arm_line_with w two 27 [] ∷ planned_line t one 41 ∷ arm_line_with a one_two 20 (f ∷ x ∷ y ∷ []) ∷ []) 49
+
+abbrev pub every_cause_needs : List (List ℕ)
+every_cause_needs = [] ∷ [] ∷ [] ∷ [] ∷ (1 ∷ []) ∷ (3 ∷ 4 ∷ []) ∷ []
+
+-- its reasons, line by line
+abbrev pub every_cause_reasons : List Reason
+every_cause_reasons =
+    record { fact = need (root (codes "arm64-linux")) core; cause = by_root }
+    ∷ record { fact = need (root (codes "arm64-linux")) default; cause = by_root }
+    ∷ record { fact = need (inst (arm64 a)) core; cause = by_one 1 }
+    ∷ record { fact = need (inst (arm64 a)) default; cause = by_one 1 }
+    ∷ record { fact = need (inst (arm64 a)) x; cause = by_one 1 }
+    ∷ record { fact = need (inst (arm64 d)) core; cause = by_one 1 }
+    ∷ record { fact = need (inst (arm64 p)) core; cause = by_one 1 }
+    ∷ record { fact = need (inst (arm64 p)) default; cause = by_one 1 }
+    ∷ record { fact = floor a (ask one_one); cause = by_minimum 1 }
+    ∷ record { fact = floor a (ask one_dot); cause = by_baseline 3 }
+    ∷ record { fact = floor d (ask one); cause = by_baseline 6 }
+    ∷ record { fact = floor p (ask one); cause = by_override 7 }
+    ∷ record { fact = visit (arm64 a) core (ask one_one); cause = by_two 3 9 }
+    ∷ record { fact = visit (arm64 a) default (ask one_one); cause = by_two 4 9 }
+    ∷ record { fact = visit (arm64 a) x (ask one_one); cause = by_two 5 9 }
+    ∷ record { fact = need (inst (arm64 a)) f; cause = by_one 14 }
+    ∷ record { fact = need (inst (arm64 a)) y; cause = by_one 15 }
+    ∷ record { fact = need (inst (arm64 w)) core; cause = by_one 13 }
+    ∷ record { fact = need (inst (arm64 w)) default; cause = by_one 13 }
+    ∷ record { fact = floor a (ask one_two); cause = by_minimum 15 }
+    ∷ record { fact = visit (arm64 a) core (ask one_dot); cause = by_two 3 10 }
+    ∷ record { fact = visit (arm64 a) default (ask one_dot); cause = by_two 4 10 }
+    ∷ record { fact = visit (arm64 a) x (ask one_dot); cause = by_two 5 10 }
+    ∷ record { fact = visit (arm64 d) core (ask one); cause = by_two 6 11 }
+    ∷ record { fact = visit (arm64 p) core (ask one); cause = by_two 7 12 }
+    ∷ record { fact = visit (arm64 p) default (ask one); cause = by_two 8 12 }
+    ∷ record { fact = floor w (ask two); cause = by_overlay 18 }
+    ∷ record { fact = visit (arm64 a) core (ask one_two); cause = by_two 3 20 }
+    ∷ record { fact = visit (arm64 a) default (ask one_two); cause = by_two 4 20 }
+    ∷ record { fact = visit (arm64 a) f (ask one_dot); cause = by_two 16 10 }
+    ∷ record { fact = visit (arm64 a) f (ask one_one); cause = by_two 16 9 }
+    ∷ record { fact = visit (arm64 a) f (ask one_two); cause = by_two 16 20 }
+    ∷ record { fact = visit (arm64 a) x (ask one_two); cause = by_two 5 20 }
+    ∷ record { fact = visit (arm64 a) y (ask one_dot); cause = by_two 17 10 }
+    ∷ record { fact = visit (arm64 a) y (ask one_one); cause = by_two 17 9 }
+    ∷ record { fact = visit (arm64 a) y (ask one_two); cause = by_two 17 20 }
+    ∷ record { fact = need (inst (x64 t)) core; cause = by_one 36 }
+    ∷ record { fact = need (inst (x64 t)) default; cause = by_one 36 }
+    ∷ record { fact = visit (arm64 w) core (ask two); cause = by_two 18 27 }
+    ∷ record { fact = visit (arm64 w) default (ask two); cause = by_two 19 27 }
+    ∷ record { fact = floor t (ask one); cause = by_baseline 37 }
+    ∷ record { fact = visit (x64 t) core (ask one); cause = by_two 37 41 }
+    ∷ record { fact = visit (x64 t) default (ask one); cause = by_two 38 41 }
+    ∷ record { fact = need (inst (x64 d)) core; cause = by_one 42 }
+    ∷ record { fact = need (inst (x64 d)) default; cause = by_one 42 }
+    ∷ record { fact = visit (x64 d) core (ask one); cause = by_two 44 11 }
+    ∷ record { fact = visit (x64 d) default (ask one); cause = by_two 45 11 }
+    ∷ record { fact = need (inst (x64 d)) f; cause = by_one 47 }
+    ∷ record { fact = visit (x64 d) f (ask one); cause = by_two 48 11 }
+    ∷ []

@@ -1,19 +1,28 @@
 -- Laws of heights and cycles, over any edges.
-use Rattle.std.specs.Prelude.{◌≡◌, ◌<◌, ◌≤◌, ℕ, suc, true, List, [], ◌∷◌, ◌++◌, length}
+use Rattle.std.specs.Prelude.{◌≡◌, ◌↔◌, ◌<◌, ◌≤◌, ℕ, suc, true, List, [], ◌∷◌, ◌++◌, length, Some}
 use Rattle.std.specs.List.{Contains}
 use Rattle.vk_spec.specs.Lists.{NoRepeats, IsWithin}
 use Rattle.vk_spec.specs.Settings.{Instance}
 use Rattle.vk_resolution.specs.Keys.{Ascends}
 use Rattle.vk_resolution.specs.Planning.{instance_key, HasHeight, IsByHeight, has_way, IsOnCycle, IsCycle}
+use Rattle.vk_resolution.specs.Computed.{cycle_by}
 
 -- what each instance depends on
 abbrev pub Targets : Type 0
 Targets = Instance → List Instance
 
+-- edges lead from listed instances to listed ones
+abbrev pub EdgesStay : Targets → List Instance → Type 0
+EdgesStay targets instances = (i : Instance) → Contains instances i → IsWithin (targets i) instances
+
+-- no edge leads from an instance to itself
+abbrev pub EdgesLeave : Targets → Type 0
+EdgesLeave targets = (i : Instance) → Contains (targets i) i → ⊥
+
 -- edges lead from listed instances to listed ones, and from none to itself
 pub record AreEdgesOf (targets : Targets) (instances : List Instance) : Type 0 where
-  pub stay : (i : Instance) → Contains instances i → IsWithin (targets i) instances
-  pub leave : (i : Instance) → Contains (targets i) i → ⊥
+  pub stay : EdgesStay targets instances
+  pub leave : EdgesLeave targets
 
 -- an instance with a height is on no cycle; where none is on a cycle, each has a height
 abbrev pub HeightsHaveNoCycle : Type 0
@@ -21,7 +30,7 @@ HeightsHaveNoCycle = (targets : Targets) (n : ℕ) (i : Instance) → HasHeight 
 
 -- where no instance is on a cycle, each has a height
 abbrev pub NoCycleGivesHeights : Type 0
-NoCycleGivesHeights = (targets : Targets) (instances : List Instance) → AreEdgesOf targets instances → ((i : Instance) → Contains instances i → IsOnCycle targets i → ⊥) → (i : Instance) → Contains instances i → (n : ℕ) × HasHeight targets n i
+NoCycleGivesHeights = (targets : Targets) (instances : List Instance) → EdgesStay targets instances → ((i : Instance) → Contains instances i → IsOnCycle targets i → ⊥) → (i : Instance) → Contains instances i → (n : ℕ) × HasHeight targets n i
 
 -- a target is lower, so in an order by heights it stands before
 abbrev pub TargetsAreLower : Type 0
@@ -34,7 +43,11 @@ TargetsStandBefore = (targets : Targets) (before after : List Instance) (i j : I
 
 -- where there is a cycle, exactly one walk is told
 abbrev pub CycleExists : Type 0
-CycleExists = (targets : Targets) (instances : List Instance) → Ascends instance_key instances → AreEdgesOf targets instances → (i : Instance) → Contains instances i → IsOnCycle targets i → (walk : List Instance) × IsCycle targets instances walk
+CycleExists = (targets : Targets) (instances : List Instance) → Ascends instance_key instances → EdgesStay targets instances → (i : Instance) → Contains instances i → IsOnCycle targets i → (walk : List Instance) × IsCycle targets instances walk
+
+-- the search answers that walk, and no other
+abbrev pub CycleIsFound : Type 0
+CycleIsFound = (targets : Targets) (instances : List Instance) → Ascends instance_key instances → EdgesStay targets instances → (walk : List Instance) → (cycle_by targets instances ≡ Some walk) ↔ IsCycle targets instances walk
 
 -- the walk is one
 abbrev pub CycleIsOne : Type 0
@@ -54,7 +67,7 @@ pub record IsShortestRound (targets : Targets) (first : Instance) (rest : List I
 
 -- the walk has two instances or more, none twice, and no cycle through the first is shorter
 abbrev pub CycleIsShortest : Type 0
-CycleIsShortest = (targets : Targets) (instances : List Instance) → AreEdgesOf targets instances → (first : Instance) (rest : List Instance) → IsCycle targets instances (first ∷ rest) → IsShortestRound targets first rest
+CycleIsShortest = (targets : Targets) (instances : List Instance) → EdgesLeave targets → (first : Instance) (rest : List Instance) → IsCycle targets instances (first ∷ rest) → IsShortestRound targets first rest
 
 -- an order by heights is one list
 abbrev pub HeightOrderIsOne : Type 0

@@ -29,10 +29,11 @@ pub use planned_sets::a_planned_set_in_order_is_the_plan;
 pub use plans::{a_plan_serves_its_manifests, a_plan_stays_within_the_reasons};
 pub use printouts::{faults_are_printed, plans_are_printed, reports_are_printed};
 pub use projects::{
-    a_feature_of_one_version, a_minimum_outside_the_table, a_raised_minimum, a_realistic_project,
-    bad_files, conflicts, cycles, default_features, failing_ports, host_instances,
-    minimums_below_the_baseline, no_registry, overlays, own_instances, reports_are_the_only_ones,
-    root_features, superseded_versions, the_smallest_project,
+    a_feature_of_one_version, a_minimum_outside_the_table, a_project_with_every_cause,
+    a_raised_minimum, a_realistic_project, bad_files, conflicts, cycles, default_features,
+    failing_ports, host_instances, lines_of_one_rank, minimums_below_the_baseline, no_registry,
+    overlays, own_instances, reports_are_the_only_ones, root_features, superseded_versions,
+    the_smallest_project,
 };
 pub use reasons::reasons_show_what_they_claim;
 pub use selections::choices_are_made_or_conflicts_told;

@@ -2,7 +2,7 @@
 ghost use Rattle.vk_spec.specs.Versions.{IsOrder};
 ghost use Rattle.vk_resolution.specs.Reasons.{IsReasons};
 ghost use Rattle.vk_resolution.specs.Examples.{HasNeeds, Reports, ReportsAlone, at_most};
-ghost use Rattle.vk_resolution.specs.Projects.{below_baseline, below_baseline_report, builds_with_floor, builds_with_floor_report, conflict, conflict_report, cross_build, cross_build_report, cycle, cycle_report, damaged_manifest, damaged_manifest_report, damaged_overlay, damaged_overlay_report, default_feature, default_feature_report, dropped_feature, dropped_feature_report, early_feature, early_feature_report, failed_override, failed_override_report, host_platform, host_platform_report, missing_feature, missing_feature_report, missing_minimum, missing_minimum_report, named_feature, named_feature_report, named_root, named_root_report, native_build, native_build_report, new_feature, new_feature_report, no_baseline_entry, no_baseline_entry_report, no_table, no_table_report, off_by_port, off_by_port_report, off_by_root, off_by_root_report, off_where_it_applies, off_where_it_applies_report, on_by_another, on_by_another_report, other_manifest, other_manifest_report, other_overlay, other_overlay_report, overlaid_port, overlaid_port_report, overridden, overridden_report, own_feature, own_feature_report, own_minimum, own_minimum_report, raised_minimum, raised_minimum_reasons, raised_minimum_report, realistic, realistic_needs, realistic_report, smallest, smallest_report, stale_baseline, stale_baseline_report, superseded_minimum, superseded_minimum_report, superseded_reach, superseded_reach_report, two_cycles, two_cycles_report, unrelated_builds, unrelated_builds_report, unserved, unserved_report, unsupported_feature, unsupported_feature_report, unsupported_port, unsupported_port_report};
+ghost use Rattle.vk_resolution.specs.Projects.{below_baseline, below_baseline_report, builds_with_floor, builds_with_floor_report, conflict, conflict_report, conflict_by_text, conflict_by_text_report, cross_build, cross_build_report, cycle, cycle_report, damaged_manifest, damaged_manifest_report, damaged_overlay, damaged_overlay_report, default_feature, default_feature_report, dropped_feature, dropped_feature_report, early_feature, early_feature_report, every_cause, every_cause_needs, every_cause_reasons, every_cause_report, failed_override, failed_override_report, floors_by_text, floors_by_text_report, host_platform, host_platform_report, leads_in, leads_in_report, missing_feature, missing_feature_report, missing_minimum, missing_minimum_report, named_feature, named_feature_report, named_root, named_root_report, native_build, native_build_report, new_feature, new_feature_report, no_baseline_entry, no_baseline_entry_report, no_table, no_table_report, off_by_default_feature, off_by_default_feature_report, off_by_own_feature, off_by_own_feature_report, off_by_port, off_by_port_report, off_by_root, off_by_root_report, off_where_it_applies, off_where_it_applies_report, on_by_another, on_by_another_report, other_manifest, other_manifest_report, other_overlay, other_overlay_report, overlaid_port, overlaid_port_report, overridden, overridden_report, overridden_without_table, overridden_without_table_report, own_feature, own_feature_report, own_minimum, own_minimum_report, raised_minimum, raised_minimum_reasons, raised_minimum_report, realistic, realistic_needs, realistic_report, smallest, smallest_report, stale_baseline, stale_baseline_report, superseded_minimum, superseded_minimum_report, superseded_reach, superseded_reach_report, two_cycles, two_cycles_report, unrelated_builds, unrelated_builds_report, unserved, unserved_report, unsupported_feature, unsupported_feature_report, unsupported_port, unsupported_port_report, visits_by_feature, visits_by_feature_reasons};
 
 /// The order on versions in these projects is an order, and what one reports is all that it can report.
 pub fn reports_are_the_only_ones()
@@ -32,6 +32,7 @@ pub fn failing_ports()
     ensures overridden { Reports failed_override failed_override_report }
     ensures overlay { Reports other_overlay other_overlay_report }
     ensures damaged { Reports damaged_overlay damaged_overlay_report }
+    ensures table { Reports overridden_without_table overridden_without_table_report }
 {}
 
 /// A minimum above the baseline is planned, with these fifteen reasons.
@@ -40,18 +41,32 @@ pub fn a_raised_minimum()
     ensures reasons { IsReasons raised_minimum raised_minimum_reasons }
 {}
 
+/// A project with an override, an overlay, default features, a feature that asks of its own port, and a host tool, with its forty-nine reasons.
+pub fn a_project_with_every_cause()
+    ensures planned { Reports every_cause every_cause_report }
+    ensures needs { HasNeeds every_cause every_cause_needs }
+    ensures reasons { IsReasons every_cause every_cause_reasons }
+{}
+
+/// Floors of one rank stand by text before port-version, and visits by feature before version.
+pub fn lines_of_one_rank()
+    ensures floors { Reports floors_by_text floors_by_text_report }
+    ensures visits { IsReasons visits_by_feature visits_by_feature_reasons }
+{}
+
 /// A minimum that only a superseded version asks counts, and a port that only it asks for isn't planned.
 pub fn superseded_versions()
     ensures minimum { Reports superseded_minimum superseded_minimum_report }
     ensures reach { Reports superseded_reach superseded_reach_report }
 {}
 
-/// Unrelated floors are a conflict, which an override or a floor above both settles; a version that is no floor doesn't.
+/// Unrelated floors are a conflict, which an override or a floor above both settles; a version that is no floor doesn't. The two are told by text before port-version.
 pub fn conflicts()
     ensures texts { Reports conflict conflict_report }
     ensures overridden { Reports overridden overridden_report }
     ensures builds { Reports unrelated_builds unrelated_builds_report }
     ensures floor { Reports builds_with_floor builds_with_floor_report }
+    ensures order { Reports conflict_by_text conflict_by_text_report }
 {}
 
 /// A minimum that the table lacks is told with its floor.
@@ -66,12 +81,14 @@ pub fn a_feature_of_one_version()
     ensures early { Reports early_feature early_feature_report }
 {}
 
-/// Only the root can switch default features off, by dependencies that apply.
+/// Only the root can switch default features off, by dependencies that apply, also those of its default features and of features that it asks of itself.
 pub fn default_features()
     ensures root { Reports off_by_root off_by_root_report }
     ensures port { Reports off_by_port off_by_port_report }
     ensures applies { Reports off_where_it_applies off_where_it_applies_report }
     ensures another { Reports on_by_another on_by_another_report }
+    ensures by_default { Reports off_by_default_feature off_by_default_feature_report }
+    ensures own { Reports off_by_own_feature off_by_own_feature_report }
 {}
 
 /// A host dependency is for the host triplet, and its platform is judged by the one that depends.
@@ -81,10 +98,11 @@ pub fn host_instances()
     ensures platform { Reports host_platform host_platform_report }
 {}
 
-/// A cycle is told from its least instance on, and a port that asks for a feature of its own is none.
+/// A cycle is told from its least instance on, wherever one comes into it, and a port that asks for a feature of its own is none.
 pub fn cycles()
     ensures three { Reports cycle cycle_report }
     ensures two { Reports two_cycles two_cycles_report }
+    ensures leads_in { Reports leads_in leads_in_report }
     ensures own { Reports own_feature own_feature_report }
 {}
 
