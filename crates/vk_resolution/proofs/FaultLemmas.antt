@@ -30,46 +30,8 @@ use Rattle.vk_resolution.proofs.Members.{true_false, no_is_false, not_true, not_
 use Rattle.vk_resolution.proofs.Orders.{before_itself, before_both, contains-in_order, in_order-contains, in_order-ascends}
 use Rattle.vk_resolution.proofs.FactLemmas.{trouble_key-IsKey, same_trouble-Decides}
 use Rattle.vk_resolution.proofs.Soundness.{map_some, then_some}
+use Rattle.vk_resolution.proofs.LineLemmas.{first_line_is, at_contains}
 use Rattle.vk_resolution.proofs.ChoiceLemmas.{line_exists, floors_are, version_key-IsKey}
-
--- the first line is that of a fact that passes, and no line before it passes
-pub record IsFirstLine (test : Fact → Bool) (facts : List Fact) (n : ℕ) : Type 0 where
-  pub fact : Fact
-  pub line : fact_at facts n ≡ Some fact
-  pub passes : test fact ≡ true
-  pub first : (m : ℕ) (other : Fact) → fact_at facts m ≡ Some other → test other ≡ true → n ≤ m
-
-some_line : (facts : List Fact) (m : ℕ) (x : Fact) → fact_at facts m ≡ Some x → 0 < m
-some_line facts zero x e = (cc)
-some_line facts (suc m) x e = omega arith
-
-first_case : (test : Fact → Bool) (x : Fact) (xs : List Fact) (n : ℕ) (b : Bool) → test x ≡ b → ((k : ℕ) → first_line test xs ≡ Some k → IsFirstLine test xs k) → cond b (Some 1) (option_map suc (first_line test xs)) ≡ Some n → IsFirstLine test (x ∷ xs) n
-first_case test x xs n true e rest h =
-    let one : 1 ≡ n = (cc) in
-    subst (IsFirstLine test (x ∷ xs)) one (record { fact = x; line = refl; passes = e; first = λ m other at passes. some_line (x ∷ xs) m other at })
-first_case test x xs n false e rest h =
-    let r = map_some suc (first_line test xs) n h in
-    let is = rest r.0 r.1 in
-    subst (IsFirstLine test (x ∷ xs)) r.2 (after r.0 is)
-  where
-    after : (k : ℕ) → IsFirstLine test xs k → IsFirstLine test (x ∷ xs) (suc k)
-    after zero is = (let clash : fact_at xs zero ≡ Some is.fact = is.line in (cc))
-    after (suc k) is = record { fact = is.fact; line = is.line; passes = is.passes; first = later }
-      where
-        later : (m : ℕ) (other : Fact) → fact_at (x ∷ xs) m ≡ Some other → test other ≡ true → suc (suc k) ≤ m
-        later zero other at passes = (cc)
-        later (suc zero) other at passes = (let same : x ≡ other = (cc) in absurd (true_false (test other) passes (subst (λ z. test z ≡ false) same e)))
-        later (suc (suc m)) other at passes = (let below : suc k ≤ suc m = is.first (suc m) other at passes in omega arith)
-
-pub first_line_is : (test : Fact → Bool) (facts : List Fact) (n : ℕ) → first_line test facts ≡ Some n → IsFirstLine test facts n
-first_line_is test [] n e = (cc)
-first_line_is test (x ∷ xs) n e = first_case test x xs n (test x) refl (first_line_is test xs) e
-
-at_contains : (facts : List Fact) (n : ℕ) (x : Fact) → fact_at facts n ≡ Some x → Contains facts x
-at_contains facts zero x e = (cc)
-at_contains [] (suc n) x e = (cc)
-at_contains (y ∷ ys) (suc zero) x e = let same : y ≡ x = (cc) in subst (Contains (y ∷ ys)) same (contains_first y ys)
-at_contains (y ∷ ys) (suc (suc n)) x e = contains_later y x ys (at_contains ys (suc n) x e)
 
 met_is : (inputs : Inputs) (t : Trouble) (x : Fact) → list_any (same_trouble t) (troubles_of inputs x) ≡ true → Contains (troubles_of inputs x) t
 met_is inputs t x e = let r = any_contains (same_trouble t) (troubles_of inputs x) e in subst (Contains (troubles_of inputs x)) (sym ((same_trouble-Decides t r.0).0 r.2)) r.1

@@ -20,3 +20,5 @@ pub mod Uniqueness
 pub mod ExampleLemmas
 pub mod SentenceLemmas
 pub mod FaultLemmas
+pub mod LineLemmas
+pub mod CertificateLemmas
