@@ -22,3 +22,5 @@ pub mod SentenceLemmas
 pub mod FaultLemmas
 pub mod LineLemmas
 pub mod CertificateLemmas
+pub mod FreshRounds
+pub mod FirstCauses

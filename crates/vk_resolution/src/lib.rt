@@ -18,7 +18,10 @@ mod walks;
 pub use agreement::only_what_was_asked_matters;
 pub use choices::a_choice_is_the_least_version_allowed;
 pub use faults::fault_lines_mean_what_they_say;
-pub use least::{a_derived_list_is_the_least, an_order_is_one, there_is_one_least_list};
+pub use least::{
+    a_derived_list_is_the_least, a_round_needs_the_fresh_facts_alone, an_order_is_one,
+    there_is_one_least_list,
+};
 pub use outcomes::{orders_are_total, there_is_one_outcome};
 pub use plans::{a_plan_serves_its_manifests, a_plan_stays_within_the_reasons};
 pub use projects::{
