@@ -24,3 +24,4 @@ pub mod LineLemmas
 pub mod CertificateLemmas
 pub mod FreshRounds
 pub mod FirstCauses
+pub mod MentionLemmas

@@ -22,3 +22,4 @@ pub mod Walks
 pub mod Superseded
 pub mod OutcomeLaws
 pub mod FaultLaws
+pub mod Mentions

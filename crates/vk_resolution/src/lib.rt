@@ -6,6 +6,7 @@
 mod agreement;
 mod choices;
 mod faults;
+mod features;
 mod least;
 mod outcomes;
 mod plans;
@@ -18,6 +19,7 @@ mod walks;
 pub use agreement::only_what_was_asked_matters;
 pub use choices::a_choice_is_the_least_version_allowed;
 pub use faults::fault_lines_mean_what_they_say;
+pub use features::asked_features_are_mentioned;
 pub use least::{
     a_derived_list_is_the_least, a_round_needs_the_fresh_facts_alone, an_order_is_one,
     there_is_one_least_list,
