@@ -25,3 +25,4 @@ pub mod CertificateLemmas
 pub mod FreshRounds
 pub mod FirstCauses
 pub mod MentionLemmas
+pub mod HeightLemmas

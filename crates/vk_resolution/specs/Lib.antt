@@ -23,3 +23,4 @@ pub mod Superseded
 pub mod OutcomeLaws
 pub mod FaultLaws
 pub mod Mentions
+pub mod Heights

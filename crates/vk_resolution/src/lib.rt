@@ -7,6 +7,7 @@ mod agreement;
 mod choices;
 mod faults;
 mod features;
+mod heights;
 mod least;
 mod outcomes;
 mod plans;
@@ -20,6 +21,7 @@ pub use agreement::only_what_was_asked_matters;
 pub use choices::a_choice_is_the_least_version_allowed;
 pub use faults::fault_lines_mean_what_they_say;
 pub use features::asked_features_are_mentioned;
+pub use heights::a_height_is_one_more_than_those_below;
 pub use least::{
     a_derived_list_is_the_least, a_round_needs_the_fresh_facts_alone, an_order_is_one,
     there_is_one_least_list,
