@@ -1,6 +1,6 @@
 -- A derivation by numbered lines, closed and without repeats, is the least list.
-use Rattle.std.proofs.Common.{◌≡◌, ◌⊎◌, ℕ, List, [], ◌∷◌, ◌++◌, map, inl, inr, sym, subst}
-use Rattle.std.specs.Prelude.{Option, Some, option_map, option_and_then}
+use Rattle.std.proofs.Common.{◌≡◌, ◌⊎◌, ℕ, List, [], ◌∷◌, ◌++◌, inl, inr, sym, subst}
+use Rattle.std.specs.Prelude.{Some, option_map}
 use Rattle.std.specs.List.{Contains}
 use Rattle.vk_resolution.specs.Least.{FollowsFrom, from_one, from_two, IsDerived}
 use Rattle.vk_resolution.specs.Asking.{Fact, root_facts_of}

@@ -1,6 +1,6 @@
 -- What the fault lines mean.
 use Rattle.vk_spec.specs.Conditions.{holds, Condition}
-use Rattle.std.proofs.Common.{◌≡◌, ◌≢◌, ◌≤◌, ◌<◌, ◌⊎◌, ℕ, zero, suc, Bool, true, false, cond, not, List, [], ◌∷◌, filter, inl, inr, refl, ap, sym, ◌∙◌, subst, arith}
+use Rattle.std.proofs.Common.{◌≡◌, ◌≢◌, ◌≤◌, ◌<◌, ℕ, Bool, true, false, cond, List, [], ◌∷◌, filter, inl, inr, refl, ap, sym, ◌∙◌, subst, arith}
 use Rattle.std.specs.Prelude.{Option, Some, None, option_map, option_and_then, option_to_list, flat_map, Result, Ok, Err, bytes_eq}
 use Rattle.std.specs.Ordering.{nat_cmp, ordering_then, MatchOrdering}
 use Rattle.std.specs.declared.cmp.Ordering.{Ordering}
@@ -23,7 +23,7 @@ use Rattle.vk_resolution.specs.Givens.{manifest_at, is_pinned}
 use Rattle.vk_resolution.specs.Asking.{Fact, need, floor, visit}
 use Rattle.vk_resolution.specs.Consequences.{Inputs, is_below}
 use Rattle.vk_resolution.specs.Choices.{floors_of, chosen_of, class_number, version_key, is_top, tops_of}
-use Rattle.vk_resolution.specs.Reasons.{first_line, line_of, fact_at}
+use Rattle.vk_resolution.specs.Reasons.{first_line, line_of}
 use Rattle.vk_resolution.specs.Faults.{Trouble, trouble_key, same_trouble, troubles_of, told_of, Fault, troubled, conflicts, lacks_feature, isnt_supported, first_faults_of, second_faults_of, conflict_of, conflicts_of, ports_in, feature_faults, judged, judged_at, judged_chosen, judged_need, third_faults_of}
 use Rattle.vk_resolution.specs.FaultLaws.{IsTold, FirstLinesMean, IsTopFloor, IsConflictLine, SecondLinesMean, ComesBefore, by_text, by_port, by_class, VersionsComeInOrder, IsJudgedBy, by_root, by_choice, IsWrongWith, no_such_feature, no_support, no_feature_support, IsJudged, ThirdLinesMean}
 use Rattle.vk_resolution.proofs.Members.{true_false, no_is_false, not_true, not_false, any_contains, contains_any, contains_map, map_contains, contains_single, option_contains, contains_option, contains_filter, filter_contains}

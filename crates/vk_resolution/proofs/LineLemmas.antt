@@ -1,6 +1,6 @@
 -- The lines of facts: what stands on a line, and on which line a fact stands.
 use Rattle.std.proofs.Common.{◌≡◌, ◌≤◌, ◌<◌, ℕ, zero, suc, Bool, true, false, cond, List, [], ◌∷◌, refl, ap, sym, ◌∙◌, subst, arith}
-use Rattle.std.specs.Prelude.{Option, Some, None, option_map, slice_get}
+use Rattle.std.specs.Prelude.{Some, option_map}
 use Rattle.std.specs.List.{Contains}
 use Rattle.vk_spec.specs.Lists.{NoRepeats}
 use Rattle.vk_spec.proofs.ListLemmas.{contains_first, contains_later}

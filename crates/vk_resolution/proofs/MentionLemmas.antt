@@ -8,7 +8,7 @@ use Rattle.vk_spec.specs.Manifests.{Manifest, Dependency, FeatureUse, Feature, c
 use Rattle.vk_spec.specs.Settings.{Setting}
 use Rattle.vk_spec.proofs.ListLemmas.{contains_nothing, contains-flat_map, flat_map-contains}
 use Rattle.vk_resolution.specs.Least.{FollowsFrom, from_one, from_two}
-use Rattle.vk_resolution.specs.Settings.{Marks, root, marks_of, triplet_of, instance_of, is_own, feature_of, dependencies_in, dependencies_of, applicable_of, names_of, defaults_of, asked_of_root_by, first_features_of, root_rules_of}
+use Rattle.vk_resolution.specs.Settings.{Marks, root, marks_of, instance_of, is_own, feature_of, dependencies_in, dependencies_of, applicable_of, names_of, defaults_of, asked_of_root_by, first_features_of, root_rules_of}
 use Rattle.vk_resolution.specs.Mentions.{all_dependencies_of, mentioned_by, mentioned_of, AskedIsMentioned, MentionedIsClosed}
 use Rattle.vk_resolution.proofs.Members.{contains_map, map_contains, contains_filter, found_contains}
 use Rattle.vk_resolution.proofs.LeastLemmas.{reached_within}

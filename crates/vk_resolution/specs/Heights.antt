@@ -1,5 +1,5 @@
 -- Heights, from those of the targets: for whoever takes away what has no targets left.
-use Rattle.std.specs.Prelude.{◌≡◌, ◌≤◌, ◌↔◌, ℕ, zero, suc, List, []}
+use Rattle.std.specs.Prelude.{◌≡◌, ◌≤◌, ◌↔◌, ℕ, zero, suc, []}
 use Rattle.std.specs.List.{Contains}
 use Rattle.vk_spec.specs.Settings.{Instance}
 use Rattle.vk_resolution.specs.Planning.{HasHeight}
