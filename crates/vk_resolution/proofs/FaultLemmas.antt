@@ -1,67 +1,37 @@
 -- What the fault lines mean.
 use Rattle.vk_spec.specs.Conditions.{holds, Condition}
-use Rattle.std.proofs.Common.{◌≡◌, ◌≢◌, ◌≤◌, ◌<◌, ℕ, zero, suc, Bool, true, false, cond, List, [], ◌∷◌, filter, refl, ap, sym, ◌∙◌, subst, arith}
+use Rattle.std.proofs.Common.{◌≡◌, ◌≢◌, ◌≤◌, ◌<◌, ℕ, Bool, true, false, cond, List, [], ◌∷◌, filter, inl, inr, refl, ap, sym, ◌∙◌, subst, arith}
 use Rattle.std.specs.Prelude.{Option, Some, None, option_map, option_and_then, option_to_list, flat_map, Result, Ok, Err, bytes_eq}
+use Rattle.std.specs.Ordering.{nat_cmp, ordering_then, MatchOrdering}
+use Rattle.std.specs.declared.cmp.Ordering.{Ordering}
+use Rattle.std.specs.declared.cmp.Ordering.TheVariants.{Less, Equal, Greater}
+use Rattle.std.specs.Cmp.{ranks, nat_cmp_is, tied_itself}
+use Rattle.std.specs.Cmp.Lexicographic.{slice_cmp}
+use Rattle.std.specs.FinMap.{slice_cmp-IsAntisymmetric, nat_cmp-IsAntisymmetric}
 use Rattle.std.specs.List.{Contains, list_any}
+use Rattle.std.proofs.lemmas.Cmp.{nat_list_cmp_total}
 use Rattle.std.proofs.lemmas.Slice.Eq.{bytes_eq-Decides}
 use Rattle.vk_spec.specs.Versions.{Version, ask_of}
 use Rattle.vk_spec.specs.Manifests.{Manifest, Feature, core, default}
 use Rattle.vk_spec.specs.Pages.{Wrong}
-use Rattle.vk_spec.proofs.ListLemmas.{contains_nothing, contains_first, contains_later, contains-flat_map, flat_map-contains}
+use Rattle.vk_spec.proofs.ListLemmas.{contains_nothing, contains_first, contains_later, contains_cases, contains-flat_map, flat_map-contains}
+use Rattle.vk_spec.proofs.FileLemmas.{path_total}
 use Rattle.vk_spec.specs.Settings.{Instance}
-use Rattle.vk_resolution.specs.Keys.{in_order}
+use Rattle.vk_resolution.specs.Keys.{key_cmp, Ascends, in_order}
 use Rattle.vk_resolution.specs.Settings.{Who, root, inst, marks_of, triplet_of, feature_of}
 use Rattle.vk_resolution.specs.Givens.{manifest_at, is_pinned}
-use Rattle.vk_resolution.specs.Asking.{Fact, need, floor, visit, same_fact, is_among}
-use Rattle.vk_resolution.specs.Consequences.{Inputs}
-use Rattle.vk_resolution.specs.Choices.{floors_of, chosen_of, version_key, is_top, tops_of}
+use Rattle.vk_resolution.specs.Asking.{Fact, need, floor, visit, is_among}
+use Rattle.vk_resolution.specs.Consequences.{Inputs, is_below}
+use Rattle.vk_resolution.specs.Choices.{floors_of, chosen_of, version_key, is_top, tops_of, class_number}
 use Rattle.vk_resolution.specs.Reasons.{first_line, line_of, fact_at}
-use Rattle.vk_resolution.specs.Faults.{Trouble, trouble_key, same_trouble, troubles_of, told_of, Fault, troubled, conflicts, lacks_feature, isnt_supported, first_faults_of, judged_on_line, conflict_of, conflicts_of, ports_in, feature_faults, judged, judged_at, judged_chosen, judged_need, third_faults_of}
-use Rattle.vk_resolution.specs.FaultLaws.{IsTold, FirstLinesMean, IsConflictLine, SecondLinesMean, IsJudgedBy, by_root, by_choice, IsWrongWith, no_such_feature, no_support, no_feature_support, IsJudged, ThirdLinesMean}
-use Rattle.vk_resolution.proofs.Members.{true_false, no_is_false, any_contains, contains_any, contains_map, map_contains, contains_single, option_contains, contains_option, contains_filter, filter_contains}
-use Rattle.vk_resolution.proofs.Orders.{contains-in_order, in_order-contains}
-use Rattle.vk_resolution.proofs.FactLemmas.{trouble_key-IsKey, same_trouble-Decides, same_fact-Decides, among_contains, contains_among}
+use Rattle.vk_resolution.specs.Faults.{Trouble, trouble_key, same_trouble, troubles_of, told_of, Fault, troubled, conflicts, lacks_feature, isnt_supported, first_faults_of, judged_on_line, conflict_of, conflicts_of, ports_in, feature_faults, judged, judged_at, judged_chosen, judged_need, third_faults_of, second_faults_of}
+use Rattle.vk_resolution.specs.FaultLaws.{IsTold, FirstLinesMean, IsConflictLine, SecondLinesMean, IsJudgedBy, by_root, by_choice, IsWrongWith, no_such_feature, no_support, no_feature_support, IsJudged, ThirdLinesMean, IsTopFloor, ComesBefore, by_text, by_port, by_class, VersionsComeInOrder}
+use Rattle.vk_resolution.proofs.Members.{true_false, no_is_false, any_contains, contains_any, contains_map, map_contains, contains_single, option_contains, contains_option, contains_filter, filter_contains, not_true, not_false}
+use Rattle.vk_resolution.proofs.Orders.{contains-in_order, in_order-contains, before_itself, before_both, in_order-ascends}
+use Rattle.vk_resolution.proofs.FactLemmas.{trouble_key-IsKey, same_trouble-Decides, among_contains, contains_among}
 use Rattle.vk_resolution.proofs.Soundness.{map_some, then_some}
-use Rattle.vk_resolution.proofs.ChoiceLemmas.{line_exists, version_key-IsKey}
-
--- the first line is that of a fact that passes, and no line before it passes
-pub record IsFirstLine (test : Fact → Bool) (facts : List Fact) (n : ℕ) : Type 0 where
-  pub fact : Fact
-  pub line : fact_at facts n ≡ Some fact
-  pub passes : test fact ≡ true
-  pub first : (m : ℕ) (other : Fact) → fact_at facts m ≡ Some other → test other ≡ true → n ≤ m
-
-some_line : (facts : List Fact) (m : ℕ) (x : Fact) → fact_at facts m ≡ Some x → 0 < m
-some_line facts zero x e = (cc)
-some_line facts (suc m) x e = omega arith
-
-first_case : (test : Fact → Bool) (x : Fact) (xs : List Fact) (n : ℕ) (b : Bool) → test x ≡ b → ((k : ℕ) → first_line test xs ≡ Some k → IsFirstLine test xs k) → cond b (Some 1) (option_map suc (first_line test xs)) ≡ Some n → IsFirstLine test (x ∷ xs) n
-first_case test x xs n true e rest h =
-    let one : 1 ≡ n = (cc) in
-    subst (IsFirstLine test (x ∷ xs)) one (record { fact = x; line = refl; passes = e; first = λ m other at passes. some_line (x ∷ xs) m other at })
-first_case test x xs n false e rest h =
-    let r = map_some suc (first_line test xs) n h in
-    let is = rest r.0 r.1 in
-    subst (IsFirstLine test (x ∷ xs)) r.2 (after r.0 is)
-  where
-    after : (k : ℕ) → IsFirstLine test xs k → IsFirstLine test (x ∷ xs) (suc k)
-    after zero is = (let clash : fact_at xs zero ≡ Some is.fact = is.line in (cc))
-    after (suc k) is = record { fact = is.fact; line = is.line; passes = is.passes; first = later }
-      where
-        later : (m : ℕ) (other : Fact) → fact_at (x ∷ xs) m ≡ Some other → test other ≡ true → suc (suc k) ≤ m
-        later zero other at passes = (cc)
-        later (suc zero) other at passes = (let same : x ≡ other = (cc) in absurd (true_false (test other) passes (subst (λ z. test z ≡ false) same e)))
-        later (suc (suc m)) other at passes = (let below : suc k ≤ suc m = is.first (suc m) other at passes in omega arith)
-
-pub first_line_is : (test : Fact → Bool) (facts : List Fact) (n : ℕ) → first_line test facts ≡ Some n → IsFirstLine test facts n
-first_line_is test [] n e = (cc)
-first_line_is test (x ∷ xs) n e = first_case test x xs n (test x) refl (first_line_is test xs) e
-
-at_contains : (facts : List Fact) (n : ℕ) (x : Fact) → fact_at facts n ≡ Some x → Contains facts x
-at_contains facts zero x e = (cc)
-at_contains [] (suc n) x e = (cc)
-at_contains (y ∷ ys) (suc zero) x e = let same : y ≡ x = (cc) in subst (Contains (y ∷ ys)) same (contains_first y ys)
-at_contains (y ∷ ys) (suc (suc n)) x e = contains_later y x ys (at_contains ys (suc n) x e)
+use Rattle.vk_resolution.proofs.LineLemmas.{first_line_is, at_contains, line_at}
+use Rattle.vk_resolution.proofs.ChoiceLemmas.{line_exists, floors_are, version_key-IsKey}
 
 met_is : (inputs : Inputs) (t : Trouble) (x : Fact) → list_any (same_trouble t) (troubles_of inputs x) ≡ true → Contains (troubles_of inputs x) t
 met_is inputs t x e = let r = any_contains (same_trouble t) (troubles_of inputs x) e in subst (Contains (troubles_of inputs x)) (sym ((same_trouble-Decides t r.0).0 r.2)) r.1
@@ -105,6 +75,73 @@ module _ (inputs : Inputs) (facts : List Fact) where
 pub first_lines_mean : FirstLinesMean
 first_lines_mean inputs facts fault = (told_is inputs facts fault, is_told inputs facts fault)
 
+module _ (inputs : Inputs) (facts : List Fact) (p : List ℕ) where
+  top_listed : (v : Version) → IsTopFloor inputs facts p v → Contains (tops_of inputs (floors_of inputs facts p)) v
+  top_listed v top =
+      let floors : List Version = floors_of inputs facts p in
+      let is : is_top inputs floors v ≡ true =
+      not_false _ (no_is_false _ (λ some. (let r = any_contains (is_below inputs v) floors some in true_false (is_below inputs v r.0) r.2 (top.none_above r.0 r.1)))) in
+      in_order-contains version_key version_key-IsKey (filter (is_top inputs floors) floors) v (filter_contains (is_top inputs floors) floors v top.floor is)
+
+  listed_top : (v : Version) → Contains (tops_of inputs (floors_of inputs facts p)) v → IsTopFloor inputs facts p v
+  listed_top v h =
+      let floors : List Version = floors_of inputs facts p in
+      let r = contains_filter (is_top inputs floors) floors v (contains-in_order version_key (filter (is_top inputs floors) floors) v h) in
+      record {
+        floor = r.0;
+        none_above = λ w at. no_is_false _ (λ above. true_false (list_any (is_below inputs v) floors) (contains_any (is_below inputs v) floors w at above) (not_true _ r.1));
+      }
+
+  tops_ascend : Ascends version_key (tops_of inputs (floors_of inputs facts p))
+  tops_ascend = in_order-ascends version_key (filter (is_top inputs (floors_of inputs facts p)) (floors_of inputs facts p))
+
+-- what stands before another differs from it
+before_differs : (v w : Version) → key_cmp (version_key v) (version_key w) ≡ Less → v ≢ w
+before_differs v w e same = before_itself (version_key v) (subst (λ k. key_cmp (version_key v) (version_key k) ≡ Less) (sym same) e)
+
+-- two members of a list in order, such that each other comes after the second, are its first two
+module _ (one other : Version) (before : key_cmp (version_key one) (version_key other) ≡ Less) where
+  second_is : (w : Version) (rest : List Version) → Ascends version_key (one ∷ w ∷ rest) → Contains (one ∷ w ∷ rest) other
+      → ((v : Version) → Contains (one ∷ w ∷ rest) v → v ≢ one → v ≢ other → key_cmp (version_key other) (version_key v) ≡ Less) → other ≡ w
+  second_is w rest ascends has after =
+      elim (contains_cases one other (w ∷ rest) has) [
+        | inl same ↦ absurd (before_differs one other before same)
+        | inr later ↦ elim (contains_cases w other rest later) [
+          | inl same ↦ sym same
+          | inr last ↦ (
+              let w_before : key_cmp (version_key w) (version_key other) ≡ Less = ascends.1.0 other last in
+              let one_before : key_cmp (version_key one) (version_key w) ≡ Less = ascends.0 w (contains_first w rest) in
+              let w_after : key_cmp (version_key other) (version_key w) ≡ Less =
+              after w (contains_later one w (w ∷ rest) (contains_first w rest)) (λ same. before_differs one w one_before (sym same)) (before_differs w other w_before) in
+              absurd (before_both (version_key w) (version_key other) w_before w_after)
+              )
+        ]
+      ]
+
+  first_is : (v : Version) (rest : List Version) → Ascends version_key (v ∷ rest) → Contains (v ∷ rest) one → Contains (v ∷ rest) other
+      → ((u : Version) → Contains (v ∷ rest) u → u ≢ one → u ≢ other → key_cmp (version_key other) (version_key u) ≡ Less) → one ≡ v
+  first_is v rest ascends has_one has_other after =
+      elim (contains_cases v one rest has_one) [
+        | inl same ↦ sym same
+        | inr later ↦ (
+            let v_before : key_cmp (version_key v) (version_key one) ≡ Less = ascends.0 one later in
+            let v_first : key_cmp (version_key v) (version_key other) ≡ Less = path_total.trans (version_key v) (version_key one) (version_key other) v_before before in
+            let v_after : key_cmp (version_key other) (version_key v) ≡ Less = after v (contains_first v rest) (before_differs v one v_before) (before_differs v other v_first) in
+            absurd (before_both (version_key v) (version_key other) v_first v_after)
+            )
+      ]
+
+  pub first_two_are : (xs : List Version) → Ascends version_key xs → Contains xs one → Contains xs other
+      → ((v : Version) → Contains xs v → v ≢ one → v ≢ other → key_cmp (version_key other) (version_key v) ≡ Less) → (rest : List Version) × (xs ≡ one ∷ other ∷ rest)
+  first_two_are [] ascends has_one has_other after = absurd (contains_nothing one has_one)
+  first_two_are (v ∷ []) ascends has_one has_other after = absurd (before_differs one other before (sym (contains_single v one has_one) ∙ contains_single v other has_other))
+  first_two_are (v ∷ w ∷ rest) ascends has_one has_other after =
+      let first : one ≡ v = first_is v (w ∷ rest) ascends has_one has_other after in
+      let split : v ∷ w ∷ rest ≡ one ∷ w ∷ rest = ap (λ u. u ∷ w ∷ rest) (sym first) in
+      let second : other ≡ w = second_is w rest (subst (Ascends version_key) split ascends) (subst (λ l. Contains l other) split has_other)
+      (λ u h. after u (subst (λ l. Contains l u) (sym split) h)) in
+      (rest, split ∙ ap (λ u. one ∷ u ∷ rest) (sym second))
+
 module _ (inputs : Inputs) (facts : List Fact) (p : List ℕ) (fault : Fault) where
   conflict_line : (free : is_pinned inputs.setting inputs.pages p ≡ false) (none : chosen_of inputs facts p ≡ None) (tops : List Version) → tops_of inputs (floors_of inputs facts p) ≡ tops → Contains (conflict_of facts p tops) fault → IsConflictLine inputs facts fault
   conflict_line free none [] e h = absurd (contains_nothing fault h)
@@ -113,20 +150,28 @@ module _ (inputs : Inputs) (facts : List Fact) (p : List ℕ) (fault : Fault) wh
       let told = option_contains (option_and_then (λ n. option_map (conflicts p v n w) (line_of facts (floor p (ask_of w)))) (line_of facts (floor p (ask_of v)))) fault h in
       let n = then_some (λ n. option_map (conflicts p v n w) (line_of facts (floor p (ask_of w)))) (line_of facts (floor p (ask_of v))) fault told in
       let m = map_some (conflicts p v n.0 w) (line_of facts (floor p (ask_of w))) fault n.2 in
-      let floors : List Version = floors_of inputs facts p in
-      let back : (u : Version) → Contains (v ∷ w ∷ more) u → Contains floors u × (is_top inputs floors u ≡ true) = λ u at. contains_filter (is_top inputs floors) floors u (contains-in_order version_key (filter (is_top inputs floors) floors) u (subst (λ l. Contains l u) (sym e) at)) in
-      let in_v = back v (contains_first v (w ∷ more)) in
-      let in_w = back w (contains_later v w (w ∷ more) (contains_first w more)) in
+      let top_v : IsTopFloor inputs facts p v = listed_top inputs facts p v (subst (λ l. Contains l v) (sym e) (contains_first v (w ∷ more))) in
+      let top_w : IsTopFloor inputs facts p w = listed_top inputs facts p w (subst (λ l. Contains l w) (sym e) (contains_later v w (w ∷ more) (contains_first w more))) in
+      let ascends : Ascends version_key (v ∷ w ∷ more) = subst (Ascends version_key) e (tops_ascend inputs facts p) in
+      let before : key_cmp (version_key v) (version_key w) ≡ Less = ascends.0 w (contains_first w more) in
       record {
         port = p;
-        conflict = record { free = free; some = λ empty. contains_nothing v (subst (λ l. Contains l v) empty in_v.0); none = none };
+        conflict = record { free = free; some = λ empty. contains_nothing v (subst (λ l. Contains l v) empty top_v.floor); none = none };
         one = v;
         one_line = n.0;
         other = w;
         other_line = m.0;
         is = sym m.2;
-        tops = (in_v.1, in_w.1);
-        lines = (n.1, m.1);
+        one_top = top_v;
+        other_top = top_w;
+        differ = before_differs v w before;
+        before = before;
+        after = λ u top not_v not_w. elim (contains_cases v u (w ∷ more) (subst (λ l. Contains l u) e (top_listed inputs facts p u top))) [
+          | inl same ↦ absurd (not_v (sym same))
+          | inr later ↦ elim (contains_cases w u more later) [ inl same ↦ absurd (not_w (sym same)) | inr last ↦ ascends.1.0 u last ]
+        ];
+        one_cited = n.1;
+        other_cited = m.1;
       }
 
   conflict_case : (b : Bool) → is_pinned inputs.setting inputs.pages p ≡ b → chosen_of inputs facts p ≡ None → Contains (cond b [] (conflict_of facts p (tops_of inputs (floors_of inputs facts p)))) fault → IsConflictLine inputs facts fault
@@ -137,10 +182,69 @@ module _ (inputs : Inputs) (facts : List Fact) (p : List ℕ) (fault : Fault) wh
   conflicts_are None e h = conflict_case (is_pinned inputs.setting inputs.pages p) refl e h
   conflicts_are (Some v) e h = absurd (contains_nothing fault h)
 
-pub second_lines_mean : SecondLinesMean
-second_lines_mean inputs facts fault h =
+second_is_conflict : (inputs : Inputs) (facts : List Fact) (fault : Fault) → Contains (second_faults_of inputs facts) fault → IsConflictLine inputs facts fault
+second_is_conflict inputs facts fault h =
     let r = contains-flat_map (λ p. conflicts_of inputs facts p (chosen_of inputs facts p)) (in_order (λ p. p ∷ []) (flat_map ports_in facts)) fault h in
     conflicts_are inputs facts r.0 fault (chosen_of inputs facts r.0) refl r.2
+
+conflict_is_second : (inputs : Inputs) (facts : List Fact) (fault : Fault) → IsConflictLine inputs facts fault → Contains (second_faults_of inputs facts) fault
+conflict_is_second inputs facts fault line =
+    let p : List ℕ = line.port in
+    let v : Version = line.one in
+    let w : Version = line.other in
+    let two = first_two_are v w line.before (tops_of inputs (floors_of inputs facts p)) (tops_ascend inputs facts p) (top_listed inputs facts p v line.one_top) (top_listed inputs facts p w line.other_top)
+    (λ u h. line.after u (listed_top inputs facts p u h)) in
+    let told : option_and_then (λ n. option_map (conflicts p v n w) (line_of facts (floor p (ask_of w)))) (line_of facts (floor p (ask_of v))) ≡ Some fault =
+    ap (option_and_then (λ n. option_map (conflicts p v n w) (line_of facts (floor p (ask_of w))))) line.one_cited ∙ ap (option_map (conflicts p v line.one_line w)) line.other_cited ∙ ap Some (sym line.is) in
+    let here : Contains (conflict_of facts p (tops_of inputs (floors_of inputs facts p))) fault = subst (λ l. Contains (conflict_of facts p l) fault) (sym two.1) (contains_option _ fault told) in
+    let free : Contains (cond (is_pinned inputs.setting inputs.pages p) [] (conflict_of facts p (tops_of inputs (floors_of inputs facts p)))) fault =
+    subst (λ b. Contains (cond b [] (conflict_of facts p (tops_of inputs (floors_of inputs facts p)))) fault) (sym line.conflict.free) here in
+    let at : Contains (conflicts_of inputs facts p (chosen_of inputs facts p)) fault = subst (λ o. Contains (conflicts_of inputs facts p o) fault) (sym line.conflict.none) free in
+    let is = floors_are inputs facts p v line.one_top.floor in
+    let listed : Contains (in_order (λ q. q ∷ []) (flat_map ports_in facts)) p = in_order-contains (λ q. q ∷ []) (λ x y e. (cc)) (flat_map ports_in facts) p (flat_map-contains ports_in facts (floor p is.ask) p is.has (contains_first p [])) in
+    flat_map-contains (λ q. conflicts_of inputs facts q (chosen_of inputs facts q)) (in_order (λ q. q ∷ []) (flat_map ports_in facts)) p fault listed at
+
+pub second_lines_mean : SecondLinesMean
+second_lines_mean inputs facts fault = (second_is_conflict inputs facts fault, conflict_is_second inputs facts fault)
+
+-- the order of versions, said by `version_key` and by its parts
+nat_less : (m n : ℕ) → nat_cmp m n ≡ Less → m < n
+nat_less m n e = subst (λ o. MatchOrdering o (m < n) (m ≡ n) (n < m)) e (ranks m n)
+
+less_nat : (m n : ℕ) → m < n → nat_cmp m n ≡ Less
+less_nat m n h = sym (nat_cmp_is m n Less h)
+
+text_is : (v w : Version) → slice_cmp nat_cmp v.text w.text ≡ Equal → v.text ≡ w.text
+text_is v w e = slice_cmp-IsAntisymmetric nat_cmp-IsAntisymmetric v.text w.text e
+
+text_tied : (v w : Version) → v.text ≡ w.text → slice_cmp nat_cmp v.text w.text ≡ Equal
+text_tied v w same = ap (slice_cmp nat_cmp v.text) (sym same) ∙ tied_itself nat_list_cmp_total v.text
+
+-- the answer of three comparisons, one after another
+abbrev then_then : Ordering → Ordering → Ordering → Ordering
+then_then text port class = ordering_then text (ordering_then (ordering_then port Equal) (ordering_then (ordering_then class Equal) Equal))
+
+before_by : (v w : Version) (text port class : Ordering) → slice_cmp nat_cmp v.text w.text ≡ text → nat_cmp v.port w.port ≡ port → nat_cmp (class_number v.class) (class_number w.class) ≡ class → then_then text port class ≡ Less → ComesBefore v w
+before_by v w Less port class a b c e = by_text a
+before_by v w Greater port class a b c e = (cc)
+before_by v w Equal Less class a b c e = by_port (text_is v w a) (nat_less v.port w.port b)
+before_by v w Equal Greater class a b c e = (cc)
+before_by v w Equal Equal Less a b c e = by_class (text_is v w a) (nat_cmp-IsAntisymmetric v.port w.port b) (nat_less (class_number v.class) (class_number w.class) c)
+before_by v w Equal Equal Equal a b c e = (cc)
+before_by v w Equal Equal Greater a b c e = (cc)
+
+comes_before : (v w : Version) → ComesBefore v w → key_cmp (version_key v) (version_key w) ≡ Less
+comes_before v w (by_text e) = ap (λ o. then_then o (nat_cmp v.port w.port) (nat_cmp (class_number v.class) (class_number w.class))) e
+comes_before v w (by_port same h) =
+    ap (λ o. then_then o (nat_cmp v.port w.port) (nat_cmp (class_number v.class) (class_number w.class))) (text_tied v w same)
+    ∙ ap (λ o. then_then Equal o (nat_cmp (class_number v.class) (class_number w.class))) (less_nat v.port w.port h)
+comes_before v w (by_class same tied h) =
+    ap (λ o. then_then o (nat_cmp v.port w.port) (nat_cmp (class_number v.class) (class_number w.class))) (text_tied v w same)
+    ∙ ap (λ o. then_then Equal o (nat_cmp (class_number v.class) (class_number w.class))) (sym (nat_cmp_is v.port w.port Equal tied))
+    ∙ ap (then_then Equal Equal) (less_nat (class_number v.class) (class_number w.class) h)
+
+pub versions_come_in_order : VersionsComeInOrder
+versions_come_in_order v w = (before_by v w (slice_cmp nat_cmp v.text w.text) (nat_cmp v.port w.port) (nat_cmp (class_number v.class) (class_number w.class)) refl refl refl, comes_before v w)
 
 -- the third phase
 apart : (f g : List ℕ) → bytes_eq f g ≡ false → f ≢ g
@@ -185,15 +289,6 @@ module _ (inputs : Inputs) (who : Who) (f : List ℕ) (v : Option Version) (m : 
       (subst (λ o. Contains (feature_faults who f v (marks_of inputs.setting (triplet_of who)) o n) (isnt_supported who f v n)) (sym found)
       (subst (λ b. Contains (cond b [] (isnt_supported who f v n ∷ [])) (isnt_supported who f v n)) (sym none) (contains_first (isnt_supported who f v n) []))))
 
--- a fact that has a line stands there
-line_step_contains : (x y : Fact) (ys : List Fact) (n : ℕ) (b : Bool) → same_fact x y ≡ b → ((m : ℕ) → line_of ys x ≡ Some m → Contains ys x) → cond b (Some 1) (option_map suc (line_of ys x)) ≡ Some n → Contains (y ∷ ys) x
-line_step_contains x y ys n true e rest line = subst (Contains (y ∷ ys)) (sym ((same_fact-Decides x y).0 e)) (contains_first y ys)
-line_step_contains x y ys n false e rest line = let r = map_some suc (line_of ys x) n line in contains_later y x ys (rest r.0 r.1)
-
-line_contains : (facts : List Fact) (x : Fact) (n : ℕ) → line_of facts x ≡ Some n → Contains facts x
-line_contains [] x n line = (cc)
-line_contains (y ∷ ys) x n line = line_step_contains x y ys n (same_fact x y) refl (line_contains ys x) line
-
 module _ (inputs : Inputs) (facts chosen : List Fact) (fault : Fault) where
   at_manifest : (i : Instance) (f : List ℕ) (n : ℕ) (v : Version) → Contains chosen (need (inst i) f) → line_of facts (need (inst i) f) ≡ Some n → chosen_of inputs facts i.port ≡ Some v → (manifest : Option (Result (Manifest Condition) Wrong)) → manifest_at inputs.pages i.port (ask_of v) ≡ manifest
       → Contains (judged_at inputs i f v manifest n) fault → IsJudged inputs facts chosen fault
@@ -225,7 +320,7 @@ module _ (inputs : Inputs) (facts chosen : List Fact) (fault : Fault) where
   is_third : IsJudged inputs facts chosen fault → Contains (third_faults_of inputs facts chosen) fault
   is_third j =
       flat_map-contains (judged_on_line inputs facts) (filter (is_among chosen) facts) (need j.who j.f) fault
-      (filter_contains (is_among chosen) facts (need j.who j.f) (line_contains facts (need j.who j.f) j.n j.line) (contains_among chosen (need j.who j.f) j.needed))
+      (filter_contains (is_among chosen) facts (need j.who j.f) (at_contains facts j.n (need j.who j.f) (line_at facts (need j.who j.f) j.n j.line)) (contains_among chosen (need j.who j.f) j.needed))
       (flat_map-contains (judged_need inputs facts (need j.who j.f)) (option_to_list (line_of facts (need j.who j.f))) j.n fault (contains_option (line_of facts (need j.who j.f)) j.n j.line)
       (judged_by_is j.who j.f j.v j.m j.n j.judged_by (wrong_judged inputs j.who j.f j.v j.m j.n fault j.wrong)))
 

@@ -25,3 +25,9 @@ pub mod ClosureLemmas
 pub mod SelectionLemmas
 pub mod PlanSetLemmas
 pub mod PrintLemmas
+pub mod LineLemmas
+pub mod CertificateLemmas
+pub mod FreshRounds
+pub mod FirstCauses
+pub mod MentionLemmas
+pub mod HeightLemmas

@@ -1,13 +1,15 @@
 -- The plan serves its manifests.
 use Rattle.std.proofs.Common.{◌≡◌, ℕ, true, false, cond, List, [], ◌∷◌, ◌++◌, map, filter, refl, ap, sym, ◌∙◌, subst}
-use Rattle.std.specs.Prelude.{Option, Some, None, option_map, flat_map, Result, Ok, Err}
+use Rattle.std.specs.Prelude.{Option, Some, None, option_map, flat_map, Result, Ok, Err, IfOk}
 use Rattle.std.specs.List.{Contains}
 use Rattle.std.proofs.lemmas.List.Elements.{Contains-append_left, Contains-append_right}
 use Rattle.vk_spec.specs.Lists.{IsWithin}
-use Rattle.vk_spec.specs.Versions.{Version, Ask, ask_of, IsOrder}
+use Rattle.vk_spec.specs.Versions.{Version, Ask, ask_of, same_ask, IsOrder}
 use Rattle.vk_spec.specs.Manifests.{Manifest, Dependency, core, default}
 use Rattle.vk_spec.specs.Pages.{Wrong, Given, overlay, override, baseline, Row, row_in, is_pinned_by}
+use Rattle.vk_spec.specs.Catalogues.{HasOwnAlone}
 use Rattle.vk_spec.proofs.ListLemmas.{contains_nothing, contains_first, contains_later, flat_map-contains}
+use Rattle.vk_spec.proofs.VersionLemmas.{ask_itself}
 use Rattle.vk_spec.specs.Conditions.{Condition}
 use Rattle.vk_spec.specs.Settings.{Instance}
 use Rattle.vk_resolution.specs.Least.{from_one, IsLeast}
@@ -18,7 +20,7 @@ use Rattle.vk_resolution.specs.Consequences.{Inputs, Step, asked_step, asked_in,
 use Rattle.vk_resolution.specs.Choices.{floors_of, given_version_of, greatest_of, chosen_of}
 use Rattle.vk_resolution.specs.Planning.{is_need, IsPlanned}
 use Rattle.vk_resolution.specs.Faults.{conflicts, manifest_troubles, wrong_of, first_faults_of, second_faults_of}
-use Rattle.vk_resolution.specs.Service.{MeetsMinimum, MeetsMinimumOf, MeetsOwnMinimum, ServesOther, Serves, IsServed, OverlaysHaveRows, PlanServes}
+use Rattle.vk_resolution.specs.Service.{MeetsMinimum, MeetsMinimumOf, MeetsOwnMinimum, ServesOther, Serves, IsServed, OverlaysHaveRows, PagesHaveRows, PlanServes}
 use Rattle.vk_resolution.proofs.Members.{filter_contains, map_contains}
 use Rattle.vk_resolution.proofs.ChoiceLemmas.{floor_is, no_troubles, needed_given, step_in, given_floor, floor_in_table, version_ask, table_has_floors, free_choice, floors_are, choice_or_conflict, choice_is_above_floors}
 use Rattle.vk_resolution.proofs.PlanLemmas.{plan_stays_within}
@@ -177,3 +179,14 @@ plan_serves inputs order rows facts planned least first second is_planned = reco
   of_root = serves_root inputs order rows facts planned least first second is_planned;
   of_instances = serves_instance inputs order rows facts planned least first second is_planned;
 }
+
+-- where the only row has a version, it is the one that is meant by the version's ask
+own_row : (rows : List (Row Condition)) (v : Version) → map (λ (r : Row Condition). r.version) rows ≡ v ∷ [] → option_map (λ (r : Row Condition). r.version) (row_in rows (ask_of v)) ≡ Some v
+own_row [] v e = (cc)
+own_row (r ∷ rest) v e =
+    let same : r.version ≡ v = (cc) in
+    let meant : same_ask (ask_of r.version) (ask_of v) ≡ true = subst (λ w. same_ask (ask_of w) (ask_of v) ≡ true) (sym same) (ask_itself (ask_of v)) in
+    ap (λ b. option_map (λ (k : Row Condition). k.version) (cond b (Some r) (row_in rest (ask_of v)))) meant ∙ ap Some same
+
+pub pages_have_rows : PagesHaveRows
+pages_have_rows pages are p v e = own_row (pages p).rows v (subst (λ o. IfOk o (HasOwnAlone (pages p).rows)) e (are p).own)

@@ -1,7 +1,7 @@
 -- Laws of the definitions, over all settings, pages and orders.
-use Rattle.std.specs.Prelude.{◌≡◌, ◌≢◌, ◌<◌, ◌≤◌, ℕ, Bool, true, false, List, [], length, Some, Ok}
+use Rattle.std.specs.Prelude.{◌≡◌, ◌≢◌, ◌<◌, ◌≤◌, ◌↔◌, ℕ, Bool, true, false, List, [], length, Some, Ok}
 use Rattle.std.specs.List.{Contains}
-use Rattle.vk_spec.specs.Lists.{IsWithin}
+use Rattle.vk_spec.specs.Lists.{NoRepeats, IsWithin}
 use Rattle.vk_spec.specs.Versions.{Version, Ask, ask_of, IsOrder}
 use Rattle.vk_spec.specs.Pages.{Given, given_ask}
 use Rattle.vk_spec.specs.Settings.{Instance}
@@ -11,7 +11,7 @@ use Rattle.vk_resolution.specs.Givens.{version_at, is_pinned}
 use Rattle.vk_resolution.specs.Asking.{Fact, need, floor, visit}
 use Rattle.vk_resolution.specs.Consequences.{Inputs, rules_of}
 use Rattle.vk_resolution.specs.Choices.{floors_of, chosen_of, is_top, IsInConflict}
-use Rattle.vk_resolution.specs.Reasons.{Reason, IsReasons, IsDerivation, LeadsToRoots}
+use Rattle.vk_resolution.specs.Reasons.{Reason, facts_of, line_of, fact_at, IsReasons, IsDerivation, LeadsToRoots}
 use Rattle.vk_resolution.specs.Planning.{IsPlanned, planned_rules_of}
 use Rattle.vk_resolution.specs.Faults.{conflicts, first_faults_of, second_faults_of}
 
@@ -22,6 +22,14 @@ ReasonsAreDerived = (inputs : Inputs) (reasons : List Reason) → IsReasons inpu
 -- from each line of a derivation, every chain of cited lines has falling numbers, and ends in a root fact
 abbrev pub DerivationsLeadToRoots : Type 0
 DerivationsLeadToRoots = (inputs : Inputs) (reasons : List Reason) → IsDerivation inputs [] reasons → (n : ℕ) → 0 < n → n ≤ length reasons → LeadsToRoots inputs reasons n
+
+-- a derivation that is closed and has no fact twice is the least list
+abbrev pub CertificateIsLeast : Type 0
+CertificateIsLeast = (inputs : Inputs) (reasons : List Reason) → IsClosed (rules_of inputs) (facts_of reasons) → NoRepeats (facts_of reasons) → IsDerivation inputs [] reasons → IsLeast (rules_of inputs) (facts_of reasons)
+
+-- in a list without repeats, the line of a fact is the one on which it stands
+abbrev pub LinesAreNumbers : Type 0
+LinesAreNumbers = (facts : List Fact) → NoRepeats facts → (x : Fact) (n : ℕ) → line_of facts x ≡ Some n ↔ fact_at facts n ≡ Some x
 
 -- a version is at or above every floor of the port among the facts that the table has
 abbrev pub IsAboveFloors : Inputs → List Fact → List ℕ → Version → Type 0

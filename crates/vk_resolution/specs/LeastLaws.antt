@@ -1,9 +1,10 @@
 -- Laws of closed lists, least lists and ranks, over any rules and any things that are known by keys.
-use Rattle.std.specs.Prelude.{◌≡◌, ℕ, List, []}
+use Rattle.std.specs.Prelude.{◌≡◌, ◌≤◌, ◌⊎◌, ◌++◌, ℕ, List, [], length}
 use Rattle.std.specs.List.{Contains}
 use Rattle.vk_spec.specs.Lists.{NoRepeats, IsWithin}
 use Rattle.vk_resolution.specs.Keys.{Key, IsKey, IsListing, in_order}
-use Rattle.vk_resolution.specs.Least.{Rules, IsClosed, IsLeast, HasRank, IsDerived, IsLeastInOrder}
+use Rattle.vk_resolution.specs.Least.{Rules, FollowsFrom, IsClosed, IsForced, IsLeast, HasRank, IsDerived, IsLeastInOrder}
+use Rattle.vk_resolution.specs.Rounds.{AddsRound, AddsFromFresh, IsPartOfRound}
 
 -- two least lists have the same members
 abbrev pub LeastIsOne : Type 0 → Type 0
@@ -36,3 +37,19 @@ OrderIsOne X = (rules : Rules X) (key : X → Key) → IsKey key → (one other 
 -- a list in order lists each member once, and is the only one that does
 abbrev pub ListingIsOne : Type 0 → Type 0
 ListingIsOne X = (key : X → Key) → IsKey key → (xs : List X) → IsListing key (Contains xs) (in_order key xs) × ((ys : List X) → IsListing key (Contains xs) ys → ys ≡ in_order key xs)
+
+-- where all that follows from the old facts is listed, a round from the fresh facts alone is a round
+abbrev pub FreshRoundIsRound : Type 0 → Type 0
+FreshRoundIsRound X = (rules : Rules X) (old fresh new : List X) → ((x : X) → FollowsFrom rules (Contains old) x → Contains old x ⊎ Contains fresh x) → AddsFromFresh rules old fresh new → AddsRound rules (old ++ fresh) new
+
+-- nothing follows from nothing
+abbrev pub NothingFollows : Type 0 → Type 0
+NothingFollows X = (rules : Rules X) (x : X) → FollowsFrom rules (Contains []) x → ⊥
+
+-- forced facts together with a part of a round on them are forced
+abbrev pub PartIsForced : Type 0 → Type 0
+PartIsForced X = (rules : Rules X) (facts part : List X) → IsForced rules facts → IsPartOfRound rules facts part → IsForced rules (facts ++ part)
+
+-- no closed list is shorter than a forced one
+abbrev pub ForcedIsNoLonger : Type 0 → Type 0
+ForcedIsNoLonger X = (rules : Rules X) (forced closed : List X) → IsForced rules forced → IsClosed rules closed → length forced ≤ length closed

@@ -27,3 +27,5 @@ pub mod Superseded
 pub mod OutcomeLaws
 pub mod Printouts
 pub mod FaultLaws
+pub mod Mentions
+pub mod Heights

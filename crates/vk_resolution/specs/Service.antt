@@ -4,6 +4,7 @@ use Rattle.std.specs.List.{Contains}
 use Rattle.vk_spec.specs.Versions.{Version, Ask, ask_of, IsOrder}
 use Rattle.vk_spec.specs.Manifests.{Manifest, Dependency, core, default}
 use Rattle.vk_spec.specs.Pages.{overlay}
+use Rattle.vk_spec.specs.Catalogues.{ArePages}
 use Rattle.vk_spec.specs.Conditions.{Condition}
 use Rattle.vk_spec.specs.Settings.{Instance}
 use Rattle.vk_resolution.specs.Least.{IsLeast}
@@ -62,6 +63,10 @@ pub record IsServed (inputs : Inputs) (facts planned : List Fact) (i : Instance)
 -- the page of an overlay has the row of its own version
 abbrev pub OverlaysHaveRows : Pages → Type 0
 OverlaysHaveRows pages = (p : List ℕ) (v : Version) → (pages p).given ≡ Ok (overlay v) → version_at pages p (ask_of v) ≡ Some v
+
+-- and so have all pages of a catalogue
+abbrev pub PagesHaveRows : Type 0
+PagesHaveRows = (pages : Pages) → ArePages pages → OverlaysHaveRows pages
 
 -- each planned feature of the root and of each instance is served
 pub record PlanServesAll (inputs : Inputs) (facts planned : List Fact) : Type 0 where

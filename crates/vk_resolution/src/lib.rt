@@ -7,6 +7,8 @@ mod agreement;
 mod choices;
 mod closures;
 mod faults;
+mod features;
+mod heights;
 mod least;
 mod outcomes;
 mod planned_sets;
@@ -23,7 +25,12 @@ pub use agreement::only_what_was_asked_matters;
 pub use choices::a_choice_is_the_least_version_allowed;
 pub use closures::a_closure_is_one_or_has_too_many_facts;
 pub use faults::fault_lines_mean_what_they_say;
-pub use least::{a_derived_list_is_the_least, an_order_is_one, there_is_one_least_list};
+pub use features::asked_features_are_mentioned;
+pub use heights::a_height_is_one_more_than_those_below;
+pub use least::{
+    a_derived_list_is_the_least, a_round_needs_the_fresh_facts_alone, an_order_is_one,
+    there_is_one_least_list,
+};
 pub use outcomes::{orders_are_total, there_is_one_outcome};
 pub use planned_sets::a_planned_set_in_order_is_the_plan;
 pub use plans::{a_plan_serves_its_manifests, a_plan_stays_within_the_reasons};
