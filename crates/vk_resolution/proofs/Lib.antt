@@ -31,3 +31,5 @@ pub mod FreshRounds
 pub mod FirstCauses
 pub mod MentionLemmas
 pub mod HeightLemmas
+pub mod PlannedVersionLemmas
+pub mod PlannerLemmas

@@ -18,6 +18,7 @@ use Rattle.vk_resolution.specs.Faults.{Fault, conflicts, conflicts_of, ports_in,
 use Rattle.vk_resolution.specs.Selections.{Choice, floored_ports_of, IsChoice, IsChoices, ChoicesAreOne, ChoicesOrConflicts, ChoicesHaveNoConflict}
 use Rattle.vk_resolution.proofs.Members.{contains_single, contains_map}
 use Rattle.vk_resolution.proofs.Orders.{contains-in_order}
+use Rattle.vk_resolution.proofs.Soundness.{nothing_or}
 use Rattle.vk_resolution.proofs.FactLemmas.{same_fact-Decides}
 use Rattle.vk_resolution.proofs.ChoiceLemmas.{floor_is, needed_given, given_floor, floor_in_table, version_ask, free_choice, floors_are, choice_or_conflict, line_exists}
 use Rattle.vk_resolution.proofs.AgreementLemmas.{floor_needed}
@@ -91,10 +92,6 @@ module _ (inputs : Inputs) (order : IsOrder inputs.at_most) (facts : List Fact) 
     where
       each : (c : Choice) (cs : List Choice) → IsChoice inputs facts c → ((d : Choice) → Contains cs d → IsChoice inputs facts d) → (d : Choice) → Contains (c ∷ cs) d → IsChoice inputs facts d
       each c cs is rest d h = elim (contains_cases c d cs h) [ inl same ↦ subst (IsChoice inputs facts) same is | inr later ↦ rest d later ]
-
-nothing_or : {X : Type 0} (xs : List X) → (xs ≡ []) ⊎ (xs ≢ [])
-nothing_or [] = inl refl
-nothing_or (x ∷ xs) = inr (λ e. (cc))
 
 pub choices_or_conflicts : ChoicesOrConflicts
 choices_or_conflicts inputs order facts least first =

@@ -24,20 +24,14 @@ use Rattle.vk_resolution.specs.Service.{MeetsMinimum, MeetsMinimumOf, MeetsOwnMi
 use Rattle.vk_resolution.proofs.Members.{filter_contains, map_contains}
 use Rattle.vk_resolution.proofs.ChoiceLemmas.{floor_is, no_troubles, needed_given, step_in, given_floor, floor_in_table, version_ask, table_has_floors, free_choice, floors_are, choice_or_conflict, choice_is_above_floors}
 use Rattle.vk_resolution.proofs.PlanLemmas.{plan_stays_within}
+use Rattle.vk_resolution.proofs.SelectionLemmas.{chosen_pinned, free_has_choice, needed_has_choice}
 
 module _ (inputs : Inputs) (order : IsOrder inputs.at_most) (rows : OverlaysHaveRows inputs.pages) (facts planned : List Fact) (least : IsLeast (rules_of inputs) facts) (first : first_faults_of inputs facts ≡ []) (second : second_faults_of inputs facts ≡ []) (is_planned : IsPlanned inputs facts planned) where
-  -- a needed port that isn't pinned and has a floor has a choice
-  free_has_choice : (p : List ℕ) (v : Version) → is_pinned inputs.setting inputs.pages p ≡ false → Contains (floors_of inputs facts p) v → (chosen : Option Version) → chosen_of inputs facts p ≡ chosen → (c : Version) × (chosen ≡ Some c)
-  free_has_choice p v free h (Some c) e = (c, refl)
-  free_has_choice p v free h None e =
-      let line = choice_or_conflict inputs order facts p (record { free = free; some = λ none. contains_nothing v (subst (λ l. Contains l v) none h); none = e }) in
-      absurd (contains_nothing (conflicts p line.one line.one_line line.other line.other_line) (subst (λ l. Contains l (conflicts p line.one line.one_line line.other line.other_line)) second line.line))
-
   minimum_met : (i : Instance) (f : List ℕ) → Contains facts (need (inst i) f) → (a : Ask) → Contains facts (floor i.port a) → is_pinned inputs.setting inputs.pages i.port ≡ false → MeetsMinimum inputs facts i.port a
   minimum_met i f needed a has free =
       let table = table_has_floors inputs facts least first i f needed in
       let v = table.every a free has in
-      let c = free_has_choice i.port v.0 free (floor_is inputs facts i.port a v.0 has v.1) (chosen_of inputs facts i.port) refl in
+      let c = free_has_choice inputs order facts second i.port v.0 free (floor_is inputs facts i.port a v.0 has v.1) (chosen_of inputs facts i.port) refl in
       record { choice = c.0; chosen = c.1; least = v.0; listed = v.1; meets = choice_is_above_floors inputs facts i.port free c.0 c.1 a v.0 has v.1 }
 
   -- what a manifest asks is planned or among the facts
@@ -125,29 +119,15 @@ module _ (inputs : Inputs) (order : IsOrder inputs.at_most) (rows : OverlaysHave
         floors = λ p a at free. floor_step (visit i f (ask_of c)) (asked_at inputs i f (ask_of c)) (within (visit i f (ask_of c)) h) refl p a (subst (λ l. Contains l (floor p a)) (sym asked) at) free;
       }
 
-  -- a needed port has a choice, and its row is there
-  chosen_pinned : (p : List ℕ) (given : Result Given Wrong) (v : Version) → (inputs.pages p).given ≡ given → is_pinned_by inputs.setting.root.overrides p given ≡ true → given_version_of inputs.pages p given ≡ Some v → chosen_of inputs facts p ≡ Some v
-  chosen_pinned p given v e pinned is =
-      ap (λ b. cond b (given_version_of inputs.pages p (inputs.pages p).given) (greatest_of inputs (floors_of inputs facts p))) (ap (is_pinned_by inputs.setting.root.overrides p) e ∙ pinned) ∙ ap (given_version_of inputs.pages p) e ∙ is
-
-  has_choice : (i : Instance) (f : List ℕ) → Contains facts (need (inst i) f) → (g : Given) → (inputs.pages i.port).given ≡ Ok g → (c : Version) × (chosen_of inputs facts i.port ≡ Some c)
-  has_choice i f needed (overlay v) e = (v, chosen_pinned i.port (Ok (overlay v)) v e refl refl)
-  has_choice i f needed (override b) e =
-      let v = floor_in_table inputs facts first i.port b (override b) e (λ w clash. (cc)) (given_floor inputs facts least.closed i f needed (override b) e) in
-      (v.0, chosen_pinned i.port (Ok (override b)) v.0 e refl v.1)
-  has_choice i f needed (baseline b) e =
-      let has : Contains facts (floor i.port b) = given_floor inputs facts least.closed i f needed (baseline b) e in
-      let v = floor_in_table inputs facts first i.port b (baseline b) e (λ w clash. (cc)) has in
-      free_has_choice i.port v.0 (ap (is_pinned_by inputs.setting.root.overrides i.port) e) (floor_is inputs facts i.port b v.0 has v.1) (chosen_of inputs facts i.port) refl
-
+  -- the row of a needed port's choice is there
   chosen_row : (i : Instance) (f : List ℕ) → Contains facts (need (inst i) f) → (g : Given) (c : Version) → (inputs.pages i.port).given ≡ Ok g → chosen_of inputs facts i.port ≡ Some c → version_at inputs.pages i.port (ask_of c) ≡ Some c
   chosen_row i f needed (overlay v) c e chosen =
-      let same : Some v ≡ Some c = sym (chosen_pinned i.port (Ok (overlay v)) v e refl refl) ∙ chosen in
+      let same : Some v ≡ Some c = sym (chosen_pinned inputs facts i.port (Ok (overlay v)) v e refl refl) ∙ chosen in
       let is : v ≡ c = (cc) in
       subst (λ k. version_at inputs.pages i.port (ask_of k) ≡ Some k) is (rows i.port v e)
   chosen_row i f needed (override b) c e chosen =
       let v = floor_in_table inputs facts first i.port b (override b) e (λ w clash. (cc)) (given_floor inputs facts least.closed i f needed (override b) e) in
-      let same : Some v.0 ≡ Some c = sym (chosen_pinned i.port (Ok (override b)) v.0 e refl v.1) ∙ chosen in
+      let same : Some v.0 ≡ Some c = sym (chosen_pinned inputs facts i.port (Ok (override b)) v.0 e refl v.1) ∙ chosen in
       let is : v.0 ≡ c = (cc) in
       let at : version_at inputs.pages i.port b ≡ Some c = v.1 ∙ ap Some is in
       subst (λ k. version_at inputs.pages i.port k ≡ Some c) (sym (version_ask inputs.pages i.port b c at)) at
@@ -169,10 +149,10 @@ module _ (inputs : Inputs) (order : IsOrder inputs.at_most) (rows : OverlaysHave
   serves_instance i f h =
       let needed : Contains facts (need (inst i) f) = within (need (inst i) f) h in
       let g = needed_given inputs facts first i f needed in
-      let c = has_choice i f needed g.0 g.1 in
-      let visited : Contains planned (visit i f (ask_of c.0)) = (plan_stays_within inputs order facts planned least first is_planned).visits i f c.0 h c.1 in
-      let m = manifest_there i f c.0 (within (visit i f (ask_of c.0)) visited) (row_in (inputs.pages i.port).rows (ask_of c.0)) refl (chosen_row i f needed g.0 c.0 g.1 c.1) in
-      record { choice = c.0; chosen = c.1; manifest = m.0; has_manifest = m.1; serves = serves (inst i) f m.0 h (asks_at i f c.0 m.0 visited m.1) }
+      let c = needed_has_choice inputs order facts least first second i f needed g.0 g.1 in
+      let visited : Contains planned (visit i f (ask_of c.version)) = (plan_stays_within inputs order facts planned least first is_planned).visits i f c.version h c.chosen in
+      let m = manifest_there i f c.version (within (visit i f (ask_of c.version)) visited) (row_in (inputs.pages i.port).rows (ask_of c.version)) refl (chosen_row i f needed g.0 c.version g.1 c.chosen) in
+      record { choice = c.version; chosen = c.chosen; manifest = m.0; has_manifest = m.1; serves = serves (inst i) f m.0 h (asks_at i f c.version m.0 visited m.1) }
 
 pub plan_serves : PlanServes
 plan_serves inputs order rows facts planned least first second is_planned = record {

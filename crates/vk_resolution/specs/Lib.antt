@@ -25,6 +25,8 @@ pub mod Walks
 pub mod PlannedSets
 pub mod Superseded
 pub mod OutcomeLaws
+pub mod PlannedVersions
+pub mod Planner
 pub mod Printouts
 pub mod FaultLaws
 pub mod Mentions

@@ -12,6 +12,7 @@ mod heights;
 mod least;
 mod outcomes;
 mod planned_sets;
+mod planner;
 mod plans;
 mod printouts;
 mod projects;
@@ -33,7 +34,10 @@ pub use least::{
 };
 pub use outcomes::{orders_are_total, there_is_one_outcome};
 pub use planned_sets::a_planned_set_in_order_is_the_plan;
-pub use plans::{a_plan_serves_its_manifests, a_plan_stays_within_the_reasons};
+pub use planner::{a_plan_keeps_its_promises, a_project_has_one_report, the_premises_are_met};
+pub use plans::{
+    a_plan_serves_its_manifests, a_plan_stays_within_the_reasons, a_planned_version_is_the_least_allowed,
+};
 pub use printouts::{faults_are_printed, plans_are_printed, reports_are_printed};
 pub use projects::{
     a_feature_of_one_version, a_minimum_outside_the_table, a_project_with_every_cause,
