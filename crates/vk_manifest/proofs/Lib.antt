@@ -1,4 +1,4 @@
 mod OverrideLemmas
 mod KeyLemmas
 pub mod TellingLemmas
-mod DocumentLemmas
+pub mod DocumentLemmas
