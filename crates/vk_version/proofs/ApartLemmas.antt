@@ -5,7 +5,7 @@ use Rattle.std.specs.declared.cmp.Ordering.TheVariants.{Less, Equal, Greater}
 use Rattle.std.specs.Ordering.{ordering_reverse}
 use Rattle.std.proofs.lemmas.Bool.{cases_lt}
 use Rattle.std.proofs.lemmas.Cmp.{tied_back}
-use Rattle.vk_spec.specs.Versions.{Class, Version}
+use Rattle.vk_spec.specs.Versions.{Version}
 use Rattle.vk_spec.specs.Versions as plain
 use Rattle.vk_version.specs.Texts.{day_of, later_numbers}
 use Rattle.vk_version.specs.Readings.{IsVersion}
