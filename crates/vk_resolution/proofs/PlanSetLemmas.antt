@@ -139,7 +139,7 @@ module _ (inputs : Inputs) (facts planned : List Fact) (is_planned : IsPlanned i
         line = ap₂ (λ (i : Instance) (v : Version). line_of facts (floor i.port (ask_of v))) moved.instance moved.version ∙ is.line ∙ ap Some (sym moved.line);
         features = moved.features ∙ is.features ∙ ap (features_of planned) (sym moved.instance);
         needs = moved.needs ∙ places_same 0 (λ j. list_any (same_instance j) (edges_of set new.instance)) (leads new.instance) (order_of plan)
-        (λ j. any_same (same_instance j) (same_instance j) (edges_of set new.instance) (targets_of inputs planned new.instance) (same_edges new.instance) (λ k. refl));
+            (λ j. any_same (same_instance j) (same_instance j) (edges_of set new.instance) (targets_of inputs planned new.instance) (same_edges new.instance) (λ k. refl));
       }
 
   ordered_is_plan : (plan : List Item) → IsOrdered set plan → IsPlan inputs facts planned plan

@@ -2,7 +2,8 @@
 ghost use Rattle.vk_resolution.specs.FaultLaws.{FirstLinesMean, SecondLinesMean, ThirdLinesMean, VersionsComeInOrder};
 
 /// A line of the first phase is a trouble with the first line that meets it.
-/// A line of the second is a port in conflict with the first two, by text and port-version, of its floors that no other is above.
+/// A line of the second is a port in conflict with the first two, by text and port-version, of its
+/// floors that no other is above.
 /// A line of the third is a planned need with what is wrong with it.
 pub fn fault_lines_mean_what_they_say()
     ensures first { FirstLinesMean }

@@ -1,7 +1,8 @@
 //! Laws of least lists, at any type of facts.
 ghost use Rattle.vk_resolution.specs.LeastLaws.{LeastIsOne, RankIsOne, MembersHaveRanks, RankedIsForced, DerivedIsLeast, LeastExists, OrderIsOne, ListingIsOne, FreshRoundIsRound, NothingFollows, PartIsForced, ForcedIsNoLonger};
 
-/// Two least lists have the same members, each with one rank, and what has a rank is in every closed list. Where a list is closed, there is a least one.
+/// Two least lists have the same members, each with one rank, and what has a rank is in every
+/// closed list. Where a list is closed, there is a least one.
 pub fn there_is_one_least_list<X>()
     ensures members { LeastIsOne X }
     ensures rank { RankIsOne X }
@@ -10,7 +11,8 @@ pub fn there_is_one_least_list<X>()
     ensures exists { LeastExists X }
 {}
 
-/// A list shows of itself that it is the least: closed, without repeats, each fact a root or from facts before it.
+/// A list shows of itself that it is the least: closed, without repeats, each fact a root or from
+/// facts before it.
 pub fn a_derived_list_is_the_least<X>()
     ensures least { DerivedIsLeast X }
 {}
@@ -21,7 +23,8 @@ pub fn an_order_is_one<X>()
     ensures things { ListingIsOne X }
 {}
 
-/// A round from the fresh facts alone is a round: what follows from the old ones is listed, and from nothing nothing follows.
+/// A round from the fresh facts alone is a round: what follows from the old ones is listed, and
+/// from nothing nothing follows.
 /// What was reached of a round is forced, and no closed list is shorter than what is forced.
 pub fn a_round_needs_the_fresh_facts_alone<X>()
     ensures round { FreshRoundIsRound X }

@@ -1,5 +1,7 @@
-//! The meaning of a plan: what a project requires, which versions follow from that, and what is planned or refused.
-//! Plain definitions over a setting, pages and an order on versions, with the laws that show that they are right.
+//! The meaning of a plan: what a project requires, which versions follow from that, and what is
+//! planned or refused.
+//! Plain definitions over a setting, pages and an order on versions, with the laws that show that
+//! they are right.
 //! Each law is the contract of a function that does nothing.
 #![tactic(auto)]
 
@@ -36,7 +38,8 @@ pub use outcomes::{orders_are_total, there_is_one_outcome};
 pub use planned_sets::a_planned_set_in_order_is_the_plan;
 pub use planner::{a_plan_keeps_its_promises, a_project_has_one_report, the_premises_are_met};
 pub use plans::{
-    a_plan_serves_its_manifests, a_plan_stays_within_the_reasons, a_planned_version_is_the_least_allowed,
+    a_plan_serves_its_manifests, a_plan_stays_within_the_reasons,
+    a_planned_version_is_the_least_allowed,
 };
 pub use printouts::{faults_are_printed, plans_are_printed, reports_are_printed};
 pub use projects::{

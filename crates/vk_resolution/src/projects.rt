@@ -4,7 +4,8 @@ ghost use Rattle.vk_resolution.specs.Reasons.{IsReasons};
 ghost use Rattle.vk_resolution.specs.Examples.{HasNeeds, Reports, ReportsAlone, at_most};
 ghost use Rattle.vk_resolution.specs.Projects.{below_baseline, below_baseline_report, builds_with_floor, builds_with_floor_report, conflict, conflict_report, conflict_by_text, conflict_by_text_report, cross_build, cross_build_report, cycle, cycle_report, damaged_manifest, damaged_manifest_report, damaged_overlay, damaged_overlay_report, default_feature, default_feature_report, dropped_feature, dropped_feature_report, early_feature, early_feature_report, every_cause, every_cause_needs, every_cause_reasons, every_cause_report, failed_override, failed_override_report, floors_by_text, floors_by_text_report, host_platform, host_platform_report, leads_in, leads_in_report, missing_feature, missing_feature_report, missing_minimum, missing_minimum_report, named_feature, named_feature_report, named_root, named_root_report, native_build, native_build_report, new_feature, new_feature_report, no_baseline_entry, no_baseline_entry_report, no_table, no_table_report, off_by_default_feature, off_by_default_feature_report, off_by_own_feature, off_by_own_feature_report, off_by_port, off_by_port_report, off_by_root, off_by_root_report, off_where_it_applies, off_where_it_applies_report, on_by_another, on_by_another_report, other_manifest, other_manifest_report, other_overlay, other_overlay_report, overlaid_port, overlaid_port_report, overridden, overridden_report, overridden_without_table, overridden_without_table_report, own_feature, own_feature_report, own_minimum, own_minimum_report, raised_minimum, raised_minimum_reasons, raised_minimum_report, realistic, realistic_needs, realistic_report, smallest, smallest_report, stale_baseline, stale_baseline_report, superseded_minimum, superseded_minimum_report, superseded_reach, superseded_reach_report, two_cycles, two_cycles_report, unrelated_builds, unrelated_builds_report, unserved, unserved_report, unsupported_feature, unsupported_feature_report, unsupported_port, unsupported_port_report, visits_by_feature, visits_by_feature_reasons};
 
-/// The order on versions in these projects is an order, and what one reports is all that it can report.
+/// The order on versions in these projects is an order, and what one reports is all that it can
+/// report.
 pub fn reports_are_the_only_ones()
     ensures order { IsOrder at_most }
     ensures alone { ReportsAlone }
@@ -26,7 +27,8 @@ pub fn minimums_below_the_baseline()
     ensures planned { Reports below_baseline below_baseline_report }
 {}
 
-/// A port whose given version fails is told with its first need; a minimum is a floor of it unless an overlay or an override pins it.
+/// A port whose given version fails is told with its first need; a minimum is a floor of it unless
+/// an overlay or an override pins it.
 pub fn failing_ports()
     ensures baseline { Reports no_baseline_entry no_baseline_entry_report }
     ensures overridden { Reports failed_override failed_override_report }
@@ -41,7 +43,8 @@ pub fn a_raised_minimum()
     ensures reasons { IsReasons raised_minimum raised_minimum_reasons }
 {}
 
-/// A project with an override, an overlay, default features, a feature that asks of its own port, and a host tool, with its forty-nine reasons.
+/// A project with an override, an overlay, default features, a feature that asks of its own port,
+/// and a host tool, with its forty-nine reasons.
 pub fn a_project_with_every_cause()
     ensures planned { Reports every_cause every_cause_report }
     ensures needs { HasNeeds every_cause every_cause_needs }
@@ -54,13 +57,15 @@ pub fn lines_of_one_rank()
     ensures visits { IsReasons visits_by_feature visits_by_feature_reasons }
 {}
 
-/// A minimum that only a superseded version asks counts, and a port that only it asks for isn't planned.
+/// A minimum that only a superseded version asks counts, and a port that only it asks for isn't
+/// planned.
 pub fn superseded_versions()
     ensures minimum { Reports superseded_minimum superseded_minimum_report }
     ensures reach { Reports superseded_reach superseded_reach_report }
 {}
 
-/// Unrelated floors are a conflict, which an override or a floor above both settles; a version that is no floor doesn't. The two are told by text before port-version.
+/// Unrelated floors are a conflict, which an override or a floor above both settles; a version that
+/// is no floor doesn't. The two are told by text before port-version.
 pub fn conflicts()
     ensures texts { Reports conflict conflict_report }
     ensures overridden { Reports overridden overridden_report }
@@ -74,14 +79,16 @@ pub fn a_minimum_outside_the_table()
     ensures refused { Reports missing_minimum missing_minimum_report }
 {}
 
-/// A feature is asked of the chosen version, which may be the only one that has it, or the only one that lacks it.
+/// A feature is asked of the chosen version, which may be the only one that has it, or the only one
+/// that lacks it.
 pub fn a_feature_of_one_version()
     ensures planned { Reports new_feature new_feature_report }
     ensures refused { Reports dropped_feature dropped_feature_report }
     ensures early { Reports early_feature early_feature_report }
 {}
 
-/// Only the root can switch default features off, by dependencies that apply, also those of its default features and of features that it asks of itself.
+/// Only the root can switch default features off, by dependencies that apply, also those of its
+/// default features and of features that it asks of itself.
 pub fn default_features()
     ensures root { Reports off_by_root off_by_root_report }
     ensures port { Reports off_by_port off_by_port_report }
@@ -98,7 +105,8 @@ pub fn host_instances()
     ensures platform { Reports host_platform host_platform_report }
 {}
 
-/// A cycle is told from its least instance on, wherever one comes into it, and a port that asks for a feature of its own is none.
+/// A cycle is told from its least instance on, wherever one comes into it, and a port that asks for
+/// a feature of its own is none.
 pub fn cycles()
     ensures three { Reports cycle cycle_report }
     ensures two { Reports two_cycles two_cycles_report }
@@ -114,7 +122,8 @@ pub fn bad_files()
     ensures baseline { Reports stale_baseline stale_baseline_report }
 {}
 
-/// The words choose features of the root, and so does `default`; what a feature doesn't support is told, and a feature that isn't there.
+/// The words choose features of the root, and so does `default`; what a feature doesn't support is
+/// told, and a feature that isn't there.
 pub fn root_features()
     ensures named { Reports named_feature named_feature_report }
     ensures by_default { Reports default_feature default_feature_report }
@@ -122,7 +131,8 @@ pub fn root_features()
     ensures missing { Reports missing_feature missing_feature_report }
 {}
 
-/// A minimum on one's own port is a floor, but for the root, which is its own instance for the target alone.
+/// A minimum on one's own port is a floor, but for the root, which is its own instance for the
+/// target alone.
 pub fn own_instances()
     ensures minimum { Reports own_minimum own_minimum_report }
     ensures root { Reports named_root named_root_report }

@@ -1,7 +1,8 @@
 //! Laws of the choices of a project.
 ghost use Rattle.vk_resolution.specs.Selections.{ChoicesAreOne, ChoicesHaveNoConflict, ChoicesOrConflicts};
 
-/// Where the first phase has no line, each port that has a floor has a choice, or the second phase has a line, and never both. There is one list of choices.
+/// Where the first phase has no line, each port that has a floor has a choice, or the second phase
+/// has a line, and never both. There is one list of choices.
 pub fn choices_are_made_or_conflicts_told()
     ensures either { ChoicesOrConflicts }
     ensures never_both { ChoicesHaveNoConflict }

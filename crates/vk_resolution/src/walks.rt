@@ -1,7 +1,8 @@
 //! Laws of heights and cycles.
 ghost use Rattle.vk_resolution.specs.Walks.{CycleExists, CycleIsFound, CycleIsOne, CycleIsShortest, HeightOrderIsOne, HeightsHaveNoCycle, NoCycleGivesHeights, TargetsAreLower, TargetsStandBefore};
 
-/// Every instance has a height exactly where none is on a cycle, and then what it depends on is lower and stands before it.
+/// Every instance has a height exactly where none is on a cycle, and then what it depends on is
+/// lower and stands before it.
 pub fn heights_exist_where_no_cycle_is()
     ensures none { HeightsHaveNoCycle }
     ensures exist { NoCycleGivesHeights }
@@ -10,7 +11,8 @@ pub fn heights_exist_where_no_cycle_is()
     ensures one { HeightOrderIsOne }
 {}
 
-/// Where there is a cycle, one walk is told: from the least instance that lies on any, through two or more, none twice, and none through it is shorter. A search finds it.
+/// Where there is a cycle, one walk is told: from the least instance that lies on any, through two
+/// or more, none twice, and none through it is shorter. A search finds it.
 pub fn one_shortest_cycle_is_told()
     ensures exists { CycleExists }
     ensures found { CycleIsFound }
