@@ -1,2 +1,3 @@
 pub mod BaselineLemmas
 pub mod PageLaws
+mod PinnedLemmas

@@ -1,5 +1,5 @@
 -- Where a port's versions are: the first overlay that has it, or the registry that serves it.
-use Rattle.std.specs.Prelude.{◌++◌, ◌==◌, ℕ, Bool, false, List, [], ◌∷◌, length, slice_get, Option, Some, None, option_map, Result, Ok, Err, bytes_eq, if◌then◌else◌}
+use Rattle.std.specs.Prelude.{◌++◌, ◌==◌, ◌⊎◌, ℕ, Bool, false, List, [], ◌∷◌, length, slice_get, Option, Some, None, option_map, IsSome, Result, Ok, Err, bytes_eq, if◌then◌else◌}
 use Rattle.std.specs.List.{find}
 use Rattle.vk_spec.specs.Paths.{Path}
 use Rattle.vk_spec.specs.Files.{Files}
@@ -137,3 +137,7 @@ home_by None start port files = registry_home start port files
 -- where the port's versions are, or the first thing that is wrong
 abbrev pub home_of : Start → List ℕ → Files → Result Home Wrong
 home_of start port files = home_by (overlay_for start.overlays port files) start port files
+
+-- a port is pinned where an overlay has it, or the root manifest has an override for it
+abbrev pub IsPinned : Start → List ℕ → Files → Type 0
+IsPinned start port files = IsSome (overlay_for start.overlays port files) ⊎ IsSome (override_for start.overrides port)

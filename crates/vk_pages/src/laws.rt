@@ -1,11 +1,13 @@
-//! What the pages of ports keep, and where a port comes from.
-ghost use Rattle.std.specs.Prelude.{◌≡◌, List, ℕ, Ok, Some, None};
+//! What the pages of ports keep, where a port comes from, and which ports are pinned.
+ghost use Rattle.std.specs.Prelude.{◌≡◌, ◌↔◌, List, ℕ, IsTrue, Ok, Some, None};
 ghost use Rattle.vk_spec.specs.Files.{Files};
-ghost use Rattle.vk_spec.specs.Pages.{override};
+ghost use Rattle.vk_spec.specs.Pages.{override, is_pinned_by};
 ghost use Rattle.vk_spec.specs.Versions as versions;
 ghost use Rattle.vk_spec.specs.Catalogues.{ArePages};
+ghost use Rattle.vk_model.specs.declared.projects.Project.{Project};
+ghost use Rattle.vk_opening.specs.Openings.{Opening, opened_of};
 ghost use Rattle.vk_opening.specs.Starts as plain;
-ghost use Rattle.vk_pages.specs.Homes.{Served, overlay_for, home_in, served_for, override_for, home_with, home_of};
+ghost use Rattle.vk_pages.specs.Homes.{Served, overlay_for, home_in, served_for, override_for, home_with, home_of, IsPinned};
 ghost use Rattle.vk_pages.specs.Pages.{page_of};
 
 /// Every page is one that a catalogue may tell: no two rows are asked for alike, an overlay has its
@@ -23,4 +25,10 @@ pub fn overlay_rule()
 /// file holds; its table is still needed.
 pub fn override_rule()
     ensures { (start : plain.Start) (port : List ℕ) (files : Files) (served : Served) (ask : versions.Ask) → overlay_for start.overlays port files ≡ None → served_for start port ≡ Ok served → override_for start.overrides port ≡ Some ask → home_of start port files ≡ home_with (override ask) served port files }
+{}
+
+/// A port is pinned on its page exactly where an overlay has it or the root has an override for it,
+/// whatever is wrong with its files.
+pub fn pinned_rule()
+    ensures { (project : Project) (files : Files) (opening : Opening) → opened_of project files ≡ Ok opening → (port : List ℕ) → IsTrue (is_pinned_by opening.setting.root.overrides port (page_of opening.start files port).given) ↔ IsPinned opening.start port files }
 {}

@@ -17,5 +17,5 @@ pub use agreement::agree;
 pub use baselines::Baselines;
 pub use contents::content;
 pub use homes::{Home, Layout, home_of};
-pub use laws::{overlay_rule, override_rule, page_rule};
+pub use laws::{overlay_rule, override_rule, page_rule, pinned_rule};
 pub use paths::row_folder;

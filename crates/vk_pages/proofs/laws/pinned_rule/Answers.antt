@@ -1,0 +1,5 @@
+use Rattle.vk_pages.proofs.PinnedLemmas.{is_pinned_where}
+use Rattle.vk_pages.proofs.laws.pinned_rule.Goals as goal
+
+pub returns : goal.returns
+returns c = is_pinned_where
