@@ -1,3 +1,3 @@
 pub mod BaselineLemmas
 pub mod PageLaws
-mod PinnedLemmas
+pub mod PinnedLemmas
