@@ -10,8 +10,8 @@ use Rattle.vk_resolution.specs.Asking.{Fact, fact_key}
 use Rattle.vk_resolution.specs.Consequences.{Inputs, rules_of}
 use Rattle.vk_resolution.specs.Reasons.{Reason, IsReasons, facts_of}
 use Rattle.vk_resolution.specs.Faults.{first_faults_of}
-use Rattle.vk_resolution.specs.Outcomes.{Printing, lines_of}
-use Rattle.vk_resolution.specs.Closures.{Closure, IsClosure, HasTooManyFacts, HasClosure, ClosureIsOne, ClosureOrTooMany, TooManyIsNoClosure}
+use Rattle.vk_resolution.specs.Outcomes.{Printing, lines_of, by_first}
+use Rattle.vk_resolution.specs.Closures.{Closure, IsClosure, HasTooManyFacts, HasClosure, ClosureRefuses, ClosureIsOne, ClosureOrTooMany, TooManyIsNoClosure}
 use Rattle.vk_resolution.proofs.FactLemmas.{fact_key-IsKey}
 use Rattle.vk_resolution.proofs.LeastLemmas.{no_longer}
 use Rattle.vk_resolution.proofs.Rounds.{least_exists}
@@ -25,6 +25,9 @@ pub closure_is_one : ClosureIsOne
 closure_is_one inputs bytes one other is is_other =
     let same = reasons_same inputs one.reasons other.reasons is.reasons is_other.reasons in
     same_closure one other same (is.faults ∙ ap (λ r. lines_of bytes (first_faults_of inputs (facts_of r))) same ∙ sym is_other.faults)
+
+pub closure_refuses : ClosureRefuses
+closure_refuses inputs bytes closure is some = (is.reasons, by_first (λ none. some (is.faults ∙ ap (lines_of bytes) none)) is.faults)
 
 -- the first of a list
 take_contains : {X : Type 0} (n : ℕ) (xs : List X) (x : X) → Contains (take n xs) x → Contains xs x

@@ -38,7 +38,7 @@ use Rattle.vk_resolution.proofs.AgreementLemmas.{least_follows, visit_parts}
 use Rattle.vk_resolution.proofs.WalkLemmas.{cycle_exists, long_chain, repeats_or, repeat_cycle, chain_in}
 use Rattle.vk_resolution.proofs.LeastLemmas.{no_longer}
 
-all_some_there : {X Y : Type 0} (f : X → Option Y) (xs : List X) → ((x : X) → Contains xs x → (y : Y) × (f x ≡ Some y)) → (ys : List Y) × (all_some f xs ≡ Some ys)
+pub all_some_there : {X Y : Type 0} (f : X → Option Y) (xs : List X) → ((x : X) → Contains xs x → (y : Y) × (f x ≡ Some y)) → (ys : List Y) × (all_some f xs ≡ Some ys)
 all_some_there f [] each = ([], refl)
 all_some_there f (x ∷ xs) each =
     let y = each x (contains_first x xs) in
@@ -46,7 +46,7 @@ all_some_there f (x ∷ xs) each =
     (y.0 ∷ ys.0, ap (option_and_then (λ k. option_map (λ l. k ∷ l) (all_some f xs))) y.1 ∙ ap (option_map (λ l. y.0 ∷ l)) ys.1)
 
 -- the line of a fact of the list
-line_there : (facts : List Fact) (x : Fact) → Contains facts x → (n : ℕ) × (line_of facts x ≡ Some n)
+pub line_there : (facts : List Fact) (x : Fact) → Contains facts x → (n : ℕ) × (line_of facts x ≡ Some n)
 line_there facts x h = let r = line_found facts [] x h in (r.0, subst (λ l. line_of l x ≡ Some r.0) (append-nil facts) r.1)
 
 cited_there : (facts : List Fact) (y : Fact) (n : ℕ) (cause : Cause Fact) → CitesOnly y cause → line_of facts y ≡ Some n → (c : Cause ℕ) × (in_lines facts cause ≡ Some c)
@@ -182,7 +182,7 @@ module _ (inputs : Inputs) (order : IsOrder inputs.at_most) (rows : OverlaysHave
   within : IsWithin chosen facts
   within = (plan_stays_within inputs order facts chosen ordered.least first is_planned).within
 
-  item_there : (ranked : List Instance) (i : Instance) → Contains (instances_of chosen) i → (item : Item) × (item_by inputs facts chosen ranked i ≡ Some item)
+  pub item_there : (ranked : List Instance) (i : Instance) → Contains (instances_of chosen) i → (item : Item) × (item_by inputs facts chosen ranked i ≡ Some item)
   item_there ranked i h =
       let n = instance_need inputs facts chosen is_planned i h in
       let served : IsServed inputs facts chosen i n.0 = (plan_serves inputs order rows facts chosen ordered.least first second is_planned).of_instances i n.0 n.1 in

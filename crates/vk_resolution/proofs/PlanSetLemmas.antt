@@ -12,14 +12,19 @@ use Rattle.vk_resolution.specs.Asking.{Fact, need, floor, visit, fact_key, asked
 use Rattle.vk_resolution.specs.Consequences.{Inputs, asked_at}
 use Rattle.vk_resolution.specs.Choices.{chosen_of}
 use Rattle.vk_resolution.specs.Reasons.{line_of}
-use Rattle.vk_resolution.specs.Planning.{is_need, visit_of, planned_from, planned_rules_of, IsPlanned, instances_of, targets_of, HasHeight, IsByHeight, places_from, Item, IsItem, order_of, IsPlan, IsCycle, features_of}
-use Rattle.vk_resolution.specs.Walks.{Targets}
-use Rattle.vk_resolution.specs.PlannedSets.{IsPlanSet, needed_by, edges_of, IsMoved, IsOrdered, PlanSetIsOne, HaveSameEdges, PlanSetEdges, OrderedSetIsPlan, PlanSetCycles}
-use Rattle.vk_resolution.proofs.Members.{any_contains, contains_any, contains_single, contains_map, contains_filter, contains-filter_map, filter_map-contains}
+use Rattle.vk_resolution.specs.Planning.{is_need, visit_of, planned_from, planned_rules_of, IsPlanned, instances_of, targets_of, HasHeight, IsByHeight, places_from, Item, IsItem, order_of, IsPlan, IsOnCycle, IsCycle, features_of}
+use Rattle.vk_resolution.specs.Walks.{Targets, EdgesStay}
+use Rattle.vk_resolution.specs.Keys.{in_order}
+use Rattle.vk_resolution.specs.Computed.{Numbered, numbered_key, item_by}
+use Rattle.vk_resolution.specs.PlannedSets.{IsPlanSet, needed_by, edges_of, IsMoved, IsOrdered, PlanSetIsOne, PlanSetExists, OrderedExists, HaveSameEdges, PlanSetEdges, OrderedSetIsPlan, PlanSetCycles}
+use Rattle.vk_resolution.proofs.Members.{any_contains, contains_any, contains_single, contains_map, map_contains, contains_filter, contains-filter_map, filter_map-contains}
+use Rattle.vk_resolution.proofs.Orders.{contains-in_order, in_order-contains, in_order-ascends}
+use Rattle.vk_resolution.proofs.Soundness.{numbered_key-IsKey, by_height, item_is, some_map, some_from}
+use Rattle.vk_resolution.proofs.WalkLemmas.{no_cycle_gives_heights}
 use Rattle.vk_resolution.proofs.FactLemmas.{fact_key-IsKey, same_instance-Decides}
 use Rattle.vk_resolution.proofs.AgreementLemmas.{least_follows}
-use Rattle.vk_resolution.proofs.Existence.{need_instance, edge_parts, planned_edges}
-use Rattle.vk_resolution.proofs.Uniqueness.{SameMembers, planned_members, instances_same, items_one, any_same, places_same, place_passes, height_to, by_height_to, cycle_to}
+use Rattle.vk_resolution.proofs.Existence.{all_some_there, item_there, need_instance, edge_parts, planned_edges}
+use Rattle.vk_resolution.proofs.Uniqueness.{SameMembers, planned_members, instances_same, items_one, any_same, places_same, place_passes, get_contains, height_to, by_height_to, cycle_to}
 
 -- a planned visit is of a planned need
 module _ (inputs : Inputs) (facts planned : List Fact) (is_planned : IsPlanned inputs facts planned) where
@@ -167,3 +172,109 @@ plan_set_is_one inputs facts one other is_one is_other items more set set_other 
     let members = planned_members inputs facts one other is_one is_other in
     let order : order_of items ≡ order_of more = set.order ∙ instances_same inputs facts one other members ∙ sym set_other.order in
     items_one inputs facts one other members (order_of items) items more order set.each (λ k h. subst (λ l. IsItem inputs facts other l k) (sym order) (set_other.each k h))
+
+-- ---- there is a set, and it can be put in order
+
+pub plan_set_exists : PlanSetExists
+plan_set_exists inputs order rows facts ordered first second planned is_planned =
+    let listed : List Instance = instances_of planned in
+    let items = all_some_there (item_by inputs facts planned listed) listed (item_there inputs order rows (λ fault. []) facts ordered first second planned is_planned listed) in
+    let same : order_of items.0 ≡ listed = some_map (item_by inputs facts planned listed) (λ (k : Item). k.instance) (λ i item h. (item_is inputs facts planned listed i item h).0) listed items.0 items.1 in
+    (
+      items.0,
+      record {
+        order = same;
+        each = λ item h. (
+            let q = some_from (item_by inputs facts planned listed) listed items.0 items.1 item h in
+            subst (λ l. IsItem inputs facts planned l item) (sym same) (item_is inputs facts planned listed q.0 item q.2).1
+            );
+      },
+    )
+
+-- the instances of a list, each with its height
+numbered_there : (targets : Targets) (is : List Instance) → ((i : Instance) → Contains is i → (n : ℕ) × HasHeight targets n i)
+    → (ps : List Numbered) × (map (λ (p : Numbered). p.1) ps ≡ is) × ((p : Numbered) → Contains ps p → HasHeight targets p.0 p.1)
+numbered_there targets [] heights = ([], refl, λ p h. absurd (contains_nothing p h))
+numbered_there targets (i ∷ is) heights =
+    let n = heights i (contains_first i is) in
+    let rest = numbered_there targets is (λ j h. heights j (contains_later i j is h)) in
+    ((n.0, i) ∷ rest.0, ap (λ l. i ∷ l) rest.1, with_first (n.0, i) rest.0 n.1 rest.2)
+  where
+    with_first : (q : Numbered) (ps : List Numbered) → HasHeight targets q.0 q.1 → ((p : Numbered) → Contains ps p → HasHeight targets p.0 p.1) → (p : Numbered) → Contains (q ∷ ps) p → HasHeight targets p.0 p.1
+    with_first q ps has each p h = elim (contains_cases q p ps h) [ inl same ↦ subst (λ (k : Numbered). HasHeight targets k.0 k.1) same has | inr later ↦ each p later ]
+
+module _ (set : List Item) where
+  edges_stay : EdgesStay (edges_of set) (order_of set)
+  edges_stay i h j at =
+      let r = contains-flat_map (λ (item : Item). cond (same_instance item.instance i) (needed_by set item) []) set j at in
+      by r.0 (same_instance r.0.instance i) r.2
+    where
+      by : (item : Item) (b : Bool) → Contains (cond b (needed_by set item) []) j → Contains (order_of set) j
+      by item true within = let n = contains-filter_map (slice_get (order_of set)) item.needs j within in get_contains (order_of set) n.0 j n.2
+      by item false within = absurd (contains_nothing j within)
+
+  -- an item with the places of its needs in another order
+  abbrev placed : List Instance → Item → Item
+  placed ranked old = record {
+    instance = old.instance;
+    version = old.version;
+    line = old.line;
+    features = old.features;
+    needs = places_from 0 (λ j. list_any (same_instance j) (edges_of set old.instance)) ranked;
+  }
+
+  record ArePlaced (ranked is : List Instance) (plan : List Item) : Type 0 where
+    pub order : order_of plan ≡ is
+    pub each : (new : Item) → Contains plan new → (old : Item) × Contains set old × (placed ranked old ≡ new)
+
+  placed_there : (ranked is : List Instance) → IsWithin is (order_of set) → (plan : List Item) × ArePlaced ranked is plan
+  placed_there ranked [] within = ([], record { order = refl; each = λ new h. absurd (contains_nothing new h) })
+  placed_there ranked (i ∷ is) within =
+      let old = contains_map (λ (k : Item). k.instance) set i (within i (contains_first i is)) in
+      let rest = placed_there ranked is (λ j h. within j (contains_later i j is h)) in
+      (
+        placed ranked old.0 ∷ rest.0,
+        record {
+          order = ap₂ (λ (j : Instance) (js : List Instance). j ∷ js) old.2 rest.1.order;
+          each = λ new h. elim (contains_cases (placed ranked old.0) new rest.0 h) [ inl same ↦ (old.0, old.1, same) | inr later ↦ rest.1.each new later ];
+        },
+      )
+
+  is_moved : (ranked : List Instance) (plan : List Item) (old new : Item) → order_of plan ≡ ranked → placed ranked old ≡ new → IsMoved set plan old new
+  is_moved ranked plan old new order same = subst (IsMoved set plan old) same (record {
+    instance = refl;
+    version = refl;
+    line = refl;
+    features = refl;
+    needs = ap (places_from 0 (λ j. list_any (same_instance j) (edges_of set old.instance))) (sym order);
+  })
+
+  ordered_there : ((i : Instance) → Contains (order_of set) i → IsOnCycle (edges_of set) i → ⊥) → (plan : List Item) × IsOrdered set plan
+  ordered_there none =
+      let heights = no_cycle_gives_heights (edges_of set) (order_of set) edges_stay none in
+      let ps = numbered_there (edges_of set) (order_of set) heights in
+      let sorted : List Numbered = in_order numbered_key ps.0 in
+      let ranked : List Instance = map (λ (p : Numbered). p.1) sorted in
+      let from : IsWithin ranked (order_of set) = λ i h. (
+      let q = contains_map (λ (p : Numbered). p.1) sorted i h in
+      subst (λ l. Contains l i) ps.1 (subst (Contains (map (λ (p : Numbered). p.1) ps.0)) q.2 (map_contains (λ (p : Numbered). p.1) ps.0 q.0 (contains-in_order numbered_key ps.0 q.0 q.1)))
+      ) in
+      let to : IsWithin (order_of set) ranked = λ i h. (
+      let q = contains_map (λ (p : Numbered). p.1) ps.0 i (subst (λ l. Contains l i) (sym ps.1) h) in
+      subst (Contains ranked) q.2 (map_contains (λ (p : Numbered). p.1) sorted q.0 (in_order-contains numbered_key numbered_key-IsKey ps.0 q.0 q.1))
+      ) in
+      let plan = placed_there ranked ranked from in
+      let order : order_of plan.0 ≡ ranked = plan.1.order in
+      (
+        plan.0,
+        record {
+          to = λ i h. subst (λ l. Contains l i) (sym order) (to i h);
+          from = λ i h. from i (subst (λ l. Contains l i) order h);
+          heights = λ i h. heights i (from i (subst (λ l. Contains l i) order h));
+          order = subst (IsByHeight (edges_of set)) (sym order) (by_height (edges_of set) sorted (in_order-ascends numbered_key ps.0) (λ p h. ps.2 p (contains-in_order numbered_key ps.0 p h)));
+          each = λ new h. (let r = plan.1.each new h in (r.0, r.1, is_moved ranked plan.0 r.0 new order r.2));
+        },
+      )
+
+pub ordered_exists : OrderedExists
+ordered_exists set none = ordered_there set none

@@ -5,8 +5,8 @@ use Rattle.std.specs.List.{Contains}
 use Rattle.vk_spec.specs.Versions.{Version, Ask, IsOrder, ask_of}
 use Rattle.vk_spec.specs.Pages.{Wrong, Given, overlay, override, baseline, is_pinned_by}
 use Rattle.vk_spec.specs.Settings.{Instance}
-use Rattle.vk_spec.proofs.ListLemmas.{contains_nothing, contains_first, contains_later, contains_cases, contains-flat_map}
-use Rattle.vk_resolution.specs.Keys.{in_order}
+use Rattle.vk_spec.proofs.ListLemmas.{contains_nothing, contains_first, contains_later, contains_cases, contains-flat_map, flat_map-contains}
+use Rattle.vk_resolution.specs.Keys.{IsListing, in_order}
 use Rattle.vk_resolution.specs.Least.{IsLeast}
 use Rattle.vk_resolution.specs.Settings.{inst}
 use Rattle.vk_resolution.specs.Givens.{version_at, is_pinned}
@@ -15,26 +15,32 @@ use Rattle.vk_resolution.specs.Consequences.{Inputs, rules_of}
 use Rattle.vk_resolution.specs.Choices.{chosen_of, floors_of, given_version_of, greatest_of}
 use Rattle.vk_resolution.specs.Reasons.{line_of}
 use Rattle.vk_resolution.specs.Faults.{Fault, conflicts, conflicts_of, ports_in, first_faults_of, second_faults_of}
-use Rattle.vk_resolution.specs.Selections.{Choice, floored_ports_of, IsChoice, IsChoices, ChoicesAreOne, ChoicesOrConflicts, ChoicesHaveNoConflict}
+use Rattle.vk_resolution.specs.Selections.{Choice, floored_ports_of, IsChoice, IsChoices, HasFloor, ChoicesListPorts, choice_of, ItemsHaveChoices, ChoicesAreOne, ChoicesOrConflicts, ChoicesHaveNoConflict}
 use Rattle.vk_resolution.proofs.Members.{contains_single, contains_map}
-use Rattle.vk_resolution.proofs.Orders.{contains-in_order}
+use Rattle.vk_resolution.proofs.Orders.{contains-in_order, in_order-contains, in_order-ascends}
 use Rattle.vk_resolution.proofs.Soundness.{nothing_or}
 use Rattle.vk_resolution.proofs.FactLemmas.{same_fact-Decides}
+use Rattle.vk_resolution.proofs.LineLemmas.{at_contains, line_at}
 use Rattle.vk_resolution.proofs.ChoiceLemmas.{floor_is, needed_given, given_floor, floor_in_table, version_ask, free_choice, floors_are, choice_or_conflict, line_exists}
 use Rattle.vk_resolution.proofs.AgreementLemmas.{floor_needed}
 
--- the floor of a port that has one
-pub record HasFloor (facts : List Fact) (p : List ℕ) : Type 0 where
-  pub ask : Ask
-  pub has : Contains facts (floor p ask)
-
 floor_in : (facts : List Fact) (p : List ℕ) (x : Fact) → Contains facts x → Contains (ports_in x) p → HasFloor facts p
 floor_in facts p (need who f) h at = absurd (contains_nothing p at)
-floor_in facts p (floor q a) h at = record { ask = a; has = subst (λ r. Contains facts (floor r a)) (contains_single q p at) h }
+floor_in facts p (floor q a) h at = (a, subst (λ r. Contains facts (floor r a)) (contains_single q p at) h)
 floor_in facts p (visit i f a) h at = absurd (contains_nothing p at)
 
 pub has_floor : (facts : List Fact) (p : List ℕ) → Contains (floored_ports_of facts) p → HasFloor facts p
 has_floor facts p h = let r = contains-flat_map ports_in facts p (contains-in_order (λ q. q ∷ []) (flat_map ports_in facts) p h) in floor_in facts p r.0 r.1 r.2
+
+floor_listed : (facts : List Fact) (p : List ℕ) (a : Ask) → Contains facts (floor p a) → Contains (floored_ports_of facts) p
+floor_listed facts p a h = in_order-contains (λ q. q ∷ []) (λ x y e. (cc)) (flat_map ports_in facts) p (flat_map-contains ports_in facts (floor p a) p h (contains_first p []))
+
+pub choices_list_ports : ChoicesListPorts
+choices_list_ports inputs facts choices is =
+    subst (IsListing (λ p. p ∷ []) (HasFloor facts)) (sym is.ports) (record {
+      each = λ p. (has_floor facts p, (λ f. floor_listed facts p f.0 f.1));
+      ascends = in_order-ascends (λ q. q ∷ []) (flat_map ports_in facts);
+    })
 
 -- a pinned port has its given version
 pub chosen_pinned : (inputs : Inputs) (facts : List Fact) (p : List ℕ) (given : Result Given Wrong) (v : Version) → (inputs.pages p).given ≡ given → is_pinned_by inputs.setting.root.overrides p given ≡ true → given_version_of inputs.pages p given ≡ Some v → chosen_of inputs facts p ≡ Some v
@@ -73,7 +79,7 @@ module _ (inputs : Inputs) (order : IsOrder inputs.at_most) (facts : List Fact) 
   port_has_choice : (p : List ℕ) → Contains (floored_ports_of facts) p → HasChoice inputs facts p
   port_has_choice p h =
       let r = has_floor facts p h in
-      let n = floor_needed inputs facts least p r.ask r.has in
+      let n = floor_needed inputs facts least p r.0 r.1 in
       let g = needed_given inputs facts first n.i n.f n.has in
       subst (HasChoice inputs facts) n.is_port (needed_has_choice n.i n.f n.has g.0 g.1)
 
@@ -135,3 +141,11 @@ choices_same inputs facts (c ∷ cs) (d ∷ ds) e a b =
 
 pub choices_are_one : ChoicesAreOne
 choices_are_one inputs facts one other is is_other = choices_same inputs facts one other (is.ports ∙ sym is_other.ports) is.each is_other.each
+
+pub items_have_choices : ItemsHaveChoices
+items_have_choices inputs facts planned order item is choices are =
+    let p : List ℕ = item.instance.port in
+    let has : Contains facts (floor p (ask_of item.version)) = at_contains facts item.line (floor p (ask_of item.version)) (line_at facts (floor p (ask_of item.version)) item.line is.line) in
+    let listed : Contains (map (λ (c : Choice). c.port) choices) p = subst (λ l. Contains l p) (sym are.ports) (floor_listed facts p (ask_of item.version) has) in
+    let c = contains_map (λ (c : Choice). c.port) choices p listed in
+    subst (Contains choices) (choice_same inputs facts c.0 (choice_of item) c.2 (are.each c.0 c.1) (record { chosen = is.version; floor = is.line })) c.1

@@ -179,7 +179,7 @@ module _ (targets : Instance → List Instance) where
       let has : HasHeight targets r.0 i = record { within = first.passes; no_lower = λ m lower. first.before m (omega arith) lower } in
       (sym same, subst (λ k. HasHeight targets k p.1) number (subst (HasHeight targets r.0) same has))
 
-  by_height : (ps : List Numbered) → Ascends numbered_key ps → ((p : Numbered) → Contains ps p → HasHeight targets p.0 p.1) → IsByHeight targets (map (λ (p : Numbered). p.1) ps)
+  pub by_height : (ps : List Numbered) → Ascends numbered_key ps → ((p : Numbered) → Contains ps p → HasHeight targets p.0 p.1) → IsByHeight targets (map (λ (p : Numbered). p.1) ps)
   by_height [] ascends each = tt
   by_height (p ∷ ps) ascends each = (
     (λ j h m n height_p height_j. (
@@ -345,7 +345,7 @@ module _ (targets : Instance → List Instance) where
       let r = then_some (λ (p : Numbered). cond (same_instance p.1 first) (Some []) (option_map (λ ks. p.1 ∷ ks) (walk_by targets n first m p.1))) (next_by targets n first i) js e in
       walk_step n first i r.0 (walk_by targets n first m r.0.1) js (same_instance r.0.1 first) refl (next_is n first i r.0 r.1) (λ ks h. walk_is n m first r.0.1 ks h) r.2
 
-item_is : (inputs : Inputs) (facts chosen : List Fact) (order : List Instance) (i : Instance) (item : Item) → item_by inputs facts chosen order i ≡ Some item → (item.instance ≡ i) × IsItem inputs facts chosen order item
+pub item_is : (inputs : Inputs) (facts chosen : List Fact) (order : List Instance) (i : Instance) (item : Item) → item_by inputs facts chosen order i ≡ Some item → (item.instance ≡ i) × IsItem inputs facts chosen order item
 item_is inputs facts chosen order i item e =
     let made : Version → ℕ → Item = λ v n. record { instance = i; version = v; line = n; features = features_of chosen i; needs = places_from 0 (λ j. list_any (same_instance j) (targets_of inputs chosen i)) order } in
     let r = then_some (λ v. option_map (made v) (line_of facts (floor i.port (ask_of v)))) (chosen_of inputs facts i.port) item e in

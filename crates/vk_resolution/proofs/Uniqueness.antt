@@ -327,7 +327,7 @@ pub height_order_is_one : HeightOrderIsOne
 height_order_is_one targets one other a b heights to from = by_height_one targets one other a b heights (record { to = to; from = from })
 
 -- where something stands that is among the first, and nothing stands twice
-get_contains : {X : Type 0} (xs : List X) (n : ℕ) (x : X) → slice_get xs n ≡ Some x → Contains xs x
+pub get_contains : {X : Type 0} (xs : List X) (n : ℕ) (x : X) → slice_get xs n ≡ Some x → Contains xs x
 get_contains [] n x e = (cc)
 get_contains (y ∷ ys) zero x e = let same : y ≡ x = (cc) in subst (Contains (y ∷ ys)) same (contains_first y ys)
 get_contains (y ∷ ys) (suc n) x e = contains_later y x ys (get_contains ys n x e)

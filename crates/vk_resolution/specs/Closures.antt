@@ -1,11 +1,11 @@
 -- The closure of a project: its reasons with the first phase's lines, and when there are too many facts for one.
-use Rattle.std.specs.Prelude.{◌≡◌, ◌≤◌, ◌<◌, ◌+◌, ◌⊎◌, ℕ, List, length}
+use Rattle.std.specs.Prelude.{◌≡◌, ◌≢◌, ◌≤◌, ◌<◌, ◌+◌, ◌⊎◌, ℕ, List, [], length}
 use Rattle.vk_resolution.specs.Least.{IsForced, IsClosed}
 use Rattle.vk_resolution.specs.Asking.{Fact}
 use Rattle.vk_resolution.specs.Consequences.{Inputs, rules_of}
 use Rattle.vk_resolution.specs.Reasons.{Reason, IsReasons, facts_of}
 use Rattle.vk_resolution.specs.Faults.{Fault, first_faults_of}
-use Rattle.vk_resolution.specs.Outcomes.{Printing, lines_of}
+use Rattle.vk_resolution.specs.Outcomes.{Printing, lines_of, refused, IsOutcome}
 
 pub record Closure : Type 0 where
   pub reasons : List Reason
@@ -27,6 +27,10 @@ pub record HasClosure (inputs : Inputs) (bytes : Printing) : Type 0 where
   pub closure : Closure
   pub is_closure : IsClosure inputs bytes closure
   pub few : length closure.reasons ≤ inputs.setting.max_facts
+
+-- a closure with lines is the outcome: a refusal
+abbrev pub ClosureRefuses : Type 0
+ClosureRefuses = (inputs : Inputs) (bytes : Printing) (closure : Closure) → IsClosure inputs bytes closure → closure.faults ≢ [] → IsOutcome inputs bytes (refused closure.faults closure.reasons)
 
 -- there is one closure
 abbrev pub ClosureIsOne : Type 0

@@ -1,10 +1,10 @@
 -- Laws of closed lists, least lists and ranks, over any rules and any things that are known by keys.
-use Rattle.std.specs.Prelude.{◌≡◌, ◌≤◌, ◌⊎◌, ◌++◌, ℕ, List, [], length}
+use Rattle.std.specs.Prelude.{◌≡◌, ◌≤◌, ◌⊎◌, ◌++◌, ℕ, suc, List, [], length}
 use Rattle.std.specs.List.{Contains}
 use Rattle.vk_spec.specs.Lists.{NoRepeats, IsWithin}
 use Rattle.vk_resolution.specs.Keys.{Key, IsKey, IsListing, in_order}
 use Rattle.vk_resolution.specs.Least.{Rules, FollowsFrom, IsClosed, IsForced, IsLeast, HasRank, IsDerived, IsLeastInOrder}
-use Rattle.vk_resolution.specs.Rounds.{AddsRound, AddsFromFresh, IsPartOfRound}
+use Rattle.vk_resolution.specs.Rounds.{IsLevel, AddsRound, AddsFromFresh, IsPartOfRound}
 
 -- two least lists have the same members
 abbrev pub LeastIsOne : Type 0 → Type 0
@@ -41,6 +41,11 @@ ListingIsOne X = (key : X → Key) → IsKey key → (xs : List X) → IsListing
 -- where all that follows from the old facts is listed, a round from the fresh facts alone is a round
 abbrev pub FreshRoundIsRound : Type 0 → Type 0
 FreshRoundIsRound X = (rules : Rules X) (old fresh new : List X) → ((x : X) → FollowsFrom rules (Contains old) x → Contains old x ⊎ Contains fresh x) → AddsFromFresh rules old fresh new → AddsRound rules (old ++ fresh) new
+
+-- the facts of ranks up to n with a round are those of ranks up to n + 1; where a round adds nothing they are the least list
+pub record RoundsMakeLevels (X : Type 0) : Type 0 where
+  pub next : (rules : Rules X) (n : ℕ) (facts new : List X) → IsLevel rules n facts → AddsRound rules facts new → IsLevel rules (suc n) (facts ++ new)
+  pub last : (rules : Rules X) (n : ℕ) (facts : List X) → IsLevel rules n facts → AddsRound rules facts [] → IsLeast rules facts
 
 -- nothing follows from nothing
 abbrev pub NothingFollows : Type 0 → Type 0

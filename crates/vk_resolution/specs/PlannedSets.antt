@@ -2,11 +2,15 @@
 use Rattle.std.specs.Prelude.{◌≡◌, ℕ, List, [], flat_map, filter_map, slice_get, if◌then◌else◌}
 use Rattle.std.specs.List.{Contains, list_any}
 use Rattle.vk_spec.specs.Lists.{IsWithin}
+use Rattle.vk_spec.specs.Versions.{IsOrder}
 use Rattle.vk_spec.specs.Settings.{Instance}
+use Rattle.vk_resolution.specs.Least.{IsLeastInOrder}
 use Rattle.vk_resolution.specs.Settings.{same_instance}
-use Rattle.vk_resolution.specs.Asking.{Fact}
-use Rattle.vk_resolution.specs.Consequences.{Inputs}
-use Rattle.vk_resolution.specs.Planning.{instances_of, IsPlanned, targets_of, HasHeight, IsByHeight, places_from, Item, IsItem, order_of, IsPlan, IsCycle}
+use Rattle.vk_resolution.specs.Asking.{Fact, fact_key}
+use Rattle.vk_resolution.specs.Consequences.{Inputs, rules_of}
+use Rattle.vk_resolution.specs.Planning.{instances_of, IsPlanned, IsOnCycle, targets_of, HasHeight, IsByHeight, places_from, Item, IsItem, order_of, IsPlan, IsCycle}
+use Rattle.vk_resolution.specs.Faults.{first_faults_of, second_faults_of}
+use Rattle.vk_resolution.specs.Service.{OverlaysHaveRows}
 use Rattle.vk_resolution.specs.Walks.{Targets}
 
 -- an item for each planned instance, by port and triplet
@@ -37,6 +41,15 @@ pub record IsOrdered (set plan : List Item) : Type 0 where
   pub heights : (i : Instance) → Contains (order_of plan) i → (n : ℕ) × HasHeight (edges_of set) n i
   pub order : IsByHeight (edges_of set) (order_of plan)
   pub each : (new : Item) → Contains plan new → (old : Item) × Contains set old × IsMoved set plan old new
+
+-- where the first two phases have no line, there is a planned set
+abbrev pub PlanSetExists : Type 0
+PlanSetExists = (inputs : Inputs) → IsOrder inputs.at_most → OverlaysHaveRows inputs.pages → (facts : List Fact) → IsLeastInOrder (rules_of inputs) fact_key facts → first_faults_of inputs facts ≡ [] → second_faults_of inputs facts ≡ []
+    → (planned : List Fact) → IsPlanned inputs facts planned → (set : List Item) × IsPlanSet inputs facts planned set
+
+-- items can be put in order where none of their instances is on a cycle of their edges
+abbrev pub OrderedExists : Type 0
+OrderedExists = (set : List Item) → ((i : Instance) → Contains (order_of set) i → IsOnCycle (edges_of set) i → ⊥) → (plan : List Item) × IsOrdered set plan
 
 -- there is one planned set
 abbrev pub PlanSetIsOne : Type 0

@@ -1,13 +1,15 @@
 -- The choices of a project: a version for each port that has a floor.
 use Rattle.std.specs.Prelude.{◌≡◌, ◌≢◌, ◌⊎◌, ℕ, List, [], ◌∷◌, map, flat_map, Some}
 use Rattle.std.specs.List.{Contains}
-use Rattle.vk_spec.specs.Versions.{Version, IsOrder, ask_of}
-use Rattle.vk_resolution.specs.Keys.{in_order}
+use Rattle.vk_spec.specs.Versions.{Version, Ask, IsOrder, ask_of}
+use Rattle.vk_spec.specs.Settings.{Instance}
+use Rattle.vk_resolution.specs.Keys.{IsListing, in_order}
 use Rattle.vk_resolution.specs.Least.{IsLeast}
 use Rattle.vk_resolution.specs.Asking.{Fact, floor}
 use Rattle.vk_resolution.specs.Consequences.{Inputs, rules_of}
 use Rattle.vk_resolution.specs.Choices.{chosen_of}
 use Rattle.vk_resolution.specs.Reasons.{line_of}
+use Rattle.vk_resolution.specs.Planning.{Item, IsItem}
 use Rattle.vk_resolution.specs.Faults.{ports_in, first_faults_of, second_faults_of}
 
 -- a port, its chosen version, and the line of the floor that it is
@@ -29,6 +31,22 @@ pub record IsChoice (inputs : Inputs) (facts : List Fact) (choice : Choice) : Ty
 pub record IsChoices (inputs : Inputs) (facts : List Fact) (choices : List Choice) : Type 0 where
   pub ports : map (λ c. c.port) choices ≡ floored_ports_of facts
   pub each : (c : Choice) → Contains choices c → IsChoice inputs facts c
+
+-- a port that has a floor
+abbrev pub HasFloor : List Fact → List ℕ → Type 0
+HasFloor facts p = (a : Ask) × Contains facts (floor p a)
+
+-- the ports of the choices are those that have a floor, each once and in order
+abbrev pub ChoicesListPorts : Type 0
+ChoicesListPorts = (inputs : Inputs) (facts : List Fact) (choices : List Choice) → IsChoices inputs facts choices → IsListing (λ p. p ∷ []) (HasFloor facts) (map (λ c. c.port) choices)
+
+-- the choice that an item tells
+abbrev pub choice_of : Item → Choice
+choice_of item = record { port = item.instance.port; version = item.version; line = item.line }
+
+-- each item of a plan or of a planned set tells its port's choice
+abbrev pub ItemsHaveChoices : Type 0
+ItemsHaveChoices = (inputs : Inputs) (facts planned : List Fact) (order : List Instance) (item : Item) → IsItem inputs facts planned order item → (choices : List Choice) → IsChoices inputs facts choices → Contains choices (choice_of item)
 
 -- there is one list of choices
 abbrev pub ChoicesAreOne : Type 0

@@ -1,5 +1,5 @@
 //! Laws of least lists, at any type of facts.
-ghost use Rattle.vk_resolution.specs.LeastLaws.{LeastIsOne, RankIsOne, MembersHaveRanks, RankedIsForced, DerivedIsLeast, LeastExists, OrderIsOne, ListingIsOne, FreshRoundIsRound, NothingFollows, PartIsForced, ForcedIsNoLonger};
+ghost use Rattle.vk_resolution.specs.LeastLaws.{LeastIsOne, RankIsOne, MembersHaveRanks, RankedIsForced, DerivedIsLeast, LeastExists, OrderIsOne, ListingIsOne, RoundsMakeLevels, FreshRoundIsRound, NothingFollows, PartIsForced, ForcedIsNoLonger};
 
 /// Two least lists have the same members, each with one rank, and what has a rank is in every
 /// closed list. Where a list is closed, there is a least one.
@@ -23,10 +23,11 @@ pub fn an_order_is_one<X>()
     ensures things { ListingIsOne X }
 {}
 
-/// A round from the fresh facts alone is a round: what follows from the old ones is listed, and
-/// from nothing nothing follows.
-/// What was reached of a round is forced, and no closed list is shorter than what is forced.
+/// Rounds lead from rank to rank and end in the least list. A round from the fresh facts alone is a
+/// round: what follows from the old ones is listed, and from nothing nothing follows. What was
+/// reached of a round is forced, and no closed list is shorter than what is forced.
 pub fn a_round_needs_the_fresh_facts_alone<X>()
+    ensures levels { RoundsMakeLevels X }
     ensures round { FreshRoundIsRound X }
     ensures nothing { NothingFollows X }
     ensures part { PartIsForced X }
