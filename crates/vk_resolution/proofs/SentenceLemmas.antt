@@ -284,7 +284,7 @@ some_is : {X : Type 0} (o : Option X) → is_some o ≡ true → (x : X) × (o �
 some_is None e = (cc)
 some_is (Some x) e = (x, refl)
 
-may_visit : (inputs : Inputs) (p : List ℕ) (a : Ask) (given : Result Given Wrong) → (inputs.pages p).given ≡ given → is_visited_by inputs (inputs.pages p).rows a given ≡ true → MayVisit inputs p a
+pub may_visit : (inputs : Inputs) (p : List ℕ) (a : Ask) (given : Result Given Wrong) → (inputs.pages p).given ≡ given → is_visited_by inputs (inputs.pages p).rows a given ≡ true → MayVisit inputs p a
 may_visit inputs p a (Ok (overlay v)) e h = of_overlay v e (asks_equal a (ask_of v) h)
 may_visit inputs p a (Ok (override b)) e h =
     let parts = both_true (same_ask a b) (is_some (row_in (inputs.pages p).rows a)) h in
@@ -294,7 +294,7 @@ may_visit inputs p a (Ok (override b)) e h =
 may_visit inputs p a (Ok (baseline b)) e h = let r = not_below_is inputs (row_in (inputs.pages p).rows b) (row_in (inputs.pages p).rows a) h in of_baseline b r.0 r.1 e r.2 r.3 r.4
 may_visit inputs p a (Err wrong) e h = (cc)
 
-visits_may : (inputs : Inputs) (p : List ℕ) (a : Ask) → MayVisit inputs p a → is_visited inputs p a ≡ true
+pub visits_may : (inputs : Inputs) (p : List ℕ) (a : Ask) → MayVisit inputs p a → is_visited inputs p a ≡ true
 visits_may inputs p a (of_overlay v e same) = ap (is_visited_by inputs (inputs.pages p).rows a) e ∙ subst (λ k. same_ask a k ≡ true) same (ask_itself a)
 visits_may inputs p a (of_override r e found) = ap (is_visited_by inputs (inputs.pages p).rows a) e ∙ and_true (same_ask a a) (is_some (row_in (inputs.pages p).rows a)) (ask_itself a) (ap is_some found)
 visits_may inputs p a (of_baseline b g r e given found same) =

@@ -5,6 +5,7 @@ pub mod Givens
 pub mod Asking
 pub mod Consequences
 pub mod Sentences
+pub mod Causes
 pub mod Choices
 pub mod Reasons
 pub mod Planning
