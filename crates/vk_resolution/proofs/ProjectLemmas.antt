@@ -191,3 +191,36 @@ every_cause_needs = needs Projects.every_cause Projects.every_cause_needs (λ by
 
 pub every_cause_line_by_line : IsReasons Projects.every_cause Projects.every_cause_reasons
 every_cause_line_by_line = reasons Projects.every_cause (facts_of Projects.every_cause_reasons) Projects.every_cause_reasons refl refl
+
+pub own_host_tool : Reports Projects.own_host_tool Projects.own_host_tool_report
+own_host_tool = reports Projects.own_host_tool Projects.own_host_tool_report refl (λ bytes. refl)
+
+pub own_host_tool_needs : HasNeeds Projects.own_host_tool Projects.own_host_tool_needs
+own_host_tool_needs = needs Projects.own_host_tool Projects.own_host_tool_needs (λ bytes. refl)
+
+pub tied_cycles : Reports Projects.tied_cycles Projects.tied_cycles_report
+tied_cycles = reports Projects.tied_cycles Projects.tied_cycles_report refl (λ bytes. refl)
+
+pub shorter_cycle : Reports Projects.shorter_cycle Projects.shorter_cycle_report
+shorter_cycle = reports Projects.shorter_cycle Projects.shorter_cycle_report refl (λ bytes. refl)
+
+pub superseded_cycle : Reports Projects.superseded_cycle Projects.superseded_cycle_report
+superseded_cycle = reports Projects.superseded_cycle Projects.superseded_cycle_report refl (λ bytes. refl)
+
+pub superseded_support : Reports Projects.superseded_support Projects.superseded_support_report
+superseded_support = reports Projects.superseded_support Projects.superseded_support_report refl (λ bytes. refl)
+
+pub superseded_conflict : Reports Projects.superseded_conflict Projects.superseded_conflict_report
+superseded_conflict = reports Projects.superseded_conflict Projects.superseded_conflict_report refl (λ bytes. refl)
+
+pub superseded_manifest : Reports Projects.superseded_manifest Projects.superseded_manifest_report
+superseded_manifest = reports Projects.superseded_manifest Projects.superseded_manifest_report refl (λ bytes. refl)
+
+pub missing_override : Reports Projects.missing_override Projects.missing_override_report
+missing_override = reports Projects.missing_override Projects.missing_override_report refl (λ bytes. refl)
+
+pub raised_day : Reports Projects.raised_day Projects.raised_day_report
+raised_day = reports Projects.raised_day Projects.raised_day_report refl (λ bytes. refl)
+
+pub named_default_feature : IsReasons Projects.named_default_feature Projects.named_default_feature_reasons
+named_default_feature = reasons Projects.named_default_feature (facts_of Projects.named_default_feature_reasons) Projects.named_default_feature_reasons refl refl

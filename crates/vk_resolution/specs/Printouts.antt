@@ -92,3 +92,72 @@ realistic_told =
 -- one line
 abbrev pub single_line : List ℕ → List (List ℕ)
 single_line text = text ∷ []
+
+-- an overlay, whole
+abbrev pub overlaid_printed : List (List ℕ)
+overlaid_printed =
+    codes "vcpkg-plan 1"
+    ∷ codes "status planned"
+    ∷ codes "plan 1"
+    ∷ codes "1 b x64-linux 2#0 5 core"
+    ∷ codes "reasons 7"
+    ∷ codes "1 need . x64-linux core root"
+    ∷ codes "2 need . x64-linux default root"
+    ∷ codes "3 need b x64-linux core from 1"
+    ∷ codes "4 need b x64-linux default from 1"
+    ∷ codes "5 floor b 2#0 overlay 3"
+    ∷ codes "6 visit b x64-linux core 2#0 from 3 5"
+    ∷ codes "7 visit b x64-linux default 2#0 from 4 5"
+    ∷ codes "end"
+    ∷ []
+
+-- an override, whole
+abbrev pub overridden_printed : List (List ℕ)
+overridden_printed =
+    codes "vcpkg-plan 1"
+    ∷ codes "status planned"
+    ∷ codes "plan 3"
+    ∷ codes "1 s x64-linux alpha#0 15 core"
+    ∷ codes "2 p x64-linux 1#0 7 core"
+    ∷ codes "3 q x64-linux 1#0 8 core"
+    ∷ codes "reasons 17"
+    ∷ codes "1 need . x64-linux core root"
+    ∷ codes "2 need . x64-linux default root"
+    ∷ codes "3 need p x64-linux core from 1"
+    ∷ codes "4 need p x64-linux default from 1"
+    ∷ codes "5 need q x64-linux core from 1"
+    ∷ codes "6 need q x64-linux default from 1"
+    ∷ codes "7 floor p 1#0 baseline 3"
+    ∷ codes "8 floor q 1#0 baseline 5"
+    ∷ codes "9 visit p x64-linux core 1#0 from 3 7"
+    ∷ codes "10 visit p x64-linux default 1#0 from 4 7"
+    ∷ codes "11 visit q x64-linux core 1#0 from 5 8"
+    ∷ codes "12 visit q x64-linux default 1#0 from 6 8"
+    ∷ codes "13 need s x64-linux core from 9"
+    ∷ codes "14 need s x64-linux default from 9"
+    ∷ codes "15 floor s alpha#0 override 13"
+    ∷ codes "16 visit s x64-linux core alpha#0 from 13 15"
+    ∷ codes "17 visit s x64-linux default alpha#0 from 14 15"
+    ∷ codes "end"
+    ∷ []
+
+-- two minimums that the table lacks, whole
+abbrev pub two_missing_minimums_printed : List (List ℕ)
+two_missing_minimums_printed =
+    codes "vcpkg-plan 1"
+    ∷ codes "status refused"
+    ∷ codes "faults 2"
+    ∷ codes "no-version b 0.9#0 5"
+    ∷ codes "no-version b 0.9#1 6"
+    ∷ codes "reasons 9"
+    ∷ codes "1 need . x64-linux core root"
+    ∷ codes "2 need . x64-linux default root"
+    ∷ codes "3 need b x64-linux core from 1"
+    ∷ codes "4 need b x64-linux default from 1"
+    ∷ codes "5 floor b 0.9#0 minimum 1"
+    ∷ codes "6 floor b 0.9#1 minimum 1"
+    ∷ codes "7 floor b 1.0#0 baseline 3"
+    ∷ codes "8 visit b x64-linux core 1.0#0 from 3 7"
+    ∷ codes "9 visit b x64-linux default 1.0#0 from 4 7"
+    ∷ codes "end"
+    ∷ []

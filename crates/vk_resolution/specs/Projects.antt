@@ -863,3 +863,127 @@ every_cause_reasons =
     ∷ record { fact = need (inst (x64 d)) f; cause = by_one 47 }
     ∷ record { fact = visit (x64 d) f (ask one); cause = by_two 48 11 }
     ∷ []
+
+-- a port that is its own host tool: its instance for the target depends on the one for the host
+abbrev pub own_host_tool : Inputs
+own_host_tool = record {
+  setting = setting (root_with (on p ∷ [])) arm64_linux x64_linux [];
+  pages = pages_of (single p (for_host (on p) ∷ []) ∷ []);
+  at_most = at_most;
+}
+
+abbrev pub own_host_tool_report : Report
+own_host_tool_report = plans (planned_line p one 5 ∷ arm_line p 5 ∷ []) 11
+
+abbrev pub own_host_tool_needs : List (List ℕ)
+own_host_tool_needs = [] ∷ (0 ∷ []) ∷ []
+
+-- two shortest ways back: the walk goes to the least port
+abbrev pub tied_cycles : Inputs
+tied_cycles = project (on a ∷ []) (pages_of (single a (on b ∷ on c ∷ []) ∷ single b (on a ∷ []) ∷ single c (on a ∷ []) ∷ []))
+
+abbrev pub tied_cycles_report : Report
+tied_cycles_report = refuses (has_cycle (x64 a ∷ x64 b ∷ []) ∷ []) 17
+
+-- a shorter way back and a longer one: the walk takes the shorter
+abbrev pub shorter_cycle : Inputs
+shorter_cycle = project (on a ∷ []) (pages_of (single a (on b ∷ []) ∷ single b (on a ∷ on c ∷ []) ∷ single c (on a ∷ []) ∷ []))
+
+abbrev pub shorter_cycle_report : Report
+shorter_cycle_report = refuses (has_cycle (x64 a ∷ x64 b ∷ []) ∷ []) 17
+
+-- a's baseline version is superseded, since c asks for the next, which asks for nothing
+abbrev pub with_superseded : List (Dependency Condition) → Row Condition → List (List ℕ × Page Condition) → Inputs
+with_superseded ds before others = project ds (pages_of ((a, listed one_dot (before ∷ release a two_dot [] ∷ [])) ∷ single c (at_least a two_dot ∷ []) ∷ others))
+
+-- a cycle through a superseded version is none
+abbrev pub superseded_cycle : Inputs
+superseded_cycle = with_superseded (on a ∷ on b ∷ on c ∷ []) (release a one_dot (on b ∷ [])) (single b (on a ∷ []) ∷ [])
+
+abbrev pub superseded_cycle_report : Report
+superseded_cycle_report = plans (planned_line a two_dot 18 ∷ planned_line b one 10 ∷ planned_line c one 11 ∷ []) 20
+
+-- a version of a port that supports Windows alone
+abbrev pub windows_release : List ℕ → List ℕ → Row Condition
+windows_release port v = record {
+  version = version v;
+  manifest = Ok (record { name = Some port; version = Some (version v); supports = mark (codes "windows"); dependencies = []; default_features = []; features = []; overrides = [] });
+}
+
+-- what only a superseded version asks for may be unsupported
+abbrev pub superseded_support : Inputs
+superseded_support = with_superseded (on a ∷ on c ∷ []) (release a one_dot (at_least b three ∷ [])) ((b, listed one (windows_release b one ∷ windows_release b three ∷ [])) ∷ [])
+
+abbrev pub superseded_support_report : Report
+superseded_support_report = plans (planned_line a two_dot 15 ∷ planned_line c one 8 ∷ []) 23
+
+-- a conflict through a superseded version is told all the same
+abbrev pub superseded_conflict : Inputs
+superseded_conflict = with_superseded (on a ∷ on c ∷ []) (release a one_dot (at_least s beta ∷ [])) ((s, listed alpha (text_release s alpha ∷ text_release s beta ∷ [])) ∷ [])
+
+abbrev pub superseded_conflict_report : Report
+superseded_conflict_report = refuses (conflicts s (text_version alpha) 17 (text_version beta) 16 ∷ []) 23
+
+-- and so is a superseded version's manifest that can't be read
+abbrev pub superseded_manifest : Inputs
+superseded_manifest = with_superseded (on a ∷ on c ∷ []) (record { version = version one_dot; manifest = Err (bad_file manifest_path [] (codes "json")) }) []
+
+abbrev pub superseded_manifest_report : Report
+superseded_manifest_report = refuses (troubled (unreadable manifest_path [] (codes "json")) 9 ∷ []) 15
+
+-- an override that the table lacks
+abbrev pub missing_override : Inputs
+missing_override = record {
+  setting = setting (root_overriding (on b ∷ []) b (codes "9")) x64_linux x64_linux [];
+  pages = pages_of ((b, record { given = Ok (override (ask (codes "9"))); rows = release b one [] ∷ [] }) ∷ []);
+  at_most = at_most;
+}
+
+abbrev pub missing_override_report : Report
+missing_override_report = refuses (troubled (lacks_version b (ask (codes "9"))) 5 ∷ []) 5
+
+-- two minimums of one text that the table lacks
+abbrev pub two_missing_minimums : Inputs
+two_missing_minimums = project (at_least_port b (codes "0.9") 0 ∷ at_least_port b (codes "0.9") 1 ∷ []) (pages_of ((b, listed one_dot (release b one_dot [] ∷ [])) ∷ []))
+
+-- a root fact that also follows from another: its cause is `root`
+abbrev pub named_default_feature : Inputs
+named_default_feature = featured always (y ∷ []) true
+
+abbrev pub named_default_feature_reasons : List Reason
+named_default_feature_reasons =
+    record { fact = need (root (codes "x64-linux")) core; cause = by_root }
+    ∷ record { fact = need (root (codes "x64-linux")) default; cause = by_root }
+    ∷ record { fact = need (root (codes "x64-linux")) y; cause = by_root }
+    ∷ record { fact = need (inst (x64 b)) core; cause = by_one 3 }
+    ∷ record { fact = need (inst (x64 b)) default; cause = by_one 3 }
+    ∷ record { fact = floor b (ask one); cause = by_baseline 4 }
+    ∷ record { fact = visit (x64 b) core (ask one); cause = by_two 4 6 }
+    ∷ record { fact = visit (x64 b) default (ask one); cause = by_two 5 6 }
+    ∷ []
+
+-- a later day is above an earlier one
+abbrev pub later_day : List ℕ
+later_day = codes "2024-01-02"
+
+abbrev pub raised_day : Inputs
+raised_day = project (at_least a later_day ∷ []) (pages_of ((a, listed cmake_day (bare_row a (day_version cmake_day) ∷ bare_row a (day_version later_day) ∷ [])) ∷ []))
+
+abbrev pub raised_day_report : Report
+raised_day_report = plans (planned_line a later_day 5 ∷ []) 10
+
+-- a text of `version-string` with a port-version is above the same text without
+abbrev pub raised_port_version : Inputs
+raised_port_version = project (at_least_port s alpha 1 ∷ []) (pages_of ((s, listed alpha (text_release s alpha ∷ bare_row s (ported (text_version alpha) 1) ∷ [])) ∷ []))
+
+-- a manifest's version with a blank, which is printed escaped
+abbrev pub spaced_version : Inputs
+spaced_version = with_wrong (disagrees manifest_path field_text one_dot (codes "1 1"))
+
+-- a manifest that is wrong at a place within it
+abbrev pub wrong_at_a_place : Inputs
+wrong_at_a_place = with_wrong (bad_file manifest_path (codes "/dependencies/0") (codes "name"))
+
+-- two faults whose lines don't stand in the order of their ports
+abbrev pub two_failing_ports : Inputs
+two_failing_ports = project (on a ∷ on b ∷ []) (pages_of ((a, record { given = Err no_registry; rows = [] }) ∷ (b, record { given = Err no_baseline; rows = [] }) ∷ []))

@@ -2,7 +2,7 @@
 ghost use Rattle.vk_spec.specs.Versions.{IsOrder};
 ghost use Rattle.vk_resolution.specs.Reasons.{IsReasons};
 ghost use Rattle.vk_resolution.specs.Examples.{HasNeeds, Reports, ReportsAlone, at_most};
-ghost use Rattle.vk_resolution.specs.Projects.{below_baseline, below_baseline_report, builds_with_floor, builds_with_floor_report, conflict, conflict_report, conflict_by_text, conflict_by_text_report, cross_build, cross_build_report, cycle, cycle_report, damaged_manifest, damaged_manifest_report, damaged_overlay, damaged_overlay_report, default_feature, default_feature_report, dropped_feature, dropped_feature_report, early_feature, early_feature_report, every_cause, every_cause_needs, every_cause_reasons, every_cause_report, failed_override, failed_override_report, floors_by_text, floors_by_text_report, host_platform, host_platform_report, leads_in, leads_in_report, missing_feature, missing_feature_report, missing_minimum, missing_minimum_report, named_feature, named_feature_report, named_root, named_root_report, native_build, native_build_report, new_feature, new_feature_report, no_baseline_entry, no_baseline_entry_report, no_table, no_table_report, off_by_default_feature, off_by_default_feature_report, off_by_own_feature, off_by_own_feature_report, off_by_port, off_by_port_report, off_by_root, off_by_root_report, off_where_it_applies, off_where_it_applies_report, on_by_another, on_by_another_report, other_manifest, other_manifest_report, other_overlay, other_overlay_report, overlaid_port, overlaid_port_report, overridden, overridden_report, overridden_without_table, overridden_without_table_report, own_feature, own_feature_report, own_minimum, own_minimum_report, raised_minimum, raised_minimum_reasons, raised_minimum_report, realistic, realistic_needs, realistic_report, smallest, smallest_report, stale_baseline, stale_baseline_report, superseded_minimum, superseded_minimum_report, superseded_reach, superseded_reach_report, two_cycles, two_cycles_report, unrelated_builds, unrelated_builds_report, unserved, unserved_report, unsupported_feature, unsupported_feature_report, unsupported_port, unsupported_port_report, visits_by_feature, visits_by_feature_reasons};
+ghost use Rattle.vk_resolution.specs.Projects.{below_baseline, below_baseline_report, builds_with_floor, builds_with_floor_report, conflict, conflict_by_text, conflict_by_text_report, conflict_report, cross_build, cross_build_report, cycle, cycle_report, damaged_manifest, damaged_manifest_report, damaged_overlay, damaged_overlay_report, default_feature, default_feature_report, dropped_feature, dropped_feature_report, early_feature, early_feature_report, every_cause, every_cause_needs, every_cause_reasons, every_cause_report, failed_override, failed_override_report, floors_by_text, floors_by_text_report, host_platform, host_platform_report, leads_in, leads_in_report, missing_feature, missing_feature_report, missing_minimum, missing_minimum_report, missing_override, missing_override_report, named_default_feature, named_default_feature_reasons, named_feature, named_feature_report, named_root, named_root_report, native_build, native_build_report, new_feature, new_feature_report, no_baseline_entry, no_baseline_entry_report, no_table, no_table_report, off_by_default_feature, off_by_default_feature_report, off_by_own_feature, off_by_own_feature_report, off_by_port, off_by_port_report, off_by_root, off_by_root_report, off_where_it_applies, off_where_it_applies_report, on_by_another, on_by_another_report, other_manifest, other_manifest_report, other_overlay, other_overlay_report, overlaid_port, overlaid_port_report, overridden, overridden_report, overridden_without_table, overridden_without_table_report, own_feature, own_feature_report, own_host_tool, own_host_tool_needs, own_host_tool_report, own_minimum, own_minimum_report, raised_day, raised_day_report, raised_minimum, raised_minimum_reasons, raised_minimum_report, realistic, realistic_needs, realistic_report, shorter_cycle, shorter_cycle_report, smallest, smallest_report, stale_baseline, stale_baseline_report, superseded_conflict, superseded_conflict_report, superseded_cycle, superseded_cycle_report, superseded_manifest, superseded_manifest_report, superseded_minimum, superseded_minimum_report, superseded_reach, superseded_reach_report, superseded_support, superseded_support_report, tied_cycles, tied_cycles_report, two_cycles, two_cycles_report, unrelated_builds, unrelated_builds_report, unserved, unserved_report, unsupported_feature, unsupported_feature_report, unsupported_port, unsupported_port_report, visits_by_feature, visits_by_feature_reasons};
 
 /// The order on versions in these projects is an order, and what one reports is all that it can
 /// report.
@@ -37,10 +37,11 @@ pub fn failing_ports()
     ensures table { Reports overridden_without_table overridden_without_table_report }
 {}
 
-/// A minimum above the baseline is planned, with these fifteen reasons.
+/// A minimum above the baseline is planned, with these fifteen reasons, and so is a later day.
 pub fn a_raised_minimum()
     ensures planned { Reports raised_minimum raised_minimum_report }
     ensures reasons { IsReasons raised_minimum raised_minimum_reasons }
+    ensures day { Reports raised_day raised_day_report }
 {}
 
 /// A project with an override, an overlay, default features, a feature that asks of its own port,
@@ -58,10 +59,15 @@ pub fn lines_of_one_rank()
 {}
 
 /// A minimum that only a superseded version asks counts, and a port that only it asks for isn't
-/// planned.
+/// planned, whatever it supports. A cycle through such a version is none; a conflict is told, and a
+/// manifest that can't be read.
 pub fn superseded_versions()
     ensures minimum { Reports superseded_minimum superseded_minimum_report }
     ensures reach { Reports superseded_reach superseded_reach_report }
+    ensures cycle { Reports superseded_cycle superseded_cycle_report }
+    ensures support { Reports superseded_support superseded_support_report }
+    ensures conflict { Reports superseded_conflict superseded_conflict_report }
+    ensures manifest { Reports superseded_manifest superseded_manifest_report }
 {}
 
 /// Unrelated floors are a conflict, which an override or a floor above both settles; a version that
@@ -74,9 +80,10 @@ pub fn conflicts()
     ensures order { Reports conflict_by_text conflict_by_text_report }
 {}
 
-/// A minimum that the table lacks is told with its floor.
+/// A minimum that the table lacks is told with its floor, and so is an override.
 pub fn a_minimum_outside_the_table()
     ensures refused { Reports missing_minimum missing_minimum_report }
+    ensures overridden { Reports missing_override missing_override_report }
 {}
 
 /// A feature is asked of the chosen version, which may be the only one that has it, or the only one
@@ -98,19 +105,24 @@ pub fn default_features()
     ensures own { Reports off_by_own_feature off_by_own_feature_report }
 {}
 
-/// A host dependency is for the host triplet, and its platform is judged by the one that depends.
+/// A host dependency is for the host triplet, and its platform is judged by the one that depends;
+/// a port may depend on itself in this way.
 pub fn host_instances()
     ensures cross { Reports cross_build cross_build_report }
     ensures native { Reports native_build native_build_report }
     ensures platform { Reports host_platform host_platform_report }
+    ensures own { Reports own_host_tool own_host_tool_report }
+    ensures needs { HasNeeds own_host_tool own_host_tool_needs }
 {}
 
-/// A cycle is told from its least instance on, wherever one comes into it, and a port that asks for
-/// a feature of its own is none.
+/// A cycle is told from its least instance on, wherever one comes into it, by the shortest way back
+/// and of these by the least port; a port that asks for a feature of its own is none.
 pub fn cycles()
     ensures three { Reports cycle cycle_report }
     ensures two { Reports two_cycles two_cycles_report }
     ensures leads_in { Reports leads_in leads_in_report }
+    ensures tied { Reports tied_cycles tied_cycles_report }
+    ensures shorter { Reports shorter_cycle shorter_cycle_report }
     ensures own { Reports own_feature own_feature_report }
 {}
 
@@ -122,13 +134,14 @@ pub fn bad_files()
     ensures baseline { Reports stale_baseline stale_baseline_report }
 {}
 
-/// The words choose features of the root, and so does `default`; what a feature doesn't support is
-/// told, and a feature that isn't there.
+/// The words choose features of the root, and so does `default`, which may ask for one that the
+/// words name; what a feature doesn't support is told, and a feature that isn't there.
 pub fn root_features()
     ensures named { Reports named_feature named_feature_report }
     ensures by_default { Reports default_feature default_feature_report }
     ensures unsupported { Reports unsupported_feature unsupported_feature_report }
     ensures missing { Reports missing_feature missing_feature_report }
+    ensures both { IsReasons named_default_feature named_default_feature_reasons }
 {}
 
 /// A minimum on one's own port is a floor, but for the root, which is its own instance for the

@@ -46,3 +46,15 @@ returns-clause-root c = tells Projects.unsupported_feature (Printouts.single_lin
 pub returns-clause-cycle : goal.returns-clause-cycle
 unfolding token_of digits
 returns-clause-cycle c = tells Projects.cycle (Printouts.single_line (codes "cycle a x64-linux b x64-linux c x64-linux")) 17 refl
+
+pub returns-clause-escaped : goal.returns-clause-escaped
+unfolding token_of digits
+returns-clause-escaped c = tells Projects.spaced_version (Printouts.single_line (codes "disagrees reg/ports/a/1.0/vcpkg.json text 1.0 1%201 6")) 7 refl
+
+pub returns-clause-place : goal.returns-clause-place
+unfolding token_of digits
+returns-clause-place c = tells Projects.wrong_at_a_place (Printouts.single_line (codes "bad-file reg/ports/a/1.0/vcpkg.json /dependencies/0 name 6")) 7 refl
+
+pub returns-clause-sorted : goal.returns-clause-sorted
+unfolding token_of digits
+returns-clause-sorted c = tells Projects.two_failing_ports (codes "no-baseline b 5" ∷ codes "no-registry a 3" ∷ []) 6 refl

@@ -26,3 +26,7 @@ returns-clause-feature c = tells Projects.new_feature (codes "1 a x64-linux 2.0#
 pub returns-clause-own : goal.returns-clause-own
 unfolding token_of digits
 returns-clause-own c = tells Projects.own_feature (Printouts.single_line (codes "1 g x64-linux 1#0 6 core,x,y")) 11 refl
+
+pub returns-clause-port_version : goal.returns-clause-port_version
+unfolding token_of digits
+returns-clause-port_version c = tells Projects.raised_port_version (Printouts.single_line (codes "1 s x64-linux alpha#1 5 core")) 10 refl

@@ -1,4 +1,4 @@
-use Rattle.vk_resolution.proofs.ProjectLemmas.{cycle, two_cycles, leads_in, own_feature}
+use Rattle.vk_resolution.proofs.ProjectLemmas.{cycle, two_cycles, leads_in, own_feature, tied_cycles, shorter_cycle}
 use Rattle.vk_resolution.proofs.projects.cycles.Goals as goal
 
 pub returns-clause-three : goal.returns-clause-three
@@ -12,3 +12,9 @@ returns-clause-leads_in c = leads_in
 
 pub returns-clause-own : goal.returns-clause-own
 returns-clause-own c = own_feature
+
+pub returns-clause-tied : goal.returns-clause-tied
+returns-clause-tied c = tied_cycles
+
+pub returns-clause-shorter : goal.returns-clause-shorter
+returns-clause-shorter c = shorter_cycle
