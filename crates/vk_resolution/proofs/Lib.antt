@@ -33,3 +33,4 @@ pub mod MentionLemmas
 pub mod HeightLemmas
 pub mod PlannedVersionLemmas
 pub mod PlannerLemmas
+pub mod EdgeLemmas

@@ -31,3 +31,4 @@ pub mod Printouts
 pub mod FaultLaws
 pub mod Mentions
 pub mod Heights
+pub mod Edges
