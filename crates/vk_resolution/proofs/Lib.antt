@@ -34,3 +34,4 @@ pub mod HeightLemmas
 pub mod PlannedVersionLemmas
 pub mod PlannerLemmas
 pub mod EdgeLemmas
+pub mod TroubleLemmas

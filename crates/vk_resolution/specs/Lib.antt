@@ -32,3 +32,4 @@ pub mod FaultLaws
 pub mod Mentions
 pub mod Heights
 pub mod Edges
+pub mod TroubleLaws
