@@ -33,3 +33,4 @@ pub mod Mentions
 pub mod Heights
 pub mod Edges
 pub mod TroubleLaws
+pub mod ComputedLaws
