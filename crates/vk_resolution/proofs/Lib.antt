@@ -35,3 +35,4 @@ pub mod PlannedVersionLemmas
 pub mod PlannerLemmas
 pub mod EdgeLemmas
 pub mod TroubleLemmas
+pub mod CitationLemmas
