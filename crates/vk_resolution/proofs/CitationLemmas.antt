@@ -1,10 +1,10 @@
 -- The lines that a cause cites have the facts that it is found with.
-use Rattle.std.proofs.Common.{◌≡◌, ℕ, List, [], ◌∷◌, map, refl, ap, sym, ◌∙◌, subst}
+use Rattle.std.proofs.Common.{◌≡◌, ℕ, List, [], ◌∷◌, map, refl, ap, ◌∙◌, subst}
 use Rattle.std.specs.Prelude.{Some, option_map}
 use Rattle.vk_resolution.specs.Asking.{Fact}
-use Rattle.vk_resolution.specs.Consequences.{Cause, by_root, by_baseline, by_override, by_overlay, by_minimum, by_one, by_two}
-use Rattle.vk_resolution.specs.Reasons.{fact_at, with_facts, cited_by}
-use Rattle.vk_resolution.specs.Laws.{Cites, none, one_of_baseline, one_of_override, one_of_overlay, one_of_minimum, one, two, CitesFactsOf, CitedLinesAreThose}
+use Rattle.vk_resolution.specs.Consequences.{by_root, by_baseline, by_override, by_overlay, by_minimum, by_one, by_two}
+use Rattle.vk_resolution.specs.Reasons.{fact_at}
+use Rattle.vk_resolution.specs.Laws.{none, one_of_baseline, one_of_override, one_of_overlay, one_of_minimum, one, two, CitesFactsOf, CitedLinesAreThose}
 use Rattle.vk_resolution.proofs.Soundness.{then_some, map_some}
 
 -- one line, cited with any word

@@ -45,7 +45,7 @@ module _ (s : Setting) (who : Who) (f : List ℕ) (m : Manifest Condition) (d : 
   listed_by (by_core e h applies) = (subst (λ b. Contains (cond b m.dependencies (cond (bytes_eq f default) [] (dependencies_in (feature_of m f)))) d) (sym ((bytes_eq-Decides f core).1 e)) h, applies)
   listed_by (by_feature g not_core not_default found h applies) = (
     subst (λ b. Contains (cond b m.dependencies (cond (bytes_eq f default) [] (dependencies_in (feature_of m f)))) d) (sym (is_other_word f core not_core))
-    (subst (λ b. Contains (cond b [] (dependencies_in (feature_of m f))) d) (sym (is_other_word f default not_default)) (subst (λ o. Contains (dependencies_in o) d) (sym found) h)),
+        (subst (λ b. Contains (cond b [] (dependencies_in (feature_of m f))) d) (sym (is_other_word f default not_default)) (subst (λ o. Contains (dependencies_in o) d) (sym found) h)),
     applies,
   )
 

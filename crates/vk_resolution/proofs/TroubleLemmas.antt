@@ -1,5 +1,5 @@
 -- The troubles of the first phase are those of the table.
-use Rattle.std.proofs.Common.{◌≡◌, ◌≢◌, ℕ, true, List, [], ◌∷◌, refl, ap, sym, ◌∙◌, subst}
+use Rattle.std.proofs.Common.{◌≡◌, ◌≢◌, ℕ, List, [], refl, sym, subst}
 use Rattle.std.specs.Prelude.{Option, Some, None, option_map, Result, Ok, Err, IfErr}
 use Rattle.std.specs.List.{Contains}
 use Rattle.vk_spec.specs.Versions.{Version, Ask, ask_of, same_ask}
@@ -10,10 +10,10 @@ use Rattle.vk_spec.specs.Conditions.{Condition}
 use Rattle.vk_spec.specs.Settings.{Instance}
 use Rattle.vk_spec.proofs.ListLemmas.{contains_nothing, contains_first}
 use Rattle.vk_resolution.specs.Settings.{root, inst}
-use Rattle.vk_resolution.specs.Givens.{version_at, manifest_at}
+use Rattle.vk_resolution.specs.Givens.{manifest_at}
 use Rattle.vk_resolution.specs.Asking.{Fact, need, floor, visit}
 use Rattle.vk_resolution.specs.Consequences.{Inputs}
-use Rattle.vk_resolution.specs.Faults.{Trouble, lacks_registry, lacks_baseline, unreadable, lacks_version, differs, wrong_of, given_troubles, manifest_troubles, floor_troubles, troubles_of}
+use Rattle.vk_resolution.specs.Faults.{Trouble, lacks_version, wrong_of, given_troubles, manifest_troubles, floor_troubles, troubles_of}
 use Rattle.vk_resolution.specs.TroubleLaws.{IsTrouble, no_registry_serves, no_baseline_has, given_is_bad, given_disagrees, manifest_is_bad, manifest_disagrees, no_version_listed, TroublesMean}
 use Rattle.vk_resolution.proofs.Members.{contains_single, found_contains}
 use Rattle.vk_resolution.proofs.Soundness.{map_some}
