@@ -34,3 +34,6 @@ pub mod HeightLemmas
 pub mod PlannedVersionLemmas
 pub mod PlannerLemmas
 pub mod CauseLemmas
+pub mod EdgeLemmas
+pub mod TroubleLemmas
+pub mod CitationLemmas

@@ -12,7 +12,7 @@ use Rattle.vk_resolution.specs.Keys.{Key, key_cmp, Ascends, in_order}
 use Rattle.vk_resolution.specs.Settings.{same_instance}
 use Rattle.vk_resolution.specs.Planning.{instance_key, is_within, HasHeight, IsByHeight, has_way, IsOnCycle, IsFrom, IsNext, WalksOn, IsCycleFrom, IsCycle}
 use Rattle.vk_resolution.specs.Computed.{Numbered, numbered_key, least_from, on_cycle_within, first_on_cycle, with_way, head_of, next_by, walk_by, cycle_by}
-use Rattle.vk_resolution.specs.Walks.{Targets, EdgesStay, EdgesLeave, HeightsHaveNoCycle, NoCycleGivesHeights, TargetsAreLower, TargetsStandBefore, CycleExists, CycleIsFound, CycleIsOne, IsRound, IsShortestRound, CycleIsShortest}
+use Rattle.vk_resolution.specs.Walks.{Targets, EdgesStay, EdgesLeave, HeightsHaveNoCycle, NoCycleGivesHeights, TargetsAreLower, TargetsStandBefore, CycleExists, CycleIsFound, CycleIsOne, IsRound, RoundIsAWay, IsShortestRound, CycleIsShortest}
 use Rattle.vk_resolution.proofs.Members.{true_or_false, true_false, no_is_false, any_contains, contains_any, all_contains, not_all, found_contains, nothing_found, filter_map-contains}
 use Rattle.vk_resolution.proofs.Orders.{turned_back, before_both, in_order-contains}
 use Rattle.vk_resolution.proofs.LeastLemmas.{no_longer}
@@ -461,3 +461,11 @@ cycle_is_found targets instances ascends stay walk = (
       r.1 ∙ ap Some (cycle_is_one targets instances r.0 walk (cycle_is targets instances stay r.0 ascends r.1) is)
       ),
 )
+
+-- a round gives a way
+round_way : (targets : Targets) (first i : Instance) (rest : List Instance) → IsRound targets first i rest → has_way targets (suc (length rest)) i first ≡ true
+round_way targets first i [] round = edge_way targets zero i first first round ((same_instance-Decides first first).1 refl)
+round_way targets first i (j ∷ js) round = edge_way targets (suc (length js)) i j first round.0 (round_way targets first j js round.1)
+
+pub round_is_a_way : RoundIsAWay
+round_is_a_way targets first rest round = round_way targets first first rest round

@@ -1,5 +1,5 @@
 -- Laws of the definitions, over all settings, pages and orders.
-use Rattle.std.specs.Prelude.{◌≡◌, ◌≢◌, ◌<◌, ◌≤◌, ◌↔◌, ℕ, Bool, true, false, List, [], length, Some, Ok}
+use Rattle.std.specs.Prelude.{◌≡◌, ◌≢◌, ◌<◌, ◌≤◌, ◌↔◌, ℕ, Bool, true, false, List, [], ◌∷◌, map, length, Some, Ok}
 use Rattle.std.specs.List.{Contains}
 use Rattle.vk_spec.specs.Lists.{NoRepeats, IsWithin}
 use Rattle.vk_spec.specs.Versions.{Version, Ask, ask_of, IsOrder}
@@ -9,9 +9,9 @@ use Rattle.vk_resolution.specs.Least.{IsClosed, IsLeast}
 use Rattle.vk_resolution.specs.Settings.{inst}
 use Rattle.vk_resolution.specs.Givens.{version_at, is_pinned}
 use Rattle.vk_resolution.specs.Asking.{Fact, need, floor, visit}
-use Rattle.vk_resolution.specs.Consequences.{Inputs, rules_of}
+use Rattle.vk_resolution.specs.Consequences.{Inputs, rules_of, Cause, by_root, by_baseline, by_override, by_overlay, by_minimum, by_one, by_two}
 use Rattle.vk_resolution.specs.Choices.{floors_of, chosen_of, is_top, IsInConflict}
-use Rattle.vk_resolution.specs.Reasons.{Reason, facts_of, line_of, fact_at, IsReasons, IsDerivation, LeadsToRoots}
+use Rattle.vk_resolution.specs.Reasons.{Reason, facts_of, line_of, fact_at, with_facts, cited_by, IsReasons, IsDerivation, LeadsToRoots}
 use Rattle.vk_resolution.specs.Planning.{IsPlanned, planned_rules_of}
 use Rattle.vk_resolution.specs.Faults.{conflicts, first_faults_of, second_faults_of}
 
@@ -91,3 +91,24 @@ pub record StaysWithin (inputs : Inputs) (facts planned : List Fact) : Type 0 wh
 -- and all of them are among the facts
 abbrev pub PlanStaysWithin : Type 0
 PlanStaysWithin = (inputs : Inputs) → IsOrder inputs.at_most → (facts planned : List Fact) → IsLeast (rules_of inputs) facts → first_faults_of inputs facts ≡ [] → IsPlanned inputs facts planned → StaysWithin inputs facts planned
+
+-- a cause cites these, in order: a visit's cause two, a root fact's none, any other one
+pub data Cites {C : Type 0} : Cause C → List C → Type 0 where
+  none : Cites by_root []
+  one_of_baseline : (x : C) → Cites (by_baseline x) (x ∷ [])
+  one_of_override : (x : C) → Cites (by_override x) (x ∷ [])
+  one_of_overlay : (x : C) → Cites (by_overlay x) (x ∷ [])
+  one_of_minimum : (x : C) → Cites (by_minimum x) (x ∷ [])
+  one : (x : C) → Cites (by_one x) (x ∷ [])
+  two : (x y : C) → Cites (by_two x y) (x ∷ y ∷ [])
+
+-- where a cause is found with facts in place of lines, these are the facts on the lines that it cites, in order
+pub record CitesFactsOf (facts : List Fact) (cause : Cause ℕ) (cited : Cause Fact) : Type 0 where
+  pub lines : Cites cause (cited_by cause)
+  pub those : List Fact
+  pub cites : Cites cited those
+  pub stand : map (fact_at facts) (cited_by cause) ≡ map Some those
+
+-- the lines that are cited are those
+abbrev pub CitedLinesAreThose : Type 0
+CitedLinesAreThose = (facts : List Fact) (cause : Cause ℕ) (cited : Cause Fact) → with_facts facts cause ≡ Some cited → CitesFactsOf facts cause cited

@@ -32,3 +32,6 @@ pub mod Printouts
 pub mod FaultLaws
 pub mod Mentions
 pub mod Heights
+pub mod Edges
+pub mod TroubleLaws
+pub mod ComputedLaws

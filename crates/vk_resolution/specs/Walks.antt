@@ -72,3 +72,7 @@ CycleIsShortest = (targets : Targets) (instances : List Instance) → EdgesLeave
 -- an order by heights is one list
 abbrev pub HeightOrderIsOne : Type 0
 HeightOrderIsOne = (targets : Targets) (one other : List Instance) → IsByHeight targets one → IsByHeight targets other → ((i : Instance) → Contains one i → (n : ℕ) × HasHeight targets n i) → IsWithin one other → IsWithin other one → one ≡ other
+
+-- a round is a way back, of one edge for each of its instances
+abbrev pub RoundIsAWay : Type 0
+RoundIsAWay = (targets : Targets) (first : Instance) (rest : List Instance) → IsRound targets first first rest → has_way targets (length (first ∷ rest)) first first ≡ true

@@ -8,6 +8,8 @@
 mod agreement;
 mod choices;
 mod closures;
+mod computed;
+mod edges;
 mod faults;
 mod features;
 mod heights;
@@ -27,6 +29,8 @@ mod walks;
 pub use agreement::only_what_was_asked_matters;
 pub use choices::a_choice_is_the_least_version_allowed;
 pub use closures::a_closure_is_one_or_has_too_many_facts;
+pub use computed::what_is_computed_is_what_is_defined;
+pub use edges::an_edge_is_a_dependency;
 pub use faults::fault_lines_mean_what_they_say;
 pub use features::asked_features_are_mentioned;
 pub use heights::a_height_is_one_more_than_those_below;

@@ -1,4 +1,5 @@
 use Rattle.vk_resolution.proofs.CertificateLemmas.{certificate_is_least}
+use Rattle.vk_resolution.proofs.CitationLemmas.{cited_lines_are_those}
 use Rattle.vk_resolution.proofs.Derivations.{reasons_derived, derivation_leads}
 use Rattle.vk_resolution.proofs.LineLemmas.{lines_are_numbers}
 use Rattle.vk_resolution.proofs.reasons.reasons_show_what_they_claim.Goals as goal
@@ -14,3 +15,6 @@ returns-clause-least c = certificate_is_least
 
 pub returns-clause-lines : goal.returns-clause-lines
 returns-clause-lines c = lines_are_numbers
+
+pub returns-clause-cited : goal.returns-clause-cited
+returns-clause-cited c = cited_lines_are_those

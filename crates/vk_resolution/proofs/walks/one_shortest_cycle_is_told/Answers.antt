@@ -1,4 +1,4 @@
-use Rattle.vk_resolution.proofs.WalkLemmas.{cycle_exists, cycle_is_found, cycle_is_one, cycle_is_shortest}
+use Rattle.vk_resolution.proofs.WalkLemmas.{cycle_exists, cycle_is_found, cycle_is_one, cycle_is_shortest, round_is_a_way}
 use Rattle.vk_resolution.proofs.walks.one_shortest_cycle_is_told.Goals as goal
 
 pub returns-clause-exists : goal.returns-clause-exists
@@ -12,3 +12,6 @@ returns-clause-one c = cycle_is_one
 
 pub returns-clause-shortest : goal.returns-clause-shortest
 returns-clause-shortest c = cycle_is_shortest
+
+pub returns-clause-round : goal.returns-clause-round
+returns-clause-round c = round_is_a_way
