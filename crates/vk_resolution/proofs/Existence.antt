@@ -32,6 +32,8 @@ use Rattle.vk_resolution.proofs.Rounds.{least_exists}
 use Rattle.vk_resolution.proofs.FactLemmas.{fact_key-IsKey, instance_key-IsKey, same_fact-Decides, same_instance-Decides}
 use Rattle.vk_resolution.proofs.Derivations.{line_found, cause_found, HasCause, step_cites, CitesOnly, cites_baseline, cites_override, cites_overlay, cites_minimum, cites_one, is_visit_fact, two_no_other}
 use Rattle.vk_resolution.proofs.Soundness.{reasons_are, plan_is, nothing_or, order_is, least_none}
+use Rattle.vk_resolution.proofs.SentenceLemmas.{is_depends}
+use Rattle.vk_resolution.proofs.EdgeLemmas.{edge_is}
 use Rattle.vk_resolution.proofs.PlanLemmas.{plan_exists, plan_stays_within}
 use Rattle.vk_resolution.proofs.ServiceLemmas.{plan_serves}
 use Rattle.vk_resolution.proofs.AgreementLemmas.{least_follows, visit_parts}
@@ -115,57 +117,22 @@ module _ (inputs : Inputs) (facts chosen : List Fact) (is_planned : IsPlanned in
   pub need_instance : (i : Instance) (f : List ℕ) → Contains chosen (need (inst i) f) → Contains (instances_of chosen) i
   need_instance i f h = in_order-contains instance_key instance_key-IsKey (flat_map needed_in chosen) i (flat_map-contains needed_in chosen (need (inst i) f) i h (contains_first i []))
 
-  -- an edge comes from an applicable dependency on another instance
-  pub record EdgeParts (i j : Instance) : Type 0 where
-    pub f : List ℕ
-    pub a : Ask
-    pub visited : Contains chosen (visit i f a)
-    pub m : Manifest Condition
-    pub manifest : manifest_at inputs.pages i.port a ≡ Some (Ok m)
-    pub d : Dependency Condition
-    pub applies : Contains (applicable_of inputs.setting (inst i) f m) d
-    pub leads : instance_of inputs.setting (inst i) d ≡ j
-    pub other : same_instance j i ≡ false
-
-  edge_in : (i j k : Instance) (f : List ℕ) (a : Ask) → Contains chosen (visit k f a) → k ≡ i → (manifest : Option (Result (Manifest Condition) Wrong)) → manifest_at inputs.pages k.port a ≡ manifest
-      → Contains (filter (λ l. not (same_instance l k)) (targets_in inputs.setting k f manifest)) j → EdgeParts i j
-  edge_in i j k f a h same None e at = absurd (contains_nothing j at)
-  edge_in i j k f a h same (Some (Err wrong)) e at = absurd (contains_nothing j at)
-  edge_in i j k f a h same (Some (Ok m)) e at =
-      let r = contains_filter (λ l. not (same_instance l k)) (map (instance_of inputs.setting (inst k)) (applicable_of inputs.setting (inst k) f m)) j at in
-      let q = contains_map (instance_of inputs.setting (inst k)) (applicable_of inputs.setting (inst k) f m) j r.0 in
-      subst (λ l. EdgeParts l j) same (record { f = f; a = a; visited = h; m = m; manifest = e; d = q.0; applies = q.1; leads = q.2; other = not_true (same_instance j k) r.1 })
-
-  edge_case : (i j k : Instance) (f : List ℕ) (a : Ask) (b : Bool) → same_instance k i ≡ b → Contains chosen (visit k f a) → Contains (cond b (filter (λ l. not (same_instance l k)) (targets_in inputs.setting k f (manifest_at inputs.pages k.port a))) []) j → EdgeParts i j
-  edge_case i j k f a true e h at = edge_in i j k f a h ((same_instance-Decides k i).0 e) (manifest_at inputs.pages k.port a) refl at
-  edge_case i j k f a false e h at = absurd (contains_nothing j at)
-
-  edge_at : (i j : Instance) (x : Fact) → Contains chosen x → Contains (targets_at inputs i x) j → EdgeParts i j
-  edge_at i j (need who f) h at = absurd (contains_nothing j at)
-  edge_at i j (floor p a) h at = absurd (contains_nothing j at)
-  edge_at i j (visit k f a) h at = edge_case i j k f a (same_instance k i) refl h at
-
-  pub edge_parts : (i j : Instance) → Contains (targets_of inputs chosen i) j → EdgeParts i j
-  edge_parts i j h = let r = contains-flat_map (targets_at inputs i) chosen j h in edge_at i j r.0 r.1 r.2
-
   edge_leaves : (i : Instance) → Contains (targets_of inputs chosen i) i → ⊥
-  edge_leaves i h = let p = edge_parts i i h in true_false (same_instance i i) ((same_instance-Decides i i).1 refl) p.other
+  edge_leaves i h = (edge_is inputs chosen i i h).other refl
 
   edge_stays : (i : Instance) → Contains (instances_of chosen) i → IsWithin (targets_of inputs chosen i) (instances_of chosen)
   edge_stays i listed j h =
-      let p = edge_parts i j h in
+      let p = edge_is inputs chosen i j h in
       let k : Instance = instance_of inputs.setting (inst i) p.d in
-      let other : same_instance i k ≡ false = no_is_false (same_instance i k) (λ same. (
-      let is : i ≡ k = (same_instance-Decides i k).0 same in
-      true_false (same_instance j i) ((same_instance-Decides j i).1 (sym p.leads ∙ sym is)) p.other
-      )) in
+      let other : same_instance i k ≡ false = no_is_false (same_instance i k) (λ same. p.other (sym p.leads ∙ sym ((same_instance-Decides i k).0 same))) in
+      let applies : Contains (applicable_of inputs.setting (inst i) p.f p.m) p.d = is_depends inputs.setting (inst i) p.f p.m p.d p.depends in
       let marks : List (List ℕ) = marks_of inputs.setting i.triplet in
       let here : Contains (asked_by inputs.setting (inst i) p.d) (need (inst k) core) =
       subst (λ b. Contains (cond b (asked_of_own (inst i) marks p.d) (asked_of_other inputs.setting marks k p.d)) (need (inst k) core)) (sym other)
       (contains_first (need (inst k) core) (cond (is_off inputs.setting k) [] (need (inst k) default ∷ []) ++ map (need (inst k)) (names_of marks p.d.features) ++ floor_of k.port p.d.minimum)) in
       let asked : Contains (asked_of inputs.setting (inst i) p.f p.m) (need (inst k) core) =
       Contains-append_left (flat_map (asked_by inputs.setting (inst i)) (applicable_of inputs.setting (inst i) p.f p.m)) (map (need (inst i)) (defaults_of inputs.setting (inst i) p.f p.m)) (need (inst k) core)
-      (flat_map-contains (asked_by inputs.setting (inst i)) (applicable_of inputs.setting (inst i) p.f p.m) p.d (need (inst k) core) p.applies here) in
+      (flat_map-contains (asked_by inputs.setting (inst i)) (applicable_of inputs.setting (inst i) p.f p.m) p.d (need (inst k) core) applies here) in
       let in_at : Contains (filter is_need (asked_at inputs i p.f p.a)) (need (inst k) core) =
       subst (λ o. Contains (filter is_need (asked_in inputs.setting i p.f o)) (need (inst k) core)) (sym p.manifest) (filter_contains is_need (asked_of inputs.setting (inst i) p.f p.m) (need (inst k) core) asked refl) in
       let planned_need : Contains chosen (need (inst k) core) = is_planned.closed.steps (need (inst k) core) (from_one (visit i p.f p.a) p.visited in_at) in

@@ -23,7 +23,8 @@ use Rattle.vk_resolution.proofs.Soundness.{numbered_key-IsKey, by_height, item_i
 use Rattle.vk_resolution.proofs.WalkLemmas.{no_cycle_gives_heights}
 use Rattle.vk_resolution.proofs.FactLemmas.{fact_key-IsKey, same_instance-Decides}
 use Rattle.vk_resolution.proofs.AgreementLemmas.{least_follows}
-use Rattle.vk_resolution.proofs.Existence.{all_some_there, item_there, need_instance, edge_parts, planned_edges}
+use Rattle.vk_resolution.proofs.Existence.{all_some_there, item_there, need_instance, planned_edges}
+use Rattle.vk_resolution.proofs.EdgeLemmas.{edge_is}
 use Rattle.vk_resolution.proofs.Uniqueness.{SameMembers, planned_members, instances_same, items_one, any_same, places_same, place_passes, get_contains, height_to, by_height_to, cycle_to}
 
 -- a planned visit is of a planned need
@@ -55,7 +56,7 @@ module _ (inputs : Inputs) (facts planned : List Fact) (is_planned : IsPlanned i
 
   -- an edge leaves a planned instance
   edge_planned : (i j : Instance) → Contains (targets_of inputs planned i) j → Contains (instances_of planned) i
-  edge_planned i j h = let p = edge_parts inputs facts planned is_planned i j h in need_instance inputs facts planned is_planned i p.f (visit_needed i p.f p.a p.visited)
+  edge_planned i j h = let p = edge_is inputs planned i j h in need_instance inputs facts planned is_planned i p.f (visit_needed i p.f p.a p.visited)
 
 -- where something stands in a list
 place_of : {X : Type 0} (xs : List X) (x : X) → Contains xs x → (n : ℕ) × (slice_get xs n ≡ Some x)

@@ -52,12 +52,12 @@ module _ (s : Setting) (who : Who) (f : List ℕ) (m : Manifest Condition) where
   depends_by false true d e k h applies = absurd (contains_nothing d h)
   depends_by false false d e k h applies = let r = feature_there (feature_of m f) d h in by_feature r.0 (differs_from f core e) (differs_from f default k) r.1 r.2 applies
 
-  depends_is : (d : Dependency Condition) → Contains (applicable_of s who f m) d → Depends s who f m d
+  pub depends_is : (d : Dependency Condition) → Contains (applicable_of s who f m) d → Depends s who f m d
   depends_is d h =
       let r = contains_filter (λ (k : Dependency Condition). holds k.platform (marks_of s (triplet_of who))) (dependencies_of m f) d h in
       depends_by (bytes_eq f core) (bytes_eq f default) d refl refl r.0 r.1
 
-  is_depends : (d : Dependency Condition) → Depends s who f m d → Contains (applicable_of s who f m) d
+  pub is_depends : (d : Dependency Condition) → Depends s who f m d → Contains (applicable_of s who f m) d
   is_depends d (by_core e h applies) =
       filter_contains (λ (k : Dependency Condition). holds k.platform (marks_of s (triplet_of who))) (dependencies_of m f) d
       (subst (λ b. Contains (cond b m.dependencies (cond (bytes_eq f default) [] (dependencies_in (feature_of m f)))) d) (sym (is_same f core e)) h) applies
