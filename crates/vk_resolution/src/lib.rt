@@ -8,6 +8,7 @@
 mod agreement;
 mod choices;
 mod closures;
+mod corners;
 mod faults;
 mod features;
 mod heights;
@@ -27,6 +28,10 @@ mod walks;
 pub use agreement::only_what_was_asked_matters;
 pub use choices::a_choice_is_the_least_version_allowed;
 pub use closures::a_closure_is_one_or_has_too_many_facts;
+pub use corners::{
+    a_version_by_its_port_version, facts_of_one_rank, marks_of_the_host, ports_that_are_not_pinned,
+    what_the_root_asks_of_itself,
+};
 pub use faults::fault_lines_mean_what_they_say;
 pub use features::asked_features_are_mentioned;
 pub use heights::a_height_is_one_more_than_those_below;
