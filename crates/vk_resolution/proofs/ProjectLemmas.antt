@@ -15,14 +15,14 @@ use Rattle.vk_resolution.proofs.OffLists.{off_listed}
 use Rattle.vk_resolution.proofs.Uniqueness.{outcome_is_one}
 
 -- what is computed is reported
-reports : (inputs : Inputs) (report : Report) → off_list_by inputs.setting 5 ≡ Some inputs.setting.off → ((bytes : Printing) → option_map report_of (outcome_by inputs bytes 12) ≡ Some report) → Reports inputs report
+pub reports : (inputs : Inputs) (report : Report) → off_list_by inputs.setting 5 ≡ Some inputs.setting.off → ((bytes : Printing) → option_map report_of (outcome_by inputs bytes 12) ≡ Some report) → Reports inputs report
 reports inputs report off computed = record {
   off = off_listed inputs.setting 5 off;
   outcome = λ bytes. (let r = map_some report_of (outcome_by inputs bytes 12) report (computed bytes) in (r.0, outcome_is inputs bytes 12 r.0 r.1, r.2));
 }
 
 -- the reasons that are computed are the reasons
-reasons : (inputs : Inputs) (facts : List Fact) (lines : List Reason) → if_closed (rules_of inputs) fact_key (round (rules_of inputs) fact_key 12) ≡ Some facts → reasons_by inputs facts ≡ Some lines → IsReasons inputs lines
+pub reasons : (inputs : Inputs) (facts : List Fact) (lines : List Reason) → if_closed (rules_of inputs) fact_key (round (rules_of inputs) fact_key 12) ≡ Some facts → reasons_by inputs facts ≡ Some lines → IsReasons inputs lines
 reasons inputs facts lines closed computed = (reasons_are inputs facts lines (closed_round (rules_of inputs) fact_key fact_key-IsKey 12 facts closed) computed).1
 
 pub raised_minimum_line_by_line : IsReasons Projects.raised_minimum Projects.raised_minimum_reasons

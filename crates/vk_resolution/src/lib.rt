@@ -10,6 +10,7 @@ mod choices;
 mod closures;
 mod computed;
 mod edges;
+mod corners;
 mod faults;
 mod features;
 mod heights;
@@ -31,6 +32,10 @@ pub use choices::a_choice_is_the_least_version_allowed;
 pub use closures::a_closure_is_one_or_has_too_many_facts;
 pub use computed::what_is_computed_is_what_is_defined;
 pub use edges::an_edge_is_a_dependency;
+pub use corners::{
+    a_version_by_its_port_version, facts_of_one_rank, marks_of_the_host, ports_that_are_not_pinned,
+    what_the_root_asks_of_itself,
+};
 pub use faults::fault_lines_mean_what_they_say;
 pub use features::asked_features_are_mentioned;
 pub use heights::a_height_is_one_more_than_those_below;
