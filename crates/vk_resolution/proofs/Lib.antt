@@ -33,3 +33,5 @@ pub mod MentionLemmas
 pub mod HeightLemmas
 pub mod PlannedVersionLemmas
 pub mod PlannerLemmas
+pub mod FactOrderLemmas
+pub mod RootFactLemmas

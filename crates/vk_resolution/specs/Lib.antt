@@ -31,3 +31,5 @@ pub mod Printouts
 pub mod FaultLaws
 pub mod Mentions
 pub mod Heights
+pub mod FactOrder
+pub mod RootLaws

@@ -8,6 +8,7 @@
 mod agreement;
 mod choices;
 mod closures;
+mod facts;
 mod faults;
 mod features;
 mod heights;
@@ -19,6 +20,7 @@ mod plans;
 mod printouts;
 mod projects;
 mod reasons;
+mod roots;
 mod selections;
 mod sentences;
 mod superseded;
@@ -27,6 +29,7 @@ mod walks;
 pub use agreement::only_what_was_asked_matters;
 pub use choices::a_choice_is_the_least_version_allowed;
 pub use closures::a_closure_is_one_or_has_too_many_facts;
+pub use facts::facts_come_in_order;
 pub use faults::fault_lines_mean_what_they_say;
 pub use features::asked_features_are_mentioned;
 pub use heights::a_height_is_one_more_than_those_below;
@@ -50,6 +53,7 @@ pub use projects::{
     the_smallest_project,
 };
 pub use reasons::reasons_show_what_they_claim;
+pub use roots::the_root_is_asked_what_it_says;
 pub use selections::choices_are_made_or_conflicts_told;
 pub use sentences::rules_mean_their_sentences;
 pub use superseded::superseded_versions_count_and_go;
