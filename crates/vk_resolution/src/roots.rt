@@ -1,8 +1,10 @@
 //! Laws of the root.
-ghost use Rattle.vk_resolution.specs.RootLaws.{RootFactsMean};
+ghost use Rattle.vk_resolution.specs.RootLaws.{RootFactsMean, RootFeaturesAreNeeded};
 
 /// What all else follows from is the root's need of `core`, of the features of the words, and of
 /// `default` unless it is switched off.
+/// The features of the root that are needed are those that are asked of it.
 pub fn the_root_is_asked_what_it_says()
     ensures facts { RootFactsMean }
+    ensures needed { RootFeaturesAreNeeded }
 {}
