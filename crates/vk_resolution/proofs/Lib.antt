@@ -35,3 +35,6 @@ pub mod PlannedVersionLemmas
 pub mod PlannerLemmas
 pub mod FactOrderLemmas
 pub mod RootFactLemmas
+pub mod RootNameLemmas
+pub mod MarkLemmas
+pub mod PinLemmas

@@ -33,3 +33,5 @@ pub mod Mentions
 pub mod Heights
 pub mod FactOrder
 pub mod RootLaws
+pub mod MarkLaws
+pub mod PinLaws

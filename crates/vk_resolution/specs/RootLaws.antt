@@ -24,3 +24,23 @@ RootFactsMean = (s : Setting) (x : Fact) → Contains (root_facts_of s) x ↔ Is
 abbrev pub RootFeaturesAreNeeded : Type 0
 RootFeaturesAreNeeded = (inputs : Inputs) (facts : List Fact) (f : List ℕ) → IsLeast (rules_of inputs) facts
     → Contains facts (need (root inputs.setting.target.name) f) ↔ IsAskedOfRoot inputs.setting f
+
+-- an asked feature of the root depends on another instance, and that is this one
+pub record DependsOnAnother (s : Setting) (d : Dependency Condition) (j : Instance) : Type 0 where
+  pub feature : List ℕ
+  pub asked : IsAskedOfRoot s feature
+  pub depends : Depends s (root s.target.name) feature s.root d
+  pub another : IsOnAnother s (root s.target.name) d
+  pub is : instance_of s (root s.target.name) d ≡ j
+
+-- the root names an instance where this is so
+abbrev pub NamedMeans : Type 0
+NamedMeans = (s : Setting) (d : Dependency Condition) (j : Instance) → IsNamedByRoot s d j ↔ DependsOnAnother s d j
+
+-- the setting with another off list
+abbrev pub with_off : Setting → List Instance → Setting
+with_off s off = record { root = s.root; target = s.target; host = s.host; features = s.features; defaults = s.defaults; off = off; max_facts = s.max_facts }
+
+-- two off lists of one setting have the same members
+abbrev pub OffListIsOne : Type 0
+OffListIsOne = (s : Setting) (one other : List Instance) → ListsOff (with_off s one) → ListsOff (with_off s other) → (j : Instance) → Contains one j ↔ Contains other j

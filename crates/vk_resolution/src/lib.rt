@@ -13,6 +13,7 @@ mod faults;
 mod features;
 mod heights;
 mod least;
+mod meanings;
 mod outcomes;
 mod planned_sets;
 mod planner;
@@ -37,6 +38,7 @@ pub use least::{
     a_derived_list_is_the_least, a_round_needs_the_fresh_facts_alone, an_order_is_one,
     there_is_one_least_list,
 };
+pub use meanings::{a_pinned_port_has_an_overlay_or_an_override, marks_hold_for_their_triplet};
 pub use outcomes::{orders_are_total, there_is_one_outcome};
 pub use planned_sets::a_planned_set_in_order_is_the_plan;
 pub use planner::{a_plan_keeps_its_promises, a_project_has_one_report, the_premises_are_met};
@@ -53,7 +55,7 @@ pub use projects::{
     the_smallest_project,
 };
 pub use reasons::reasons_show_what_they_claim;
-pub use roots::the_root_is_asked_what_it_says;
+pub use roots::{the_root_is_asked_what_it_says, the_root_names_what_it_depends_on};
 pub use selections::choices_are_made_or_conflicts_told;
 pub use sentences::rules_mean_their_sentences;
 pub use superseded::superseded_versions_count_and_go;
