@@ -10,7 +10,7 @@ use Rattle.std.proofs.lemmas.Cmp.{nat_list_cmp_total}
 use Rattle.vk_spec.specs.Versions.{Ask}
 use Rattle.vk_spec.specs.Settings.{Instance}
 use Rattle.vk_resolution.specs.Keys.{Key, key_cmp}
-use Rattle.vk_resolution.specs.Settings.{Who, root, inst}
+use Rattle.vk_resolution.specs.Settings.{root, inst}
 use Rattle.vk_resolution.specs.Asking.{Fact, need, floor, visit, fact_key}
 use Rattle.vk_resolution.specs.FactOrder.{IsTextBefore, BeforeOrThen, IsAskBefore, InstanceBeforeOrThen, FactComesBefore, need_before_floor, need_before_visit, floor_before_visit, root_before_instance, of_root, of_instances, of_floors, of_visits, FactsComeInOrder}
 

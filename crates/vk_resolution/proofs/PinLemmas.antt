@@ -1,8 +1,6 @@
 -- When the tests say that a port is pinned.
-use Rattle.std.proofs.Common.{◌≡◌, ℕ, true, List, [], ◌∷◌, ◌++◌, ◌-◌, ◌+◌, length, take, drop, inl, inr, refl, ap, sym, ◌∙◌, subst, arith}
+use Rattle.std.proofs.Common.{◌≡◌, ℕ, true, List, [], ◌∷◌, ◌++◌, ◌-◌, ◌+◌, length, take, drop, inl, inr, refl, ap, sym, ◌∙◌, arith}
 use Rattle.std.specs.Prelude.{Result, Ok, Err, bytes_eq, codes}
-use Rattle.std.specs.List.{Contains}
-use Rattle.std.specs.Cmp.Lexicographic.{pointwise}
 use Rattle.std.proofs.lemmas.List.{take-append-drop, length-append}
 use Rattle.std.proofs.Math.Seq.{drop-append_seam}
 use Rattle.std.proofs.lemmas.Slice.Eq.{bytes_eq-Decides}
@@ -11,7 +9,7 @@ use Rattle.vk_spec.specs.Manifests.{Override}
 use Rattle.vk_spec.specs.Pages.{Wrong, no_registry, no_baseline, bad_file, disagrees, Given, overlay, override, baseline, has_override, is_overlay_file, is_pinned_by}
 use Rattle.vk_spec.specs.Settings.{Setting}
 use Rattle.vk_resolution.specs.Givens.{Pages, is_pinned}
-use Rattle.vk_resolution.specs.PinLaws.{HasOverride, IsInOverlay, IsPinned, by_overlay, by_override, by_name, by_bad_overlay, by_failed_override, OverridesMean, OverlayFilesMean, PinnedMeans}
+use Rattle.vk_resolution.specs.PinLaws.{IsInOverlay, IsPinned, by_overlay, by_override, by_name, by_bad_overlay, by_failed_override, OverridesMean, OverlayFilesMean, PinnedMeans}
 use Rattle.vk_resolution.proofs.Members.{any_contains, contains_any, or_true, or_left, or_right}
 use Rattle.vk_resolution.proofs.Orders.{same_key-Decides}
 

@@ -8,7 +8,7 @@ use Rattle.vk_spec.specs.Versions.{Ask}
 use Rattle.vk_spec.specs.Manifests.{Manifest, Dependency, core, default}
 use Rattle.vk_spec.specs.Settings.{Setting, Instance}
 use Rattle.vk_spec.proofs.ListLemmas.{contains_nothing, contains_first, contains_later, contains_cases, contains-flat_map, flat_map-contains}
-use Rattle.vk_resolution.specs.Least.{FollowsFrom, from_one, from_two, IsReached, IsLeast}
+use Rattle.vk_resolution.specs.Least.{from_one, from_two, IsReached, IsLeast}
 use Rattle.vk_resolution.specs.Settings.{Marks, root, inst, marks_of, instance_of, is_own, is_off, applicable_of, names_of, defaults_of, asked_of_root_by, first_features_of, root_rules_of, IsAskedOfRoot}
 use Rattle.vk_resolution.specs.Asking.{Fact, need, floor, visit, fact_key, floor_of, asked_of_other, asked_of_own, asked_by, asked_of, root_facts_of}
 use Rattle.vk_resolution.specs.Consequences.{Inputs, rules_of}
@@ -155,8 +155,7 @@ module _ (inputs : Inputs) where
   required_is y _ f e (asked_by_root t g x h asks kept) =
       let asked : Contains (asked_of inputs.setting (root t) g inputs.setting.root) (need (root triplet) f) =
       subst (Contains (asked_of inputs.setting (root t) g inputs.setting.root)) e ((asked_means inputs.setting (root t) g inputs.setting.root x).1 asks) in
-      let r = asked_feature inputs.setting t triplet g f asked in
-      (
+      let r = asked_feature inputs.setting t triplet g f asked in (
         g,
         contains_single y (need (root t) g) h ∙ ap (λ k. need (root k) g) r.0,
         subst (λ k. Contains (features_asked inputs.setting k g) f) r.0 r.1,

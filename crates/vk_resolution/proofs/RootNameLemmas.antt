@@ -7,7 +7,7 @@ use Rattle.vk_spec.specs.Conditions.{Condition, holds}
 use Rattle.vk_spec.specs.Manifests.{Manifest, Dependency, Feature, core, default}
 use Rattle.vk_spec.specs.Settings.{Setting, Instance}
 use Rattle.vk_spec.proofs.ListLemmas.{contains_nothing}
-use Rattle.vk_resolution.specs.Settings.{root, inst, marks_of, instance_of, is_root, is_own, feature_of, dependencies_in, dependencies_of, applicable_of, IsNamedByRoot, IsOff, ListsOff}
+use Rattle.vk_resolution.specs.Settings.{root, marks_of, instance_of, is_root, is_own, feature_of, dependencies_in, dependencies_of, applicable_of, IsNamedByRoot, IsOff}
 use Rattle.vk_resolution.specs.Sentences.{IsTrueFor, Depends, by_core, by_feature, IsOnItself, is_instance, is_the_root}
 use Rattle.vk_resolution.specs.RootLaws.{DependsOnAnother, NamedMeans, with_off, OffListIsOne}
 use Rattle.vk_resolution.proofs.Members.{true_false, no_is_false, contains_filter, filter_contains}
