@@ -38,3 +38,8 @@ pub mod CauseLemmas
 pub mod EdgeLemmas
 pub mod TroubleLemmas
 pub mod CitationLemmas
+pub mod FactOrderLemmas
+pub mod RootFactLemmas
+pub mod RootNameLemmas
+pub mod MarkLemmas
+pub mod PinLemmas

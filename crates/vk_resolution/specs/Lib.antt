@@ -36,3 +36,7 @@ pub mod Heights
 pub mod Edges
 pub mod TroubleLaws
 pub mod ComputedLaws
+pub mod FactOrder
+pub mod RootLaws
+pub mod MarkLaws
+pub mod PinLaws

@@ -11,10 +11,12 @@ mod closures;
 mod computed;
 mod edges;
 mod corners;
+mod facts;
 mod faults;
 mod features;
 mod heights;
 mod least;
+mod meanings;
 mod outcomes;
 mod planned_sets;
 mod planner;
@@ -22,6 +24,7 @@ mod plans;
 mod printouts;
 mod projects;
 mod reasons;
+mod roots;
 mod selections;
 mod sentences;
 mod superseded;
@@ -36,6 +39,7 @@ pub use corners::{
     a_version_by_its_port_version, facts_of_one_rank, marks_of_the_host, ports_that_are_not_pinned,
     what_the_root_asks_of_itself,
 };
+pub use facts::facts_come_in_order;
 pub use faults::fault_lines_mean_what_they_say;
 pub use features::asked_features_are_mentioned;
 pub use heights::a_height_is_one_more_than_those_below;
@@ -43,6 +47,7 @@ pub use least::{
     a_derived_list_is_the_least, a_round_needs_the_fresh_facts_alone, an_order_is_one,
     there_is_one_least_list,
 };
+pub use meanings::{a_pinned_port_has_an_overlay_or_an_override, marks_hold_for_their_triplet};
 pub use outcomes::{orders_are_total, there_is_one_outcome};
 pub use planned_sets::a_planned_set_in_order_is_the_plan;
 pub use planner::{a_plan_keeps_its_promises, a_project_has_one_report, the_premises_are_met};
@@ -59,6 +64,7 @@ pub use projects::{
     the_smallest_project,
 };
 pub use reasons::reasons_show_what_they_claim;
+pub use roots::{the_root_is_asked_what_it_says, the_root_names_what_it_depends_on};
 pub use selections::choices_are_made_or_conflicts_told;
 pub use sentences::rules_mean_their_sentences;
 pub use superseded::superseded_versions_count_and_go;
