@@ -180,8 +180,7 @@ pub plan_set_exists : PlanSetExists
 plan_set_exists inputs order rows facts ordered first second planned is_planned =
     let listed : List Instance = instances_of planned in
     let items = all_some_there (item_by inputs facts planned listed) listed (item_there inputs order rows (λ fault. []) facts ordered first second planned is_planned listed) in
-    let same : order_of items.0 ≡ listed = some_map (item_by inputs facts planned listed) (λ (k : Item). k.instance) (λ i item h. (item_is inputs facts planned listed i item h).0) listed items.0 items.1 in
-    (
+    let same : order_of items.0 ≡ listed = some_map (item_by inputs facts planned listed) (λ (k : Item). k.instance) (λ i item h. (item_is inputs facts planned listed i item h).0) listed items.0 items.1 in (
       items.0,
       record {
         order = same;
@@ -232,8 +231,7 @@ module _ (set : List Item) where
   placed_there ranked [] within = ([], record { order = refl; each = λ new h. absurd (contains_nothing new h) })
   placed_there ranked (i ∷ is) within =
       let old = contains_map (λ (k : Item). k.instance) set i (within i (contains_first i is)) in
-      let rest = placed_there ranked is (λ j h. within j (contains_later i j is h)) in
-      (
+      let rest = placed_there ranked is (λ j h. within j (contains_later i j is h)) in (
         placed ranked old.0 ∷ rest.0,
         record {
           order = ap₂ (λ (j : Instance) (js : List Instance). j ∷ js) old.2 rest.1.order;
@@ -265,8 +263,7 @@ module _ (set : List Item) where
       subst (Contains ranked) q.2 (map_contains (λ (p : Numbered). p.1) sorted q.0 (in_order-contains numbered_key numbered_key-IsKey ps.0 q.0 q.1))
       ) in
       let plan = placed_there ranked ranked from in
-      let order : order_of plan.0 ≡ ranked = plan.1.order in
-      (
+      let order : order_of plan.0 ≡ ranked = plan.1.order in (
         plan.0,
         record {
           to = λ i h. subst (λ l. Contains l i) (sym order) (to i h);

@@ -9,8 +9,8 @@ mod agreement;
 mod choices;
 mod closures;
 mod computed;
-mod edges;
 mod corners;
+mod edges;
 mod facts;
 mod faults;
 mod features;
@@ -34,11 +34,11 @@ pub use agreement::only_what_was_asked_matters;
 pub use choices::a_choice_is_the_least_version_allowed;
 pub use closures::a_closure_is_one_or_has_too_many_facts;
 pub use computed::what_is_computed_is_what_is_defined;
-pub use edges::an_edge_is_a_dependency;
 pub use corners::{
     a_version_by_its_port_version, facts_of_one_rank, marks_of_the_host, ports_that_are_not_pinned,
     what_the_root_asks_of_itself,
 };
+pub use edges::an_edge_is_a_dependency;
 pub use facts::facts_come_in_order;
 pub use faults::fault_lines_mean_what_they_say;
 pub use features::asked_features_are_mentioned;
