@@ -207,5 +207,5 @@ native_tool_report = plans (planned_line w one 10 ∷ planned_line t one 5 ∷ [
 -- ---- a version by its port-version
 
 -- a minimum above the baseline by its port-version alone is planned
-abbrev pub raised_port_version : Inputs
-raised_port_version = project (at_least_port b one 1 ∷ []) (pages_of ((b, listed one (release b one [] ∷ bare_row b (ported (version one) 1) ∷ [])) ∷ []))
+abbrev pub rows_of_one_text : Inputs
+rows_of_one_text = project (at_least_port b one 1 ∷ []) (pages_of ((b, listed one (release b one [] ∷ bare_row b (ported (version one) 1) ∷ [])) ∷ []))

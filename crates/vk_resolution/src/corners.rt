@@ -4,7 +4,7 @@ ghost use Rattle.vk_resolution.specs.Reasons.{IsReasons};
 ghost use Rattle.vk_resolution.specs.Examples.{Reports};
 ghost use Rattle.vk_resolution.specs.Projects.{early_feature};
 ghost use Rattle.vk_resolution.specs.Printouts.{Tells, single_line};
-ghost use Rattle.vk_resolution.specs.Corners.{early_feature_reasons, native_tool, native_tool_report, off_but_for_unasked_feature, off_but_for_unasked_feature_report, off_by_chain, off_by_chain_report, off_by_platform_of_feature, off_by_platform_of_feature_report, off_for_target, off_for_target_report, on_without_root_defaults, on_without_root_defaults_report, override_of_another, override_of_another_report, port_named_vcpkg, port_named_vcpkg_report, raised_port_version, ranks_in_order, ranks_in_order_reasons, ranks_in_order_report, words_and_defaults, words_and_defaults_report};
+ghost use Rattle.vk_resolution.specs.Corners.{early_feature_reasons, native_tool, native_tool_report, off_but_for_unasked_feature, off_but_for_unasked_feature_report, off_by_chain, off_by_chain_report, off_by_platform_of_feature, off_by_platform_of_feature_report, off_for_target, off_for_target_report, on_without_root_defaults, on_without_root_defaults_report, override_of_another, override_of_another_report, port_named_vcpkg, port_named_vcpkg_report, rows_of_one_text, ranks_in_order, ranks_in_order_reasons, ranks_in_order_report, words_and_defaults, words_and_defaults_report};
 
 /// The off list goes by what is asked of the root and by nothing else, over any number of steps and
 /// under the target's marks; the words and the default features add up.
@@ -38,5 +38,5 @@ pub fn marks_of_the_host()
 
 /// Versions of one text are told apart by the port-version.
 pub fn a_version_by_its_port_version()
-    ensures raised { Tells raised_port_version (single_line (codes "1 b x64-linux 1#1 5 core")) 10 }
+    ensures raised { Tells rows_of_one_text (single_line (codes "1 b x64-linux 1#1 5 core")) 10 }
 {}

@@ -9,4 +9,4 @@ use Rattle.vk_resolution.proofs.corners.a_version_by_its_port_version.Goals as g
 
 pub returns : goal.returns
 unfolding token_of digits
-returns c = record { raised = tells Corners.raised_port_version (single_line (codes "1 b x64-linux 1#1 5 core")) 10 refl }
+returns c = record { raised = tells Corners.rows_of_one_text (single_line (codes "1 b x64-linux 1#1 5 core")) 10 refl }
