@@ -5,7 +5,7 @@ use Rattle.vk_spec.specs.Versions.{Ask, ask_of, IsOrder}
 use Rattle.vk_spec.specs.Pages.{Row}
 use Rattle.vk_spec.specs.Conditions.{Condition}
 use Rattle.vk_spec.specs.Settings.{Instance}
-use Rattle.vk_resolution.specs.Least.{IsLeastInOrder}
+use Rattle.vk_resolution.specs.Least.{IsLeast, IsLeastInOrder}
 use Rattle.vk_resolution.specs.Settings.{inst}
 use Rattle.vk_resolution.specs.Givens.{Pages, version_at, manifest_at}
 use Rattle.vk_resolution.specs.Asking.{Fact, need, floor, visit, fact_key}
@@ -39,6 +39,10 @@ SameOutcome = (inputs : Inputs) → IsOrder inputs.at_most → (pages : Pages) (
 -- a row more in the table of a port
 abbrev pub published : Pages → List ℕ → Row Condition → Pages
 published pages p row q = if bytes_eq q p then (record { given = (pages q).given; rows = (pages q).rows ++ row ∷ [] }) else pages q
+
+-- pages with a version more that no floor asks for agree on what was asked
+abbrev pub UnaskedAgrees : Type 0
+UnaskedAgrees = (inputs : Inputs) (p : List ℕ) (row : Row Condition) (facts : List Fact) → IsLeast (rules_of inputs) facts → (Contains facts (floor p (ask_of row.version)) → ⊥) → AgreesOn inputs.pages (published inputs.pages p row) facts
 
 -- to publish a version that no floor asks for changes no outcome; a visit is where a floor asks
 abbrev pub UnaskedChangesNothing : Type 0
