@@ -9,7 +9,7 @@ use Rattle.vk_spec.specs.Manifests.{Override}
 use Rattle.vk_spec.specs.Pages.{Wrong, no_registry, no_baseline, bad_file, disagrees, Given, overlay, override, baseline, has_override, is_overlay_file, is_pinned_by}
 use Rattle.vk_spec.specs.Settings.{Setting}
 use Rattle.vk_resolution.specs.Givens.{Pages, is_pinned}
-use Rattle.vk_resolution.specs.PinLaws.{IsInOverlay, IsPinned, by_overlay, by_override, by_name, by_bad_overlay, by_failed_override, OverridesMean, OverlayFilesMean, PinnedMeans}
+use Rattle.vk_resolution.specs.PinLaws.{IsInOverlay, IsPinned, by_overlay, by_override, by_odd_overlay, by_bad_overlay, by_failed_override, OverridesMean, OverlayFilesMean, PinnedMeans}
 use Rattle.vk_resolution.proofs.Members.{any_contains, contains_any, or_true, or_left, or_right}
 use Rattle.vk_resolution.proofs.Orders.{same_key-Decides}
 
@@ -44,7 +44,7 @@ module _ (s : Setting) (pages : Pages) (p : List ℕ) where
   pinned_is (Ok (overlay v)) is e = by_overlay v is
   pinned_is (Ok (override a)) is e = by_override a is
   pinned_is (Ok (baseline a)) is e = (cc)
-  pinned_is (Err (disagrees path field row manifest)) is e = by_name path field row manifest is
+  pinned_is (Err (disagrees path field row manifest)) is e = by_odd_overlay path field row manifest is
   pinned_is (Err (bad_file path place word)) is e =
       elim (or_true (is_overlay_file p path) (has_override s.root.overrides p) e) [
         | inl file ↦ by_bad_overlay path place word is ((overlay_files_mean p path).0 file)
@@ -62,7 +62,7 @@ module _ (s : Setting) (pages : Pages) (p : List ℕ) where
   is_pinned_is : IsPinned s pages p → is_pinned s pages p ≡ true
   is_pinned_is (by_overlay v is) = ap (is_pinned_by s.root.overrides p) is
   is_pinned_is (by_override a is) = ap (is_pinned_by s.root.overrides p) is
-  is_pinned_is (by_name path field row manifest is) = ap (is_pinned_by s.root.overrides p) is
+  is_pinned_is (by_odd_overlay path field row manifest is) = ap (is_pinned_by s.root.overrides p) is
   is_pinned_is (by_bad_overlay path place word is inside) =
       ap (is_pinned_by s.root.overrides p) is ∙ or_left (is_overlay_file p path) (has_override s.root.overrides p) ((overlay_files_mean p path).1 inside)
   is_pinned_is (by_failed_override wrong is has) = ap (is_pinned_by s.root.overrides p) is ∙ failed_is wrong ((overrides_mean s.root.overrides p).1 has)

@@ -20,7 +20,7 @@ IsInOverlay p path = (before : Path) × (path ≡ before ++ p ∷ codes "vcpkg.j
 pub data IsPinned (s : Setting) (pages : Pages) (p : List ℕ) : Type 0 where
   by_overlay : (v : Version) → (pages p).given ≡ Ok (overlay v) → IsPinned s pages p
   by_override : (a : Ask) → (pages p).given ≡ Ok (override a) → IsPinned s pages p
-  by_name : (path : Path) (field : Field) (row manifest : List ℕ) → (pages p).given ≡ Err (disagrees path field row manifest) → IsPinned s pages p
+  by_odd_overlay : (path : Path) (field : Field) (row manifest : List ℕ) → (pages p).given ≡ Err (disagrees path field row manifest) → IsPinned s pages p
   by_bad_overlay : (path : Path) (place word : List ℕ) → (pages p).given ≡ Err (bad_file path place word) → IsInOverlay p path → IsPinned s pages p
   by_failed_override : (wrong : Wrong) → (pages p).given ≡ Err wrong → HasOverride s.root.overrides p → IsPinned s pages p
 
