@@ -88,10 +88,10 @@ is_own_is s (root t) d (is_the_root u e name h) = let same : t ≡ u = (cc) in i
 is_own_is s (inst i) d (is_instance j e h) = let same : i ≡ j = (cc) in (same_instance-Decides i (instance_of s (inst i) d)).1 (same ∙ sym h)
 is_own_is s (inst i) d (is_the_root t e name h) = (cc)
 
-another_is : (s : Setting) (who : Who) (d : Dependency Condition) → is_own s who (instance_of s who d) ≡ false → IsOnAnother s who d
+pub another_is : (s : Setting) (who : Who) (d : Dependency Condition) → is_own s who (instance_of s who d) ≡ false → IsOnAnother s who d
 another_is s who d e itself = true_false (is_own s who (instance_of s who d)) (is_own_is s who d itself) e
 
-is_another : (s : Setting) (who : Who) (d : Dependency Condition) → IsOnAnother s who d → is_own s who (instance_of s who d) ≡ false
+pub is_another : (s : Setting) (who : Who) (d : Dependency Condition) → IsOnAnother s who d → is_own s who (instance_of s who d) ≡ false
 is_another s who d other = no_is_false (is_own s who (instance_of s who d)) (λ e. other (own_is s who d e))
 
 minimum_is : (p : List ℕ) (o : Option Ask) (x : Fact) → Contains (floor_of p o) x → (a : Ask) × (o ≡ Some a) × (floor p a ≡ x)
