@@ -7,7 +7,7 @@ use Rattle.std.proofs.lemmas.List.{append-nil}
 use Rattle.vk_spec.specs.Versions.{Class, dot, date, text, Version, Ask, same_ask, ask_of, same_version, IsOrder}
 use Rattle.vk_spec.specs.Pages.{Wrong, Given, overlay, override, baseline, Row, row_in, given_ask, is_pinned_by}
 use Rattle.vk_spec.proofs.ListLemmas.{contains_nothing, contains_first, contains_later, contains_cases, flat_map-contains}
-use Rattle.vk_spec.proofs.VersionLemmas.{asks_equal, ask_itself, version_decides}
+use Rattle.vk_spec.proofs.VersionLemmas.{asks_equal, version_decides}
 use Rattle.std.specs.declared.cmp.Ordering.TheVariants.{Less}
 use Rattle.vk_spec.specs.Conditions.{Condition}
 use Rattle.vk_spec.specs.Settings.{Instance}

@@ -1,17 +1,17 @@
 -- There is one closure, or there are too many facts.
-use Rattle.std.proofs.Common.{◌≡◌, ◌<◌, ◌≤◌, ◌+◌, ◌⊎◌, ℕ, zero, suc, List, [], ◌∷◌, length, take, inl, inr, refl, ap, ap₂, sym, ◌∙◌, subst, arith}
+use Rattle.std.proofs.Common.{◌≡◌, ◌<◌, ◌≤◌, ◌+◌, ◌⊎◌, ℕ, zero, suc, List, [], ◌∷◌, length, take, inl, inr, refl, ap, sym, ◌∙◌, subst, arith}
 use Rattle.std.specs.List.{Contains}
 use Rattle.std.proofs.lemmas.Bool.{cases_lt}
 use Rattle.std.proofs.lemmas.List.{length-take-le, length-map}
-use Rattle.vk_spec.specs.Lists.{NoRepeats, IsWithin}
+use Rattle.vk_spec.specs.Lists.{NoRepeats}
 use Rattle.vk_spec.proofs.ListLemmas.{contains_nothing, contains_first, contains_later, contains_cases}
-use Rattle.vk_resolution.specs.Least.{IsForced, IsClosed, IsLeast}
+use Rattle.vk_resolution.specs.Least.{IsLeast}
 use Rattle.vk_resolution.specs.Asking.{Fact, fact_key}
 use Rattle.vk_resolution.specs.Consequences.{Inputs, rules_of}
 use Rattle.vk_resolution.specs.Reasons.{Reason, IsReasons, facts_of}
 use Rattle.vk_resolution.specs.Faults.{first_faults_of}
 use Rattle.vk_resolution.specs.Outcomes.{Printing, lines_of, by_first}
-use Rattle.vk_resolution.specs.Closures.{Closure, IsClosure, HasTooManyFacts, HasClosure, ClosureRefuses, ClosureIsOne, ClosureOrTooMany, TooManyIsNoClosure}
+use Rattle.vk_resolution.specs.Closures.{Closure, HasTooManyFacts, HasClosure, ClosureRefuses, ClosureIsOne, ClosureOrTooMany, TooManyIsNoClosure}
 use Rattle.vk_resolution.proofs.FactLemmas.{fact_key-IsKey}
 use Rattle.vk_resolution.proofs.LeastLemmas.{no_longer}
 use Rattle.vk_resolution.proofs.Rounds.{least_exists}

@@ -11,7 +11,7 @@ use Rattle.vk_resolution.specs.Outcomes.{Printing, lines_of, IsRefusal, by_first
 use Rattle.vk_resolution.specs.Computed.{is_nothing, round, if_closed, all_some, reasons_by, order_by, item_by, cycle_by, order_or_cycle, plan_by, third_by, second_by, first_by, outcome_by}
 use Rattle.vk_resolution.proofs.Orders.{in_order-ascends}
 use Rattle.vk_resolution.proofs.Rounds.{is_nothing-nil}
-use Rattle.vk_resolution.proofs.FactLemmas.{fact_key-IsKey, instance_key-IsKey}
+use Rattle.vk_resolution.proofs.FactLemmas.{fact_key-IsKey}
 use Rattle.vk_resolution.proofs.Soundness.{then_some, map_some, nothing_is, closed_round, reasons_are, plan_is}
 use Rattle.vk_resolution.proofs.WalkLemmas.{cycle_is}
 use Rattle.vk_resolution.proofs.Existence.{planned_edges}

@@ -1,13 +1,12 @@
 -- Each worked project at the corners of the rules, computed.
 use Rattle.std.proofs.Common.{◌≡◌, ℕ, List, [], ◌∷◌, refl, sym, subst}
-use Rattle.std.specs.Prelude.{Some, option_map}
+use Rattle.std.specs.Prelude.{Some}
 use Rattle.std.specs.List.{Contains}
 use Rattle.vk_spec.specs.Settings.{Setting, Instance}
 use Rattle.vk_resolution.specs.Keys.{in_order}
 use Rattle.vk_resolution.specs.Settings.{root_rules_of, ListsOff}
 use Rattle.vk_resolution.specs.Planning.{instance_key}
 use Rattle.vk_resolution.specs.Reasons.{IsReasons, facts_of}
-use Rattle.vk_resolution.specs.Outcomes.{Printing}
 use Rattle.vk_resolution.specs.Computed.{off_by, name_key, off_list_by, outcome_by, if_closed, round}
 use Rattle.vk_resolution.specs.Examples.{x64, report_of, Reports}
 use Rattle.vk_resolution.specs.Projects

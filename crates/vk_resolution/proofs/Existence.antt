@@ -1,24 +1,21 @@
 -- There is an outcome.
-use Rattle.std.proofs.Common.{◌≡◌, ◌≤◌, ℕ, suc, Bool, true, false, cond, not, List, [], ◌∷◌, ◌++◌, map, filter, length, inl, inr, refl, ap, sym, ◌∙◌, subst, arith}
-use Rattle.std.specs.Prelude.{Option, Some, None, option_map, option_and_then, flat_map, Result, Ok, Err}
+use Rattle.std.proofs.Common.{◌≡◌, ◌≤◌, ℕ, suc, Bool, true, false, cond, List, [], ◌∷◌, ◌++◌, map, filter, length, inl, inr, refl, ap, sym, ◌∙◌, subst, arith}
+use Rattle.std.specs.Prelude.{Option, Some, None, option_map, option_and_then, flat_map}
 use Rattle.std.specs.List.{Contains, list_any, list_all}
 use Rattle.std.proofs.lemmas.List.{append-nil}
 use Rattle.std.proofs.lemmas.List.Elements.{Contains-append_left}
 use Rattle.vk_spec.specs.Lists.{IsWithin}
-use Rattle.vk_spec.specs.Versions.{Version, Ask, ask_of, IsOrder}
-use Rattle.vk_spec.specs.Manifests.{Manifest, Dependency, core, default}
-use Rattle.vk_spec.specs.Pages.{Wrong}
+use Rattle.vk_spec.specs.Versions.{Version, ask_of, IsOrder}
+use Rattle.vk_spec.specs.Manifests.{core, default}
 use Rattle.vk_spec.proofs.ListLemmas.{contains_nothing, contains_first, contains_later, contains-flat_map, flat_map-contains}
-use Rattle.vk_spec.specs.Conditions.{Condition}
 use Rattle.vk_spec.specs.Settings.{Instance}
 use Rattle.vk_resolution.specs.Keys.{in_order}
 use Rattle.vk_resolution.specs.Least.{FollowsFrom, from_one, from_two, IsLeast, IsLeastInOrder}
 use Rattle.vk_resolution.specs.Settings.{root, inst, same_instance, marks_of, instance_of, is_off, applicable_of, names_of, defaults_of}
-use Rattle.vk_resolution.specs.Givens.{manifest_at}
 use Rattle.vk_resolution.specs.Asking.{Fact, need, floor, visit, fact_key, same_fact, floor_of, asked_of_own, asked_of_other, asked_by, asked_of, root_facts_of}
 use Rattle.vk_resolution.specs.Consequences.{Inputs, Step, Cause, by_root, by_two, asked_in, asked_at, steps_from, rules_of}
 use Rattle.vk_resolution.specs.Reasons.{Reason, facts_of, line_of, first_cause, citing, in_lines, cause_of, IsReasons}
-use Rattle.vk_resolution.specs.Planning.{is_need, IsPlanned, instance_key, needed_in, instances_of, targets_in, targets_at, targets_of, is_within, features_of, places_from, IsPlan, IsCycle, Item}
+use Rattle.vk_resolution.specs.Planning.{is_need, IsPlanned, instance_key, needed_in, instances_of, targets_of, is_within, features_of, places_from, IsPlan, IsCycle, Item}
 use Rattle.vk_resolution.specs.Faults.{Fault, first_faults_of, second_faults_of, third_faults_of, has_cycle}
 use Rattle.vk_resolution.specs.Outcomes.{Printing, lines_of, IsRefusal, by_first, by_second, by_third, by_fourth, IsAgreed, Outcome, planned, refused, IsOutcome}
 use Rattle.vk_resolution.specs.Laws.{HasPlanned}
@@ -26,7 +23,7 @@ use Rattle.vk_resolution.specs.Service.{OverlaysHaveRows, IsServed}
 use Rattle.vk_resolution.specs.Walks.{AreEdgesOf}
 use Rattle.vk_resolution.specs.Computed.{all_some, with_height, order_by, item_by, Numbered, numbered_key, least_from}
 use Rattle.vk_resolution.specs.OutcomeLaws.{PlannedEdges, OutcomeExists}
-use Rattle.vk_resolution.proofs.Members.{true_or_false, true_false, not_true, no_is_false, contains_any, all_contains, not_all, contains_filter, filter_contains, contains_map, contains_single}
+use Rattle.vk_resolution.proofs.Members.{true_or_false, true_false, no_is_false, contains_any, all_contains, not_all, filter_contains, contains_map, contains_single}
 use Rattle.vk_resolution.proofs.Orders.{contains-in_order, in_order-contains, in_order-ascends}
 use Rattle.vk_resolution.proofs.Rounds.{least_exists}
 use Rattle.vk_resolution.proofs.FactLemmas.{fact_key-IsKey, instance_key-IsKey, same_fact-Decides, same_instance-Decides}

@@ -23,7 +23,7 @@ use Rattle.vk_resolution.specs.Givens.{manifest_at, is_pinned}
 use Rattle.vk_resolution.specs.Asking.{Fact, need, floor, visit, is_among}
 use Rattle.vk_resolution.specs.Consequences.{Inputs, is_below}
 use Rattle.vk_resolution.specs.Choices.{floors_of, chosen_of, version_key, is_top, tops_of, class_number}
-use Rattle.vk_resolution.specs.Reasons.{first_line, line_of, fact_at}
+use Rattle.vk_resolution.specs.Reasons.{first_line, line_of}
 use Rattle.vk_resolution.specs.Faults.{Trouble, trouble_key, same_trouble, troubles_of, told_of, Fault, troubled, conflicts, lacks_feature, isnt_supported, first_faults_of, judged_on_line, conflict_of, conflicts_of, ports_in, feature_faults, judged, judged_at, judged_chosen, judged_need, third_faults_of, second_faults_of}
 use Rattle.vk_resolution.specs.FaultLaws.{IsTold, FirstLinesMean, IsConflictLine, SecondLinesMean, IsJudgedBy, by_root, by_choice, IsWrongWith, no_such_feature, no_support, no_feature_support, IsJudged, ThirdLinesMean, IsTopFloor, ComesBefore, by_text, by_port, by_class, VersionsComeInOrder}
 use Rattle.vk_resolution.proofs.Members.{true_false, no_is_false, any_contains, contains_any, contains_map, map_contains, contains_single, option_contains, contains_option, contains_filter, filter_contains, not_true, not_false}

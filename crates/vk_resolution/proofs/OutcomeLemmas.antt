@@ -25,7 +25,7 @@ use Rattle.vk_resolution.specs.Outcomes.{Printing, lines_of, IsRefusal, by_first
 use Rattle.vk_resolution.specs.Agreement.{with_pages, AgreesOn, reasons_in, SameOutcome, published, UnaskedChangesNothing}
 use Rattle.vk_resolution.proofs.Members.{no_is_false, contains_single, map_contains, contains_filter}
 use Rattle.vk_resolution.proofs.Orders.{contains-in_order}
-use Rattle.vk_resolution.proofs.FactLemmas.{fact_key-IsKey, instance_key-IsKey, among_contains}
+use Rattle.vk_resolution.proofs.FactLemmas.{fact_key-IsKey, among_contains}
 use Rattle.vk_resolution.proofs.ChoiceLemmas.{given_floor}
 use Rattle.vk_resolution.proofs.PlanLemmas.{plan_stays_within}
 use Rattle.vk_resolution.proofs.AgreementLemmas.{flat_map_on, filter_map_on, agree_least, IsNeeded, visit_parts, floor_needed, same_some, given_same, pinned_same, asked_at_same, steps_same, same_least_list}

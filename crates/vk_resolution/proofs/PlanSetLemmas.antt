@@ -1,6 +1,6 @@
 -- The planned set is one, its edges are those of the planned facts, and in order it is the plan.
 use Rattle.std.proofs.Common.{◌≡◌, ◌⊎◌, ℕ, zero, suc, ◌+◌, Bool, true, false, cond, List, [], ◌∷◌, map, filter, inl, inr, refl, ap, ap₂, sym, ◌∙◌, subst, arith}
-use Rattle.std.specs.Prelude.{Option, Some, None, flat_map, filter_map, slice_get}
+use Rattle.std.specs.Prelude.{Option, Some, None, slice_get}
 use Rattle.std.specs.List.{Contains, list_any}
 use Rattle.vk_spec.specs.Lists.{IsWithin}
 use Rattle.vk_spec.specs.Versions.{Version, Ask, ask_of}
@@ -16,7 +16,7 @@ use Rattle.vk_resolution.specs.Planning.{is_need, visit_of, planned_from, planne
 use Rattle.vk_resolution.specs.Walks.{Targets, EdgesStay}
 use Rattle.vk_resolution.specs.Keys.{in_order}
 use Rattle.vk_resolution.specs.Computed.{Numbered, numbered_key, item_by}
-use Rattle.vk_resolution.specs.PlannedSets.{IsPlanSet, needed_by, edges_of, IsMoved, IsOrdered, PlanSetIsOne, PlanSetExists, OrderedExists, HaveSameEdges, PlanSetEdges, OrderedSetIsPlan, PlanSetCycles}
+use Rattle.vk_resolution.specs.PlannedSets.{IsPlanSet, needed_by, edges_of, IsMoved, IsOrdered, PlanSetIsOne, PlanSetExists, OrderedExists, PlanSetEdges, OrderedSetIsPlan, PlanSetCycles}
 use Rattle.vk_resolution.proofs.Members.{any_contains, contains_any, contains_single, contains_map, map_contains, contains_filter, contains-filter_map, filter_map-contains}
 use Rattle.vk_resolution.proofs.Orders.{contains-in_order, in_order-contains, in_order-ascends}
 use Rattle.vk_resolution.proofs.Soundness.{numbered_key-IsKey, by_height, item_is, some_map, some_from}

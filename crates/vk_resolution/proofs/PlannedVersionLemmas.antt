@@ -1,8 +1,8 @@
 -- Each planned port has its overlay's version, its override's, or the least allowed.
-use Rattle.std.proofs.Common.{◌≡◌, ℕ, true, false, List, [], refl, ap, sym, ◌∙◌, subst}
+use Rattle.std.proofs.Common.{◌≡◌, ℕ, false, List, [], refl, ap, sym, ◌∙◌, subst}
 use Rattle.std.specs.Prelude.{Some, Ok}
 use Rattle.std.specs.List.{Contains}
-use Rattle.vk_spec.specs.Versions.{Version, IsOrder}
+use Rattle.vk_spec.specs.Versions.{Version}
 use Rattle.vk_spec.specs.Pages.{Given, overlay, override, baseline, is_pinned_by}
 use Rattle.vk_spec.specs.Settings.{Instance}
 use Rattle.vk_resolution.specs.Least.{IsLeast}
@@ -14,7 +14,7 @@ use Rattle.vk_resolution.specs.Choices.{chosen_of}
 use Rattle.vk_resolution.specs.Reasons.{facts_of}
 use Rattle.vk_resolution.specs.Planning.{Item}
 use Rattle.vk_resolution.specs.Faults.{first_faults_of}
-use Rattle.vk_resolution.specs.PlannedVersions.{IsLeastAllowed, IsPlannedVersion, of_overlay, of_override, of_floors, PlannedVersions}
+use Rattle.vk_resolution.specs.PlannedVersions.{IsPlannedVersion, of_overlay, of_override, of_floors, PlannedVersions}
 use Rattle.vk_resolution.proofs.Members.{map_contains}
 use Rattle.vk_resolution.proofs.ChoiceLemmas.{needed_given, given_floor, floor_in_table, free_choice, floors_are, choice_is_above_floors}
 use Rattle.vk_resolution.proofs.SelectionLemmas.{chosen_pinned}

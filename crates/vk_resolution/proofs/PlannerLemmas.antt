@@ -1,18 +1,14 @@
 -- The planner's own inputs meet the premises of the laws.
-use Rattle.std.proofs.Common.{◌≡◌, ◌<◌, ◌≤◌, ◌⊎◌, ℕ, List, [], length, inl, inr, refl, ap, sym, ◌∙◌, subst, arith}
-use Rattle.vk_spec.specs.Catalogues.{ArePages}
+use Rattle.std.proofs.Common.{◌≤◌, ◌⊎◌, List, length, inl, inr, ap, subst, arith}
 use Rattle.vk_spec.specs.Settings.{Setting}
 use Rattle.vk_version.proofs.TestLemmas.{at_most-IsOrder}
-use Rattle.vk_resolution.specs.Least.{IsClosed}
 use Rattle.vk_resolution.specs.Givens.{Pages}
-use Rattle.vk_resolution.specs.Asking.{Fact}
-use Rattle.vk_resolution.specs.Consequences.{rules_of}
 use Rattle.vk_resolution.specs.Reasons.{Reason, IsReasons}
 use Rattle.vk_resolution.specs.Outcomes.{Outcome, planned, refused, IsOutcome}
 use Rattle.vk_resolution.specs.Lines.{fault_line, report_text}
 use Rattle.vk_resolution.specs.Closures.{HasTooManyFacts, HasClosure}
 use Rattle.vk_resolution.specs.Agreement.{reasons_in}
-use Rattle.vk_resolution.specs.Planner.{inputs_of, MeetsPremises, PremisesAreMet, HasOutcome, OutcomeOrTooMany, OutcomeIsNotTooMany, OneOutcomeOneReport, PlansKeepPromises}
+use Rattle.vk_resolution.specs.Planner.{inputs_of, PremisesAreMet, HasOutcome, OutcomeOrTooMany, OutcomeIsNotTooMany, OneOutcomeOneReport, PlansKeepPromises}
 use Rattle.vk_resolution.proofs.ServiceLemmas.{plan_serves, pages_have_rows}
 use Rattle.vk_resolution.proofs.Existence.{outcome_exists}
 use Rattle.vk_resolution.proofs.Uniqueness.{reasons_same, outcome_is_one}

@@ -1,6 +1,6 @@
 -- The worked projects, printed.
-use Rattle.std.proofs.Common.{◌≡◌, ℕ, List, [], ◌∷◌, refl, ap}
-use Rattle.std.specs.Prelude.{Some, option_map, length, codes}
+use Rattle.std.proofs.Common.{◌≡◌, ℕ, List, ap}
+use Rattle.std.specs.Prelude.{Some, option_map, length}
 use Rattle.vk_resolution.specs.Consequences.{Inputs}
 use Rattle.vk_resolution.specs.Outcomes.{Outcome}
 use Rattle.vk_resolution.specs.Lines.{fault_line, report_text}

@@ -1,5 +1,5 @@
 -- What the root names, and that there is one off list.
-use Rattle.std.proofs.Common.{◌≡◌, List, ap, sym, ◌∙◌}
+use Rattle.std.proofs.Common.{List, ap, sym, ◌∙◌}
 use Rattle.vk_spec.specs.Conditions.{Condition}
 use Rattle.vk_spec.specs.Manifests.{Dependency}
 use Rattle.vk_spec.specs.Settings.{Setting, Instance}

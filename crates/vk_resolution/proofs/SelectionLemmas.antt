@@ -1,21 +1,21 @@
 -- Each port with a floor has a choice, or two floors are told.
-use Rattle.std.proofs.Common.{◌≡◌, ◌≢◌, ◌⊎◌, ℕ, true, false, cond, List, [], ◌∷◌, ◌++◌, map, inl, inr, refl, ap, ap₂, sym, ◌∙◌, subst}
-use Rattle.std.specs.Prelude.{Option, Some, None, flat_map, Result, Ok, Err}
+use Rattle.std.proofs.Common.{◌≡◌, ℕ, true, false, cond, List, [], ◌∷◌, ◌++◌, map, inl, inr, refl, ap, ap₂, sym, ◌∙◌, subst}
+use Rattle.std.specs.Prelude.{Option, Some, None, flat_map, Result, Ok}
 use Rattle.std.specs.List.{Contains}
 use Rattle.vk_spec.specs.Versions.{Version, Ask, IsOrder, ask_of}
 use Rattle.vk_spec.specs.Pages.{Wrong, Given, overlay, override, baseline, is_pinned_by}
 use Rattle.vk_spec.specs.Settings.{Instance}
 use Rattle.vk_spec.proofs.ListLemmas.{contains_nothing, contains_first, contains_later, contains_cases, contains-flat_map, flat_map-contains}
-use Rattle.vk_resolution.specs.Keys.{IsListing, in_order}
+use Rattle.vk_resolution.specs.Keys.{IsListing}
 use Rattle.vk_resolution.specs.Least.{IsLeast}
 use Rattle.vk_resolution.specs.Settings.{inst}
-use Rattle.vk_resolution.specs.Givens.{version_at, is_pinned}
+use Rattle.vk_resolution.specs.Givens.{is_pinned}
 use Rattle.vk_resolution.specs.Asking.{Fact, need, floor, visit, same_fact}
 use Rattle.vk_resolution.specs.Consequences.{Inputs, rules_of}
 use Rattle.vk_resolution.specs.Choices.{chosen_of, floors_of, given_version_of, greatest_of}
 use Rattle.vk_resolution.specs.Reasons.{line_of}
 use Rattle.vk_resolution.specs.Faults.{Fault, conflicts, conflicts_of, ports_in, first_faults_of, second_faults_of}
-use Rattle.vk_resolution.specs.Selections.{Choice, floored_ports_of, IsChoice, IsChoices, HasFloor, ChoicesListPorts, choice_of, ItemsHaveChoices, ChoicesAreOne, ChoicesOrConflicts, ChoicesHaveNoConflict}
+use Rattle.vk_resolution.specs.Selections.{Choice, floored_ports_of, IsChoice, HasFloor, ChoicesListPorts, choice_of, ItemsHaveChoices, ChoicesAreOne, ChoicesOrConflicts, ChoicesHaveNoConflict}
 use Rattle.vk_resolution.proofs.Members.{contains_single, contains_map}
 use Rattle.vk_resolution.proofs.Orders.{contains-in_order, in_order-contains, in_order-ascends}
 use Rattle.vk_resolution.proofs.Soundness.{nothing_or}

@@ -8,7 +8,7 @@ use Rattle.vk_spec.specs.Versions.{Version, Ask, ask_of, same_ask, IsOrder}
 use Rattle.vk_spec.specs.Manifests.{Manifest, Dependency, core, default}
 use Rattle.vk_spec.specs.Pages.{Wrong, Given, overlay, override, baseline, Row, row_in, is_pinned_by}
 use Rattle.vk_spec.specs.Catalogues.{HasOwnAlone}
-use Rattle.vk_spec.proofs.ListLemmas.{contains_nothing, contains_first, contains_later, flat_map-contains}
+use Rattle.vk_spec.proofs.ListLemmas.{contains_first, contains_later, flat_map-contains}
 use Rattle.vk_spec.proofs.VersionLemmas.{ask_itself}
 use Rattle.vk_spec.specs.Conditions.{Condition}
 use Rattle.vk_spec.specs.Settings.{Instance}
@@ -17,12 +17,12 @@ use Rattle.vk_resolution.specs.Settings.{Who, root, inst, marks_of, triplet_of, 
 use Rattle.vk_resolution.specs.Givens.{version_at, manifest_at, is_pinned}
 use Rattle.vk_resolution.specs.Asking.{Fact, need, floor, visit, floor_of, asked_of_other, asked_of_own, asked_by, asked_of}
 use Rattle.vk_resolution.specs.Consequences.{Inputs, Step, asked_step, asked_in, asked_at, steps_from, rules_of, by_minimum}
-use Rattle.vk_resolution.specs.Choices.{floors_of, given_version_of, greatest_of, chosen_of}
+use Rattle.vk_resolution.specs.Choices.{chosen_of}
 use Rattle.vk_resolution.specs.Planning.{is_need, IsPlanned}
-use Rattle.vk_resolution.specs.Faults.{conflicts, manifest_troubles, wrong_of, first_faults_of, second_faults_of}
+use Rattle.vk_resolution.specs.Faults.{manifest_troubles, wrong_of, first_faults_of, second_faults_of}
 use Rattle.vk_resolution.specs.Service.{MeetsMinimum, MeetsMinimumOf, MeetsOwnMinimum, ServesOther, Serves, IsServed, OverlaysHaveRows, PagesHaveRows, PlanServes}
 use Rattle.vk_resolution.proofs.Members.{filter_contains, map_contains}
-use Rattle.vk_resolution.proofs.ChoiceLemmas.{floor_is, no_troubles, needed_given, step_in, given_floor, floor_in_table, version_ask, table_has_floors, free_choice, floors_are, choice_or_conflict, choice_is_above_floors}
+use Rattle.vk_resolution.proofs.ChoiceLemmas.{floor_is, no_troubles, needed_given, step_in, given_floor, floor_in_table, version_ask, table_has_floors, free_choice, floors_are, choice_is_above_floors}
 use Rattle.vk_resolution.proofs.PlanLemmas.{plan_stays_within}
 use Rattle.vk_resolution.proofs.SelectionLemmas.{chosen_pinned, free_has_choice, needed_has_choice}
 

@@ -14,7 +14,7 @@ use Rattle.vk_resolution.specs.Projects.{a, b, three, one_dot, superseded_minimu
 use Rattle.vk_resolution.specs.Superseded.{SupersededCounts, MinimumCounts, SupersededGoes, ReachGoes}
 use Rattle.vk_resolution.proofs.Members.{or_true, not_true, all_contains, true_false, contains_any}
 use Rattle.vk_resolution.proofs.Orders.{contains-in_order}
-use Rattle.vk_resolution.proofs.FactLemmas.{fact_key-IsKey, instance_key-IsKey, same_fact-Decides, same_instance-Decides}
+use Rattle.vk_resolution.proofs.FactLemmas.{fact_key-IsKey, same_fact-Decides, same_instance-Decides}
 use Rattle.vk_resolution.proofs.Rounds.{round_least, least_in_order_one, contains-has_key, has_key-contains}
 
 abbrev counted : List Fact

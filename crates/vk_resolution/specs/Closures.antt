@@ -1,5 +1,5 @@
 -- The closure of a project: its reasons with the first phase's lines, and when there are too many facts for one.
-use Rattle.std.specs.Prelude.{◌≡◌, ◌≢◌, ◌≤◌, ◌<◌, ◌+◌, ◌⊎◌, ℕ, List, [], length}
+use Rattle.std.specs.Prelude.{◌≡◌, ◌≢◌, ◌≤◌, ◌<◌, ◌+◌, ◌⊎◌, List, [], length}
 use Rattle.vk_resolution.specs.Least.{IsForced, IsClosed}
 use Rattle.vk_resolution.specs.Asking.{Fact}
 use Rattle.vk_resolution.specs.Consequences.{Inputs, rules_of}

@@ -1,6 +1,5 @@
 -- Small projects as values, and the lines that they print.
 use Rattle.std.specs.Prelude.{◌≡◌, ℕ, Bool, true, false, ◌&&◌, ◌||◌, nat_le, not, ◌==◌, take_while, List, [], ◌∷◌, map, Some, None, length, Ok, Err, bytes_eq, codes, if◌then◌else◌}
-use Rattle.std.specs.List.{list_any}
 use Rattle.std.specs.Ordering.{nat_cmp, is_lt}
 use Rattle.std.specs.Cmp.Lexicographic.{slice_cmp}
 use Rattle.vk_spec.specs.Versions.{Class, dot, date, text, Version, Ask}

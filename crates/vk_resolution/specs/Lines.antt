@@ -1,7 +1,7 @@
 -- What is printed: faults, items of the plan, facts with their causes, and the whole report of an outcome.
 use Rattle.std.specs.Prelude.{◌+◌, ◌++◌, ℕ, List, [], ◌∷◌, map, flat_map, length, Option, Some, None, codes, decimal}
 use Rattle.std.specs.List.{join_with_byte}
-use Rattle.vk_spec.specs.Versions.{Ask, Version, ask_of}
+use Rattle.vk_spec.specs.Versions.{Version, ask_of}
 use Rattle.vk_base.specs.Tokens.{token_of}
 use Rattle.vk_base.specs.Printed.{version_text, path_text, field_word}
 use Rattle.vk_json.specs.Places.{file_line}

@@ -1,5 +1,5 @@
 -- What this planner's own inputs are, and what the laws say of them: its settings, the pages of its catalogues, its order on versions, its printed lines.
-use Rattle.std.specs.Prelude.{◌≡◌, ◌≤◌, ◌⊎◌, ℕ, List, length}
+use Rattle.std.specs.Prelude.{◌≡◌, ◌≤◌, ◌⊎◌, List, length}
 use Rattle.std.specs.List.{Contains}
 use Rattle.vk_spec.specs.Versions.{IsOrder}
 use Rattle.vk_spec.specs.Catalogues.{ArePages}

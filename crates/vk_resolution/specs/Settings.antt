@@ -1,5 +1,5 @@
 -- Who has requirements, what applies to whom, what the root is asked for, and what is off.
-use Rattle.std.specs.Prelude.{◌≡◌, ℕ, Bool, true, false, ◌&&◌, List, [], ◌∷◌, ◌++◌, map, filter, flat_map, Option, Some, None, bytes_eq, if◌then◌else◌}
+use Rattle.std.specs.Prelude.{◌≡◌, ℕ, Bool, false, ◌&&◌, List, [], ◌∷◌, ◌++◌, map, filter, flat_map, Option, Some, None, bytes_eq, if◌then◌else◌}
 use Rattle.std.specs.List.{Contains, list_any, find}
 use Rattle.vk_spec.specs.Conditions.{Condition, holds}
 use Rattle.vk_spec.specs.Manifests.{Manifest, Dependency, FeatureUse, Feature, core, default}

@@ -4,7 +4,7 @@ use Rattle.std.specs.Fmt.{digits}
 use Rattle.vk_base.specs.Tokens.{token_of}
 use Rattle.vk_resolution.specs.Projects
 use Rattle.vk_resolution.specs.Printouts
-use Rattle.vk_resolution.proofs.PrintLemmas.{prints, tells}
+use Rattle.vk_resolution.proofs.PrintLemmas.{tells}
 use Rattle.vk_resolution.proofs.printouts.plans_are_printed.Goals as goal
 
 pub returns-clause-realistic : goal.returns-clause-realistic

@@ -1,10 +1,9 @@
-use Rattle.std.specs.Prelude.{[], ◌∷◌, codes}
 use Rattle.std.proofs.Common.{refl}
 use Rattle.std.specs.Fmt.{digits}
 use Rattle.vk_base.specs.Tokens.{token_of}
 use Rattle.vk_resolution.specs.Projects
 use Rattle.vk_resolution.specs.Printouts
-use Rattle.vk_resolution.proofs.PrintLemmas.{prints, tells}
+use Rattle.vk_resolution.proofs.PrintLemmas.{prints}
 use Rattle.vk_resolution.proofs.printouts.reports_are_printed.Goals as goal
 
 pub returns-clause-smallest : goal.returns-clause-smallest
