@@ -7,16 +7,15 @@ use Rattle.vk_resolution.specs.Keys.{in_order}
 use Rattle.vk_resolution.specs.Settings.{root_rules_of, ListsOff}
 use Rattle.vk_resolution.specs.Planning.{instance_key}
 use Rattle.vk_resolution.specs.Reasons.{IsReasons, facts_of}
-use Rattle.vk_resolution.specs.Computed.{off_by, name_key, off_list_by, outcome_by, if_closed, round}
-use Rattle.vk_resolution.specs.Examples.{x64, report_of, Reports}
+use Rattle.vk_resolution.specs.Computed.{off_by, name_key, off_list_by, if_closed, round}
+use Rattle.vk_resolution.specs.Examples.{x64, Reports}
 use Rattle.vk_resolution.specs.Projects
 use Rattle.vk_resolution.specs.Corners
 use Rattle.vk_resolution.proofs.Orders.{contains-in_order, in_order-contains}
 use Rattle.vk_resolution.proofs.FactLemmas.{instance_key-IsKey}
 use Rattle.vk_resolution.proofs.Soundness.{map_some, closed_round}
-use Rattle.vk_resolution.proofs.ComputedOutcome.{outcome_is}
 use Rattle.vk_resolution.proofs.OffLists.{name_key-IsKey, off_is, is_in_off}
-use Rattle.vk_resolution.proofs.ProjectLemmas.{reports, reasons}
+use Rattle.vk_resolution.proofs.ProjectLemmas.{reports_with, reports, reasons}
 
 -- two lists that are the same in order have the same members
 same_members : (is js : List Instance) → in_order instance_key is ≡ in_order instance_key js → (j : Instance) → Contains is j → Contains js j
@@ -58,12 +57,12 @@ port_named_vcpkg = reports Corners.port_named_vcpkg Corners.port_named_vcpkg_rep
 pub native_tool : Reports Corners.native_tool Corners.native_tool_report
 native_tool = reports Corners.native_tool Corners.native_tool_report refl (λ bytes. refl)
 
--- its root names one instance twice, so the off list is another list with the same members
+-- its root names one instance twice, so what is computed is another list with the members of its off list
+abbrev named_twice : List Instance
+named_twice = x64 Projects.a ∷ Projects.arm64 Projects.a ∷ Projects.arm64 Projects.b ∷ Projects.arm64 Projects.a ∷ []
+
 pub ranks_in_order : Reports Corners.ranks_in_order Corners.ranks_in_order_report
-ranks_in_order = record {
-  off = off_listed_in_order Corners.ranks_in_order.setting 5 (x64 Projects.a ∷ Projects.arm64 Projects.a ∷ Projects.arm64 Projects.b ∷ Projects.arm64 Projects.a ∷ []) refl refl;
-  outcome = λ bytes. (let r = map_some report_of (outcome_by Corners.ranks_in_order bytes 12) Corners.ranks_in_order_report refl in (r.0, outcome_is Corners.ranks_in_order bytes 12 r.0 r.1, r.2));
-}
+ranks_in_order = reports_with Corners.ranks_in_order Corners.ranks_in_order_report (off_listed_in_order Corners.ranks_in_order.setting 5 named_twice refl refl) (λ bytes. refl)
 
 pub ranks_line_by_line : IsReasons Corners.ranks_in_order Corners.ranks_in_order_reasons
 ranks_line_by_line = reasons Corners.ranks_in_order (facts_of Corners.ranks_in_order_reasons) Corners.ranks_in_order_reasons refl refl

@@ -1,6 +1,7 @@
 -- Each worked project, computed.
 use Rattle.std.proofs.Common.{◌≡◌, ◌∙◌, ℕ, List, refl, ap}
 use Rattle.std.specs.Prelude.{Some, option_map}
+use Rattle.vk_resolution.specs.Settings.{ListsOff}
 use Rattle.vk_resolution.specs.Asking.{Fact, fact_key}
 use Rattle.vk_resolution.specs.Consequences.{Inputs, rules_of}
 use Rattle.vk_resolution.specs.Reasons.{Reason, IsReasons, facts_of}
@@ -14,12 +15,16 @@ use Rattle.vk_resolution.proofs.ComputedOutcome.{outcome_is}
 use Rattle.vk_resolution.proofs.OffLists.{off_listed}
 use Rattle.vk_resolution.proofs.Uniqueness.{outcome_is_one}
 
--- what is computed is reported
-pub reports : (inputs : Inputs) (report : Report) → off_list_by inputs.setting 5 ≡ Some inputs.setting.off → ((bytes : Printing) → option_map report_of (outcome_by inputs bytes 12) ≡ Some report) → Reports inputs report
-reports inputs report off computed = record {
-  off = off_listed inputs.setting 5 off;
+-- what is computed is reported, with an off list that is right
+pub reports_with : (inputs : Inputs) (report : Report) → ListsOff inputs.setting → ((bytes : Printing) → option_map report_of (outcome_by inputs bytes 12) ≡ Some report) → Reports inputs report
+reports_with inputs report off computed = record {
+  off = off;
   outcome = λ bytes. (let r = map_some report_of (outcome_by inputs bytes 12) report (computed bytes) in (r.0, outcome_is inputs bytes 12 r.0 r.1, r.2));
 }
+
+-- and with the off list that is computed
+pub reports : (inputs : Inputs) (report : Report) → off_list_by inputs.setting 5 ≡ Some inputs.setting.off → ((bytes : Printing) → option_map report_of (outcome_by inputs bytes 12) ≡ Some report) → Reports inputs report
+reports inputs report off = reports_with inputs report (off_listed inputs.setting 5 off)
 
 -- the reasons that are computed are the reasons
 pub reasons : (inputs : Inputs) (facts : List Fact) (lines : List Reason) → if_closed (rules_of inputs) fact_key (round (rules_of inputs) fact_key 12) ≡ Some facts → reasons_by inputs facts ≡ Some lines → IsReasons inputs lines
