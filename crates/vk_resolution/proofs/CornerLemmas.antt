@@ -39,6 +39,9 @@ off_by_chain = reports Corners.off_by_chain Corners.off_by_chain_report refl (λ
 pub off_by_platform_of_feature : Reports Corners.off_by_platform_of_feature Corners.off_by_platform_of_feature_report
 off_by_platform_of_feature = reports Corners.off_by_platform_of_feature Corners.off_by_platform_of_feature_report refl (λ bytes. refl)
 
+pub off_by_platform_of_own : Reports Corners.off_by_platform_of_own Corners.off_by_platform_of_own_report
+off_by_platform_of_own = reports Corners.off_by_platform_of_own Corners.off_by_platform_of_own_report refl (λ bytes. refl)
+
 pub off_for_target : Reports Corners.off_for_target Corners.off_for_target_report
 off_for_target = reports Corners.off_for_target Corners.off_for_target_report refl (λ bytes. refl)
 

@@ -73,7 +73,20 @@ off_by_platform_of_feature = record {
 abbrev pub off_by_platform_of_feature_report : Report
 off_by_platform_of_feature_report = plans (arm_line d 5 ∷ []) 6
 
--- and so is a dependency of the root
+-- and so is a dependency of the root on itself
+abbrev pub off_by_platform_of_own : Inputs
+off_by_platform_of_own = record {
+  setting = setting
+      (root_having (Some g) (where_marked (with_features (on g) y) (codes "arm64") ∷ where_marked (with_features (on g) z) (codes "x64") ∷ []) [] (feature y (without_defaults (on d) ∷ []) ∷ feature z (on d ∷ []) ∷ []))
+      arm64_linux x64_linux (arm64 d ∷ []);
+  pages = pages_of (d_page ∷ []);
+  at_most = at_most;
+}
+
+abbrev pub off_by_platform_of_own_report : Report
+off_by_platform_of_own_report = plans (arm_line d 5 ∷ []) 6
+
+-- and one on another port
 abbrev pub off_for_target : Inputs
 off_for_target = record {
   setting = setting (root_with (where_marked (without_defaults (on d)) (codes "arm64") ∷ where_marked (on d) (codes "x64") ∷ [])) arm64_linux x64_linux (arm64 d ∷ []);
