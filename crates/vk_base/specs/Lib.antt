@@ -1,3 +1,4 @@
+pub mod Stops
 pub mod Names
 pub mod NameFaults
 pub mod FeatureViews

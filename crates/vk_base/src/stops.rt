@@ -1,0 +1,76 @@
+//! What a call answers in place of a value: a fault of what it was given, or that it was stopped.
+ghost use Rattle.std.specs.Prelude.{◌≡◌};
+ghost use Rattle.vk_base.specs.Stops.{out_of_memory};
+ghost use Rattle.vk_base.specs.declared.stops.Unread.TheVariants as unread;
+ghost use Rattle.vk_base.specs.declared.stops.Stop.TheVariants as stop;
+
+use crate::memory::Memory;
+use std::alloc::{AllocError, AllocFailed};
+
+/// Why a call that asks nothing outside has no value.
+#[derive(Clone, Copy, Debug, PartialEq, Eq, Drop)]
+pub enum Unread<F> {
+    /// A fault of what was to be read.
+    Fault(F),
+    /// Out of memory.
+    Memory(Memory),
+}
+
+/// Why a call that asks a tree or a catalogue has no value.
+#[derive(Clone, Copy, Debug, PartialEq, Eq, Drop)]
+pub enum Stop<F> {
+    /// A fault of what was to be read.
+    Fault(F),
+    /// The tree or the catalogue failed.
+    Failed,
+    /// Out of memory.
+    Memory(Memory),
+}
+
+impl<F> From<AllocError> for Unread<F> {
+    ghost from_gives = { λ _ e. e ≡ unread.Memory out_of_memory };
+
+    fn from(_: AllocError) -> Self {
+        Unread::Memory(Memory::without_allocation())
+    }
+}
+
+impl<F, T: Drop> From<AllocFailed<T>> for Unread<F> {
+    ghost from_gives = { λ _ e. e ≡ unread.Memory out_of_memory };
+
+    fn from(_: AllocFailed<T>) -> Self {
+        Unread::Memory(Memory::without_allocation())
+    }
+}
+
+impl<F> From<Memory> for Unread<F> {
+    ghost from_gives = { λ m e. e ≡ unread.Memory m };
+
+    fn from(memory: Memory) -> Self {
+        Unread::Memory(memory)
+    }
+}
+
+impl<F> From<AllocError> for Stop<F> {
+    ghost from_gives = { λ _ e. e ≡ stop.Memory out_of_memory };
+
+    fn from(_: AllocError) -> Self {
+        Stop::Memory(Memory::without_allocation())
+    }
+}
+
+impl<F, T: Drop> From<AllocFailed<T>> for Stop<F> {
+    ghost from_gives = { λ _ e. e ≡ stop.Memory out_of_memory };
+
+    fn from(_: AllocFailed<T>) -> Self {
+        Stop::Memory(Memory::without_allocation())
+    }
+}
+
+impl<F> From<Memory> for Stop<F> {
+    ghost from_gives = { λ m e. e ≡ stop.Memory m };
+
+    fn from(memory: Memory) -> Self {
+        Stop::Memory(memory)
+    }
+}
