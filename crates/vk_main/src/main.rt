@@ -42,7 +42,7 @@ fn words_of(rt: &HostRuntime) -> Result<List<Word>, Memory>
         Ok(args) => all_words(rt.alloc(), args)?,
         Err(e) => {
             if e.kind() == ErrorKind::OutOfMemory {
-                return Err(Memory);
+                return Err(Memory::without_allocation());
             }
             return not_text(rt.alloc());
         }
@@ -62,7 +62,7 @@ fn main(rt: HostRuntime) -> ExitCode {
             let ran = run(alloc, &words, FileTree::new(rt), &mut out, &mut err);
             ExitCode::from(ran.status)
         }
-        Err(Memory) => match send(&mut err, b"memory\n") {
+        Err(_) => match send(&mut err, b"memory\n") {
             Ok(()) => ExitCode::from(3),
             Err(_) => ExitCode::from(5),
         },
