@@ -5,6 +5,7 @@ pub mod FileLemmas
 pub mod OrderLemmas
 pub mod RoomLemmas
 pub mod StateLemmas
+pub mod CallLemmas
 pub mod SinkLemmas
 pub mod ReadingLemmas
 pub mod VersionLemmas

@@ -3,6 +3,7 @@ pub mod Lists
 pub mod Paths
 pub mod Files
 pub mod States
+pub mod Standing
 pub mod Calls
 pub mod Sinks
 pub mod Fronts

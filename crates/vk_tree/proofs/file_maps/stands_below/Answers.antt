@@ -2,8 +2,8 @@ use Rattle.std.proofs.Common.{◌≡◌, true, false, sym, ◌∙◌}
 use Rattle.std.specs.FinMap as map
 use Rattle.vk_spec.proofs.OrderLemmas.{less_below}
 use Rattle.vk_spec.proofs.RoomLemmas.{none_below, room_below}
-use Rattle.vk_tree.proofs.DiskLemmas.{get_path, stored, found_at, of_first}
-use Rattle.vk_tree.proofs.disks.stands_below.Goals as goal
+use Rattle.vk_tree.proofs.FileMapLemmas.{get_path, stored, found_at, of_first}
+use Rattle.vk_tree.proofs.file_maps.stands_below.Goals as goal
 
 pub returns-in-Some-clause-free : goal.returns-in-Some-clause-free
 returns-in-Some-clause-free c is =

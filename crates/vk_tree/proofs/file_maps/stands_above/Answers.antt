@@ -3,8 +3,8 @@ use Rattle.std.specs.FinMap as map
 use Rattle.vk_spec.specs.Paths.{path_cmp}
 use Rattle.vk_spec.proofs.OrderLemmas.{less_below}
 use Rattle.vk_spec.proofs.RoomLemmas.{none_above, room_above}
-use Rattle.vk_tree.proofs.DiskLemmas.{get_path, stored, found_at}
-use Rattle.vk_tree.proofs.disks.stands_above.Goals as goal
+use Rattle.vk_tree.proofs.FileMapLemmas.{get_path, stored, found_at}
+use Rattle.vk_tree.proofs.file_maps.stands_above.Goals as goal
 
 pub returns-in-Some-clause-free : goal.returns-in-Some-clause-free
 returns-in-Some-clause-free c is =

@@ -1,3 +1,4 @@
+//! Files by their paths, as a finite map.
 ghost use Rattle.std.specs.Prelude.{◌≡◌, ◌↔◌, IsTrue, true, false, OnOk, OnErr, option_map};
 ghost use Rattle.std.specs.FinMap as map;
 ghost use Rattle.vk_spec.specs.Paths.{IsOther};
@@ -11,11 +12,11 @@ use vk_base::{List, TreePath};
 
 /// Files by their paths, seen as a finite map. No file lies below a file.
 #[derive(Drop)]
-pub struct Disk {
+pub struct FileMap {
     inner: BTreeMap<TreePath, List<u8>>,
 }
 
-impl Model for Disk {
+impl Model for FileMap {
     ghost use Rattle.std.specs.Prelude.{List, ℕ};
     ghost use Rattle.std.specs.FinMap as map;
     ghost use Rattle.vk_spec.specs.Files.{Files, IsTree, coded_files};
@@ -29,12 +30,12 @@ impl Model for Disk {
     ghost invariant = { λ d. IsTree (map.from_entries d.inner.entries) };
 }
 
-impl Disk {
+impl FileMap {
     /// No files. Takes no memory.
-    pub fn new(alloc: Global) -> Disk
+    pub fn new(alloc: Global) -> FileMap
         ensures { result ≡ map.empty }
     {
-        Disk {
+        FileMap {
             inner: BTreeMap::new(alloc),
         }
     }

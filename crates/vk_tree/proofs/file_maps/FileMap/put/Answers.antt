@@ -1,8 +1,8 @@
 use Rattle.std.proofs.Common.{◌∙◌, ap}
 use Rattle.std.specs.FinMap as map
 use Rattle.vk_spec.proofs.FileLemmas.{tree_with_room, insert_agrees}
-use Rattle.vk_tree.proofs.DiskLemmas.{one_put}
-use Rattle.vk_tree.proofs.disks.Disk.put.Goals as goal
+use Rattle.vk_tree.proofs.FileMapLemmas.{one_put}
+use Rattle.vk_tree.proofs.file_maps.FileMap.put.Goals as goal
 
 put_is : goal.returns-clause-ok
 put_is c = one_put c.self.inside.inner.entries c.insert.new.self.entries c.args.path c.args.bytes c.in_ok-insert.ensures.updates.0 ∙ ap (λ m. map.insert m c.args.path c.args.bytes) c.self.view_is
