@@ -8,10 +8,6 @@ mod faults;
 mod getters;
 mod places;
 mod readers;
-#[cfg(test)]
-mod tests;
-#[cfg(test)]
-mod word_tests;
 mod words;
 
 pub use documents::Doc;
