@@ -1,12 +1,11 @@
 -- Files that are read once: one after the other.
-use Rattle.std.specs.FinMap as map
 use Rattle.std.proofs.Common.{◌≡◌, ◌<◌, Bool, false, ℕ, List, [], ◌∷◌, ◌++◌, length, refl, ap, sym, subst, ◌∙◌, arith}
 use Rattle.std.proofs.lemmas.Bool.Decides.{nat_tests}
 use Rattle.std.specs.Prelude.{Option, Some, None, IfSome, Err}
 use Rattle.std.proofs.lemmas.List.{append-nil, append_assoc, map-append}
 use Rattle.vk_spec.specs.Paths.{Path}
 use Rattle.vk_spec.specs.Files.{Files}
-use Rattle.vk_spec.specs.Standing.{Disk, OnFiles, disk_of}
+use Rattle.vk_spec.specs.Standing.{Disk, disk_of}
 use Rattle.vk_spec.specs.Calls.{Answer, Made, Says, refuses, read_of, is_failed, noted}
 use Rattle.vk_spec.proofs.CallLemmas.{looks_of, says_of}
 use Rattle.vk_tree.specs.declared.trees.ReadFault.{ReadFault}

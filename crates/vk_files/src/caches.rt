@@ -1,5 +1,5 @@
 //! What was read of a tree, by path.
-ghost use Rattle.std.specs.Prelude.{◌≡◌, ◌<◌, ◌++◌, ◌∷◌, [], ℕ, List, Option, None, IsSome, OnOk, IfOk, length, option_map};
+ghost use Rattle.std.specs.Prelude.{◌≡◌, ◌<◌, ◌++◌, ◌∷◌, [], ℕ, List, Option, None, IsSome, OnOk, IfOk, IfErr, length, option_map};
 ghost use Rattle.std.specs.Option.{option_copied};
 ghost use Rattle.indexmap.specs.IndexMap.{spare};
 ghost use Rattle.vk_spec.specs.Lists.{NoRepeats};
@@ -9,11 +9,11 @@ ghost use Rattle.vk_spec.specs.Calls.{Says, NoLonger, read_of, noted};
 ghost use Rattle.vk_tree.specs.Answers.{read_answer, read_failed};
 ghost use Rattle.vk_files.specs.Kept.{ReadOnce, most_bytes, paths_of, seen_in};
 ghost use Rattle.vk_files.specs.Views.{held, kept_of, kept_at, seen_view};
-ghost use Rattle.vk_files.specs.StopViews.{has_look_failed, noted_by};
+ghost use Rattle.vk_base.specs.Stops.{has_failed, stop_fault_in};
+ghost use Rattle.vk_files.specs.StopViews.{noted_by};
 ghost use Rattle.vk_files.specs.ReadFaults.{seen_by};
 
 use crate::found::{FileBytes, Found};
-use crate::stops::LookStop;
 use indexmap::IndexMap;
 use std::alloc::Global;
 use vk_base::{List, Stop, TreePath};
@@ -40,17 +40,18 @@ fn found_by(fault: ReadFault) -> Found
 
 // What a call of the tree found.
 #[tactic(auto, using(crate::proofs::OnceLemmas::seen_by_fault))]
-fn found_in(read: Result<List<u8>, Stop<ReadFault>>) -> Result<Found, LookStop>
+fn found_in<F>(read: Result<List<u8>, Stop<ReadFault>>) -> Result<Found, Stop<F>>
     requires { NoLonger most_bytes (read_answer read) }
     ensures seen { (path : Path) (d : Disk) → Says (read_of path most_bytes) (read_answer read) d → IfOk result (λ found. seen_view found ≡ seen_in (d path)) }
-    ensures failed { has_look_failed result ≡ read_failed read }
+    ensures no_fault { IfErr result (λ e. stop_fault_in e ≡ None) }
+    ensures failed { has_failed result ≡ read_failed read }
     ensures noted { (path : Path) → noted path (read_answer read) ≡ noted_by path result }
 {
     match read {
         Ok(bytes) => Ok(Found::Bytes(FileBytes { bytes })),
         Err(Stop::Fault(fault)) => Ok(found_by(fault)),
-        Err(Stop::Failed) => Err(LookStop::TreeFailed),
-        Err(Stop::Memory(_)) => Err(LookStop::Memory),
+        Err(Stop::Failed) => Err(Stop::Failed),
+        Err(Stop::Memory(memory)) => Err(Stop::Memory(memory)),
     }
 }
 
@@ -90,10 +91,11 @@ impl FileCache {
     // Asks the tree for a path that it wasn't asked for yet. The room for what stands there is taken
     // first, so that nothing that was read is forgotten.
     #[tactic(auto, using(crate::proofs::OnceLemmas::still_read, crate::proofs::OnceLemmas::found_read, crate::proofs::OnceLemmas::nothing_found, crate::proofs::OnceLemmas::seen_told, crate::proofs::CacheLemmas::last_kept))]
-    fn ask<T: Tree>(&mut self, tree: &mut T, path: &TreePath) -> Result<(), LookStop>
+    fn ask<T: Tree, F>(&mut self, tree: &mut T, path: &TreePath) -> Result<(), Stop<F>>
         requires { kept_at path.now (kept_of self.old) ≡ None }
-        ensures once { ReadOnce (has_look_failed result) (held self.old (T.state tree.old)) (held self.new (T.state tree.new)) }
+        ensures once { ReadOnce (has_failed result) (held self.old (T.state tree.old)) (held self.new (T.state tree.new)) }
         ensures there { OnOk result (IsSome (kept_at path.now (kept_of self.new))) }
+        ensures no_fault { IfErr result (λ e. stop_fault_in e ≡ None) }
     {
         let key = path.clone()?;
         self.found.reserve(1)?;
@@ -102,10 +104,12 @@ impl FileCache {
         Ok(())
     }
 
-    /// Looks at a path, for which the tree is asked unless it was before.
-    pub fn look<T: Tree>(&mut self, tree: &mut T, path: &TreePath) -> Result<(), LookStop>
-        ensures once { ReadOnce (has_look_failed result) (held self.old (T.state tree.old)) (held self.new (T.state tree.new)) }
+    /// Looks at a path, for which the tree is asked unless it was before. It finds no fault, of
+    /// whatever type the caller's faults are.
+    pub fn look<T: Tree, F>(&mut self, tree: &mut T, path: &TreePath) -> Result<(), Stop<F>>
+        ensures once { ReadOnce (has_failed result) (held self.old (T.state tree.old)) (held self.new (T.state tree.new)) }
         ensures there { OnOk result (IsSome (kept_at path.now (kept_of self.new))) }
+        ensures no_fault { IfErr result (λ e. stop_fault_in e ≡ None) }
     {
         if self.found.contains_key(path) {
             return Ok(());
