@@ -8,6 +8,7 @@ use Rattle.vk_spec.specs.States.{Told}
 use Rattle.vk_spec.specs.Calls.{Answer, is_failed}
 use Rattle.vk_spec.specs.Versions.{Version, Ask, ask_of}
 use Rattle.vk_spec.specs.Manifests.{Manifest}
+use Rattle.vk_spec.specs.Asking.{AnswersAs}
 use Rattle.vk_spec.specs.Pages as the
 use Rattle.vk_spec.specs.Pages.{Wrong, no_registry, no_baseline, bad_file, disagrees, Given, overlay, override, baseline, Row, Page, version_in, manifest_in}
 
@@ -114,3 +115,13 @@ SaysVersion ask page version = version ≡ version_in page ask
 
 abbrev pub SaysManifest : {C : Type 0} → Ask → Page C → Result (Manifest C) Wrong → Type 0
 SaysManifest ask page manifest = Some manifest ≡ manifest_in page ask
+
+-- ---- what a caller answers that asks more than once
+
+-- what holds of the pages, where they are told
+abbrev pub OnPages : {C : Type 0} → (Pages C → Type 0) → CatalogueState C → Type 0
+OnPages P s = IfSome s.pages P
+
+-- nothing but asking was done, and where the pages are told, the answer is what they give
+abbrev pub AsksAs : {C X Y E F : Type 0} → (E → Bool) → (E → Option F) → (X → Y) → Result X E → (Pages C → Result Y F) → CatalogueState C → CatalogueState C → Type 0
+AsksAs failed fault view answer meaning before after = AnswersAs OnlyAsked OnPages failed fault view answer meaning before after
