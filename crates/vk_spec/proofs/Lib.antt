@@ -8,7 +8,7 @@ pub mod StateLemmas
 pub mod CallLemmas
 pub mod SinkLemmas
 pub mod ReadingLemmas
-pub mod AskingLemmas
+pub mod AskedCallLemmas
 pub mod VersionLemmas
 pub mod AskLemmas
 pub mod FrontLemmas

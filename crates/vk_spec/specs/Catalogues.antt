@@ -8,7 +8,7 @@ use Rattle.vk_spec.specs.States.{Told}
 use Rattle.vk_spec.specs.Calls.{Answer, is_failed}
 use Rattle.vk_spec.specs.Versions.{Version, Ask, ask_of}
 use Rattle.vk_spec.specs.Manifests.{Manifest}
-use Rattle.vk_spec.specs.Asking.{AnswersAs}
+use Rattle.vk_spec.specs.AskedCalls.{AnswersAs}
 use Rattle.vk_spec.specs.Pages as the
 use Rattle.vk_spec.specs.Pages.{Wrong, no_registry, no_baseline, bad_file, disagrees, Given, overlay, override, baseline, Row, Page, version_in, manifest_in}
 

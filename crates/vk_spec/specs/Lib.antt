@@ -8,7 +8,7 @@ pub mod Calls
 pub mod Sinks
 pub mod Fronts
 pub mod Reading
-pub mod Asking
+pub mod AskedCalls
 pub mod Versions
 pub mod Conditions
 pub mod Manifests

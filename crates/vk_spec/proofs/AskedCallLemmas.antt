@@ -3,7 +3,7 @@ use Rattle.std.proofs.Common.{◌≡◌, ◌+◌, ◌<◌, ◌≤◌, ℕ, Bool,
 use Rattle.std.specs.Prelude.{Option, Some, None, Result, Ok, Err}
 use Rattle.vk_spec.specs.Reading.{◌>>=◌, read_each, Gives, Fails}
 use Rattle.vk_spec.proofs.ReadingLemmas.{with_front, nothing_yet, left_from, goes_on_by, ends_by, is_done_by, gives_then, fails_on}
-use Rattle.vk_spec.specs.Asking.{stopped_by, IsAsking, AnswersAs}
+use Rattle.vk_spec.specs.AskedCalls.{stopped_by, IsAsking, AnswersAs}
 
 -- a loop over a list that asks of each member: nothing failed so far, and what is still asked, behind what was answered, is what is asked of all
 pub record AnsweredSoFar {S W V X R A F : Type 0} (Only : Bool → S → S → Type 0) (On : (W → Type 0) → S → Type 0) (view : V → X) (out : R → A) (one : X → W → Result A F) (front : List R) (i : ℕ) (vs : List V) (before now : S) : Type 0 where
