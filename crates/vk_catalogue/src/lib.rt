@@ -19,6 +19,3 @@ pub use mem_catalogues::MemCatalogue;
 pub use pages::{Page, PageRow};
 pub use stops::CatStop;
 pub use wrongs::{Field, Given, Wrong};
-
-#[cfg(test)]
-mod tests;
