@@ -1,11 +1,11 @@
--- Where the suffix of a text begins: nowhere in numbers joined by dots, and after the core of a semantic version.
+-- Where the numbers of a text end, and what follows them.
 use Rattle.std.proofs.Common.{◌≡◌, ◌<◌, ◌^◌, ◌==◌, ◌++◌, ℕ, Bool, true, false, not, List, [], ◌∷◌, length, get_or, append_assoc, inl, inr, refl, ap, sym, ◌∙◌, arith, Ok}
 use Rattle.std.specs.Char.{is_ascii_digit}
 use Rattle.std.specs.List.{list_all, position_or_len}
 use Rattle.std.specs.Fmt.{decimal}
 use Rattle.std.proofs.lemmas.Bool.{cases_Bool, and_parts, and_from, eqb-true, eq-eqb}
 use Rattle.std.proofs.lemmas.Bool.Decides.{nat_tests}
-use Rattle.std.proofs.lemmas.List.{take_all, drop_all, take_at, drop_at}
+use Rattle.std.proofs.lemmas.List.{take_at, drop_at}
 use Rattle.std.proofs.lemmas.List.Folds.{prefix_len-append}
 use Rattle.std.proofs.lemmas.List.Sums.{AllPass-from_list_all}
 use Rattle.std.proofs.lemmas.List.Splits.{slice_split_at, slice_split_none}
@@ -16,7 +16,7 @@ use Rattle.semver.specs.Order.{parts}
 use Rattle.semver.specs.OrderLaws.{parts-shape}
 use Rattle.semver.specs.Parse.{Parts, version_parts}
 use Rattle.semver.proofs.Grammar.{version_parts-sound}
-use Rattle.vk_version.specs.Texts.{is_number, is_dotted, numbers_in, begins_suffix, core_of, suffix_of, pre_in}
+use Rattle.vk_version.specs.Texts.{is_number, numbers_in, begins_tail, core_of, tail_of, pre_in}
 use Rattle.vk_version.proofs.DigitLemmas.{own}
 
 -- each part has such bytes alone
@@ -53,21 +53,11 @@ numbers_digits (p ∷ ps) e =
     let both = and_parts _ _ e in
     and_from _ _ (number_digits p both.0) (numbers_digits ps both.1)
 
-digit_begins_none : (b : ℕ) → is_ascii_digit b ≡ true → begins_suffix b ≡ false
+digit_begins_none : (b : ℕ) → is_ascii_digit b ≡ true → begins_tail b ≡ false
 digit_begins_none b e = grind (arith, nat_tests)
 
-pub no_suffix : (text : List ℕ) → all_of is_ascii_digit (parts text) ≡ true → position_or_len begins_suffix text ≡ length text
-no_suffix text e = none_in is_ascii_digit begins_suffix digit_begins_none refl text e
-
-pub dotted_core : (text : List ℕ) → is_dotted text ≡ true → core_of text ≡ text
-dotted_core text e =
-    let whole = no_suffix text (numbers_digits (parts text) e) in
-    take_all (position_or_len begins_suffix text) text (omega (arith, whole))
-
-pub dotted_suffix : (text : List ℕ) → is_dotted text ≡ true → suffix_of text ≡ []
-dotted_suffix text e =
-    let whole = no_suffix text (numbers_digits (parts text) e) in
-    drop_all (position_or_len begins_suffix text) text (omega (arith, whole))
+pub no_tail : (text : List ℕ) → all_of is_ascii_digit (parts text) ≡ true → position_or_len begins_tail text ≡ length text
+no_tail text e = none_in is_ascii_digit begins_tail digit_begins_none refl text e
 
 -- ---- a semantic version
 
@@ -100,19 +90,19 @@ pub first_after : (p : ℕ → Bool) (front tail : List ℕ) → position_or_len
 first_after p front tail whole none =
     prefix_len-append (λ x. not (p x)) front tail ∙ rw (whole, eq-eqb (length front) (length front) refl, none) (omega arith)
 
-tail_begins : (pre build : List ℕ) → position_or_len begins_suffix (marked 45 pre ++ marked 43 build) ≡ 0
+tail_begins : (pre build : List ℕ) → position_or_len begins_tail (marked 45 pre ++ marked 43 build) ≡ 0
 tail_begins [] [] = refl
 tail_begins [] (y ∷ ys) = refl
 tail_begins (x ∷ r) build = refl
 
-build_begins : (build : List ℕ) → position_or_len (λ b. b == 43) (marked 43 build) ≡ 0
+pub build_begins : (build : List ℕ) → position_or_len (λ b. b == 43) (marked 43 build) ≡ 0
 build_begins [] = refl
 build_begins (y ∷ ys) = refl
 
-identifier_no_plus : (b : ℕ) → is_identifier_byte b ≡ true → (b == 43) ≡ false
+pub identifier_no_plus : (b : ℕ) → is_identifier_byte b ≡ true → (b == 43) ≡ false
 identifier_no_plus b e = grind (arith, nat_tests)
 
-identifier_bytes : (ps : List (List ℕ)) → list_all is_pre_identifier ps ≡ true → all_of is_identifier_byte ps ≡ true
+pub identifier_bytes : (ps : List (List ℕ)) → list_all is_pre_identifier ps ≡ true → all_of is_identifier_byte ps ≡ true
 identifier_bytes [] e = refl
 identifier_bytes (p ∷ ps) e =
     let both = and_parts _ _ e in
@@ -120,7 +110,7 @@ identifier_bytes (p ∷ ps) e =
     let bytes = and_parts _ (list_all is_identifier_byte p) first.0 in
     and_from _ _ bytes.1 (identifier_bytes ps both.1)
 
-tail_pre : (pre build : List ℕ) → is_pre_release pre ≡ true → pre_in (marked 45 pre ++ marked 43 build) ≡ pre
+pub tail_pre : (pre build : List ℕ) → is_pre_release pre ≡ true → pre_in (marked 45 pre ++ marked 43 build) ≡ pre
 tail_pre [] [] e = refl
 tail_pre [] (y ∷ ys) e = refl
 tail_pre (x ∷ r) build e =
@@ -128,10 +118,24 @@ tail_pre (x ∷ r) build e =
     let at = first_after (λ b. b == 43) (x ∷ r) (marked 43 build) whole (build_begins build) in
     take_at (x ∷ r) (marked 43 build) (position_or_len (λ b. b == 43) ((x ∷ r) ++ marked 43 build)) (sym at)
 
--- the text of a semantic version, at the place where its suffix begins
+-- digits alone, and then what their marks begin: that is how the text is cut
+pub record IsCutThere (text core pre build : List ℕ) : Type 0 where
+  pub front : core_of text ≡ core
+  pub tail : tail_of text ≡ marked 45 pre ++ marked 43 build
+
+pub cut_there : (core pre build : List ℕ) → all_of is_ascii_digit (parts core) ≡ true → IsCutThere (core ++ (marked 45 pre ++ marked 43 build)) core pre build
+cut_there core pre build digits =
+    let tail = marked 45 pre ++ marked 43 build in
+    let at : position_or_len begins_tail (core ++ tail) ≡ length core = first_after begins_tail core tail (no_tail core digits) (tail_begins pre build) in
+    record {
+      front = take_at core tail (position_or_len begins_tail (core ++ tail)) (sym at);
+      tail = drop_at core tail (position_or_len begins_tail (core ++ tail)) (sym at);
+    }
+
+-- the text of a semantic version
 pub record IsSemver (text : List ℕ) (p : Parts) : Type 0 where
   pub core : core_of text ≡ core_text p.0 p.1 p.2
-  pub tail : suffix_of text ≡ marked 45 p.3 ++ marked 43 p.4
+  pub tail : tail_of text ≡ marked 45 p.3 ++ marked 43 p.4
   pub valid : IsValid p
 
 pub semver_cut : (text : List ℕ) (p : Parts) → version_parts text ≡ Ok p → IsSemver text p
@@ -139,13 +143,11 @@ semver_cut text p e =
     let sound = version_parts-sound text p e in
     let v = sound.1 in
     let front = core_text p.0 p.1 p.2 in
-    let tail = marked 45 p.3 ++ marked 43 p.4 in
-    let joined : front ++ tail ≡ text = simp append_assoc sound.0 in
-    let at : position_or_len begins_suffix (front ++ tail) ≡ length front =
-    first_after begins_suffix front tail (no_suffix front (core_digits p.0 p.1 p.2 v.0 v.1 v.2)) (tail_begins p.3 p.4) in
+    let joined : front ++ (marked 45 p.3 ++ marked 43 p.4) ≡ text = simp append_assoc sound.0 in
+    let cut = cut_there front p.3 p.4 (core_digits p.0 p.1 p.2 v.0 v.1 v.2) in
     rw (← joined) (record {
-      core = take_at front tail (position_or_len begins_suffix (front ++ tail)) (sym at);
-      tail = drop_at front tail (position_or_len begins_suffix (front ++ tail)) (sym at);
+      core = cut.front;
+      tail = cut.tail;
       valid = v;
     })
 
@@ -154,7 +156,7 @@ semver_numbers text p e =
     let s = semver_cut text p e in
     rw s.core (core_numbers p.0 p.1 p.2 s.valid.0 s.valid.1 s.valid.2)
 
-pub semver_pre : (text : List ℕ) (p : Parts) → version_parts text ≡ Ok p → pre_in (suffix_of text) ≡ p.3
+pub semver_pre : (text : List ℕ) (p : Parts) → version_parts text ≡ Ok p → pre_in (tail_of text) ≡ p.3
 semver_pre text p e =
     let s = semver_cut text p e in
     rw s.tail (tail_pre p.3 p.4 s.valid.3)

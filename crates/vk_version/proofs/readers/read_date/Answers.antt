@@ -4,19 +4,17 @@ use Rattle.vk_version.specs.Texts.{number_of}
 use Rattle.vk_version.specs.Steps.{parts_in}
 use Rattle.vk_version.proofs.DateLemmas.{later_numbered, date_reads, date_numbers}
 use Rattle.vk_version.proofs.FaultLemmas.{fits_if-Ok}
-use Rattle.vk_version.proofs.versions.read_date.Goals as goal
+use Rattle.vk_version.proofs.readers.read_date.Goals as goal
 
 pub push_later-requires : goal.push_later-requires
 push_later-requires c = later_numbered _ _ _ c.in_ok-day.ensures.ok
 
-pub invariant_of-result : goal.invariant_of-result
-invariant_of-result c =
-    let same = c.in_ok-from_str.ensures in
-    let bytes = c.as_bytes.ensures.value in
-    let date = rw bytes at c.in_ok-day.ensures.ok in
+pub with_parts-requires : goal.with_parts-requires
+with_parts-requires c =
+    let date = rw c.as_bytes.ensures.value at c.in_ok-day.ensures.ok in
     let fit = fits_if-Ok _ c.in_ok-push_later.ensures.fits in
     record {
-      version = record { scheme = the.date; reads = rw same (date_reads _ _ _ c.args.port date fit) };
-      numbers = rw same (c.in_ok-push_later.ensures.ok ∙ ap (λ l. l ++ map number_of (parts_in c.in_ok-day.later)) c.in_ok-numbers.ensures ∙ date_numbers _ _ _ date);
+      version = record { scheme = the.date; reads = date_reads _ _ _ c.args.port date fit };
+      numbers = c.in_ok-push_later.ensures.ok ∙ ap (λ l. l ++ map number_of (parts_in c.in_ok-day.later)) c.in_ok-numbers.ensures ∙ date_numbers _ _ _ date;
       pre = c.empty.ensures;
     }
