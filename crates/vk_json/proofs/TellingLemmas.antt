@@ -18,7 +18,7 @@ use Rattle.vk_json.specs.declared.faults.FileFault.{FileFault}
 use Rattle.vk_json.specs.declared.faults.Why.{Why}
 use Rattle.vk_json.specs.declared.faults.Why.TheVariants as why
 use Rattle.vk_json.specs.Looks.{list_of}
-use Rattle.vk_json.specs.Places.{here, moved, inside, member_step, item_step}
+use Rattle.vk_json.specs.Places.{here, moved, at_member, inside, member_step, item_step}
 use Rattle.vk_json.specs.Readings.{Reading, MemberReading, text_at, bool_at, number_at, members_at, object_at, if_there, wanted, optional, read_or, optional_or, text_or_object, item_at, each_item, pairs_of, member_at, each_member}
 use Rattle.vk_json.specs.Standing.{itself, by_member, by_item, StandsIn, at_value, at_key}
 
@@ -69,11 +69,10 @@ pub told_here : (d : Data) (what : Why) → what ≢ why.Missing → StandsIn d 
 told_here d what other = at_value d d [] what other (itself d)
 
 -- at a member that is there
-pub told_at : (key : List ℕ) (d v : Data) (what : Why) → get key d ≡ Some v → what ≢ why.Missing → StandsIn d (record { place = member_step key; why = what })
+pub told_at : (key : List ℕ) (d v : Data) (what : Why) → get key d ≡ Some v → what ≢ why.Missing → StandsIn d (at_member key what)
 told_at key d v what found other =
     let has = get_has key d v found in
-    rw has.1
-    (subst (λ p. StandsIn (json.object has.0) (record { place = p; why = what })) (append-nil (member_step key)) (stands_member has.0 key v (here what) has.2 (told_here v what other)))
+    rw has.1 (stands_member has.0 key v (here what) has.2 (told_here v what other))
 
 -- ---- readings
 
@@ -136,13 +135,27 @@ module _ {A : Type 0} (P : A → Type 0) (f : Reading A) (reads : Reads P f) (ke
   pub wanted_says : Says P d (wanted f key d)
   wanted_says = says_weaker (λ x. P x × IsSome (get key d)) P d (wanted f key d) wanted_there (λ x p. p.0)
 
-  optional_by : (o : Option Data) → get key d ≡ o → Says (λ o. IfSome o P) d (inside (member_step key) (if_there f o))
+  -- an optional value that was read has P, and its member is there
+  abbrev WasThere : Option A → Type 0
+  WasThere o = IfSome o (λ x. P x × IsSome (get key d))
+
+  optional_by : (o : Option Data) → get key d ≡ o → Says WasThere d (inside (member_step key) (if_there f o))
   optional_by None e = tt
-  optional_by (Some v) e = says_under (λ o. IfSome o P) key d v (f v >>= λ x. Ok (Some x)) e (says_then P (λ o. IfSome o P) v (f v) (λ x. Ok (Some x)) (reads v) (λ x p. p))
+  optional_by (Some v) e = says_under WasThere key d v (f v >>= λ x. Ok (Some x)) e (says_then P WasThere v (f v) (λ x. Ok (Some x)) (reads v) (λ x p. (p, rw e refl)))
+
+  pub optional_was_there : Says WasThere d (optional f key d)
+  unfolding optional
+  optional_was_there = optional_by (get key d) refl
+
+  weaker_if : {Q R : A → Type 0} (o : Option A) → ((x : A) → Q x → R x) → IfSome o Q → IfSome o R
+  weaker_if None weaker q = tt
+  weaker_if (Some x) weaker q = weaker x q
 
   pub optional_says : Says (λ o. IfSome o P) d (optional f key d)
-  unfolding optional
-  optional_says = optional_by (get key d) refl
+  optional_says = says_weaker WasThere (λ o. IfSome o P) d (optional f key d) optional_was_there (λ o there. weaker_if o (λ x both. both.0) there)
+
+  pub optional_there : Says (λ o. IfSome o (λ x. IsSome (get key d))) d (optional f key d)
+  optional_there = says_weaker WasThere (λ o. IfSome o (λ x. IsSome (get key d))) d (optional f key d) optional_was_there (λ o there. weaker_if o (λ x both. both.1) there)
 
   optional_or_by : (default : A) → P default → (o : Option Data) → get key d ≡ o → Says P d (inside (member_step key) (read_or default f o))
   optional_or_by default p None e = p

@@ -33,6 +33,10 @@ here why = record { place = []; why = why }
 abbrev pub moved : List ℕ → FileFault → FileFault
 moved step fault = record { place = step ++ fault.place; why = fault.why }
 
+-- wrong is the member with this key
+abbrev pub at_member : List ℕ → Why → FileFault
+at_member key why = moved (member_step key) (here why)
+
 -- what reading a part gives, told from outside
 abbrev pub inside : {A : Type 0} → List ℕ → Result A FileFault → Result A FileFault
 inside step (Ok x) = Ok x

@@ -1,8 +1,9 @@
 //! Places in a document are JSON Pointers (RFC 6901).
 ghost use Rattle.std.specs.Prelude.{◌≡◌, ◌++◌, IfOk, Some, OnOk, codes, string_bytes};
-ghost use Rattle.vk_json.specs.Places.{escaped_char, escaped, member_step, item_step, here, moved, place_text};
+ghost use Rattle.vk_json.specs.Places.{escaped_char, escaped, member_step, item_step};
+ghost use Rattle.vk_json.specs.Places.{here, moved, at_member, place_text};
 ghost use Rattle.vk_base.specs.Stops.{fault_in};
-ghost use Rattle.vk_json.specs.FaultViews.{IsMoved};
+ghost use Rattle.vk_json.specs.FaultViews.{Tells, IsMoved};
 
 use crate::faults::{FileFault, Why};
 use std::alloc::Global;
@@ -108,4 +109,11 @@ pub fn in_item(alloc: Global, n: usize, unread: Unread<FileFault>) -> Unread<Fil
         Ok(step) => moved(step, unread),
         Err(memory) => Unread::Memory(memory),
     }
+}
+
+/// The fault that the member with this key is wrong.
+pub fn wrong_member(alloc: Global, key: &str, why: Why) -> Unread<FileFault>
+    ensures { Tells (fault_in result) (Some (at_member key.now why)) }
+{
+    in_member(alloc, key, wrong(alloc, why))
 }

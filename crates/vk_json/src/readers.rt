@@ -11,7 +11,7 @@ ghost use Rattle.vk_json.specs.Readings.{text_at, bool_at, number_at, wanted, op
 
 use crate::faults::{FileFault, Why};
 use crate::getters::{as_bool, as_number, as_text, items, member};
-use crate::places::{in_item, in_member, wrong};
+use crate::places::{in_item, in_member, wrong, wrong_member};
 use serde_json::{Map, Value};
 use std::alloc::Global;
 use vk_base::{List, Text, Unread};
@@ -80,7 +80,7 @@ pub fn wanted<R: Reader>(
 {
     match member(value, key) {
         Some(found) => read_in_member(alloc, key, found, reader),
-        None => Err(in_member(alloc, key, wrong(alloc, Why::Missing))),
+        None => Err(wrong_member(alloc, key, Why::Missing)),
     }
 }
 
