@@ -5,5 +5,6 @@ pub mod Paths
 pub mod PathReading
 pub mod PathHash
 pub mod Tokens
+pub mod Decimals
 pub mod Printed
 pub mod Schedules

@@ -30,7 +30,7 @@ fn is_reserved(text: &str) -> bool
 /// The name of a feature that a port's manifest has: at most 200 bytes `a` to `z`, `0` to `9`, `-`
 /// and `_`, with no `-` in front, and neither `core` nor `default`. Contracts see it as its bytes,
 /// and its order is theirs.
-#[derive(Drop)]
+#[derive(Clone, PartialEq, Eq, PartialOrd, Ord, Hash, Drop)]
 pub struct NamedFeature {
     text: Text,
 }
@@ -44,6 +44,8 @@ impl Model for NamedFeature {
     ghost view = { λ n. n.text };
 
     ghost invariant = { λ n. reads_feature n.text ≡ Ok n.text };
+
+    ghost inverse = { λ n. record { text = n } };
 }
 
 impl NamedFeature {
@@ -76,16 +78,6 @@ impl fmt::Display for NamedFeature {
 
     fn fmt<W: fmt::Write>(&self, f: &mut fmt::Formatter<W>) -> fmt::Result {
         f.write_str(self.as_str())
-    }
-}
-
-impl Clone for NamedFeature {
-    ghost is_clone = { λ x y. y ≡ x };
-
-    fn clone(&self) -> Result<NamedFeature, AllocError> {
-        Ok(NamedFeature {
-            text: self.text.clone()?,
-        })
     }
 }
 
