@@ -11,3 +11,4 @@ mod SameTextLemmas
 pub mod TestLemmas
 mod ApartLemmas
 mod RefusedLemmas
+mod WordLemmas
