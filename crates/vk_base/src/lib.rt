@@ -27,6 +27,3 @@ pub use stops::{Stop, Unread};
 pub use texts::Text;
 pub use tokens::{read_token, token, token_rule};
 pub use words::Word;
-
-#[cfg(test)]
-mod tests;

@@ -8,16 +8,16 @@ ghost use Rattle.std.specs.Hash as fed;
 ghost use Rattle.std.specs.Cmp.Lexicographic.{slice_cmp, pointwise};
 ghost use Rattle.std.specs.Ordering.{nat_cmp, on, then_cmp, as_partial_cmp};
 ghost use Rattle.vk_spec.specs.Reading.{Gives};
-ghost use Rattle.vk_base.specs.declared.names.NameFault.TheVariants.{Memory};
-ghost use Rattle.vk_base.specs.Names.{IsName, BreaksFirst, port_rule, word_rule, is_name_byte, end_fault, name_fault, reads_name};
-ghost use Rattle.vk_base.specs.NameFaults.{name_fault_of, rule_of};
+ghost use Rattle.vk_base.specs.Names.{IsName, BreaksFirst, port_rule, word_rule, rule_of};
+ghost use Rattle.vk_base.specs.Names.{is_name_byte, end_fault, name_fault, reads_name};
+ghost use Rattle.vk_base.specs.Stops.{fault_in};
 ghost use Rattle.vk_base.specs.FeatureViews.{feature_view};
 
 use crate::features::FeatureName;
 use crate::instances::Instance;
-use crate::memory::Memory;
+use crate::stops::Unread;
 use crate::texts::Text;
-use std::alloc::{AllocError, AllocFailed, Global};
+use std::alloc::{AllocError, Global};
 use std::cmp::Ordering;
 use std::fmt;
 use std::hash::{Hash, Hasher};
@@ -31,32 +31,6 @@ pub enum NameFault {
     Bad { at: u32 },
     /// A word that has a meaning of its own.
     Reserved,
-    /// Want of memory.
-    Memory,
-}
-
-impl From<AllocError> for NameFault {
-    ghost from_gives = { λ _ e. e ≡ Memory };
-
-    fn from(_: AllocError) -> Self {
-        NameFault::Memory
-    }
-}
-
-impl<T: Drop> From<AllocFailed<T>> for NameFault {
-    ghost from_gives = { λ _ e. e ≡ Memory };
-
-    fn from(_: AllocFailed<T>) -> Self {
-        NameFault::Memory
-    }
-}
-
-impl From<Memory> for NameFault {
-    ghost from_gives = { λ _ e. e ≡ Memory };
-
-    fn from(_: Memory) -> Self {
-        NameFault::Memory
-    }
 }
 
 // What a kind of names allows besides lower-case letters, digits, and hyphens inside.
@@ -140,11 +114,11 @@ fn name_fault_at(rule: Rule, bytes: &[u8]) -> Option<usize>
     }
 }
 
-pub(crate) fn read_name(alloc: Global, rule: Rule, text: &str) -> Result<Text, NameFault>
-    ensures { Gives (λ t. t) name_fault_of result (reads_name (rule_of rule) text.now) }
+pub(crate) fn read_name(alloc: Global, rule: Rule, text: &str) -> Result<Text, Unread<NameFault>>
+    ensures { Gives (λ t. t) fault_in result (reads_name (rule_of rule) text.now) }
 {
     match name_fault_at(rule, text.as_bytes()) {
-        Some(at) => Err(NameFault::Bad { at: at as u32 }),
+        Some(at) => Err(Unread::Fault(NameFault::Bad { at: at as u32 })),
         None => Ok(Text::from_str(alloc, text)?),
     }
 }
@@ -169,8 +143,8 @@ impl Model for PortName {
 
 impl PortName {
     /// Reads a port's name. `Bad` comes exactly where the rule fails, with the first byte that breaks it.
-    pub fn read(alloc: Global, text: &str) -> Result<PortName, NameFault>
-        ensures { Gives (λ n. n) name_fault_of result (reads_name port_rule text.now) }
+    pub fn read(alloc: Global, text: &str) -> Result<PortName, Unread<NameFault>>
+        ensures { Gives (λ n. n) fault_in result (reads_name port_rule text.now) }
     {
         Ok(PortName {
             text: read_name(alloc, PORT, text)?,
@@ -274,8 +248,8 @@ impl Model for TripletName {
 
 impl TripletName {
     /// Reads a triplet's name. `Bad` comes exactly where the rule fails, with the first byte that breaks it.
-    pub fn read(alloc: Global, text: &str) -> Result<TripletName, NameFault>
-        ensures { Gives (λ n. n) name_fault_of result (reads_name word_rule text.now) }
+    pub fn read(alloc: Global, text: &str) -> Result<TripletName, Unread<NameFault>>
+        ensures { Gives (λ n. n) fault_in result (reads_name word_rule text.now) }
     {
         Ok(TripletName {
             text: read_name(alloc, WORD, text)?,

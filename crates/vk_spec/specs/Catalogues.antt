@@ -4,7 +4,7 @@ use Rattle.std.specs.List.{Contains}
 use Rattle.vk_spec.specs.Counts.{Counted}
 use Rattle.vk_spec.specs.Lists.{NoRepeats}
 use Rattle.vk_spec.specs.Paths.{Path}
-use Rattle.vk_spec.specs.Files.{Files}
+use Rattle.vk_spec.specs.States.{Told}
 use Rattle.vk_spec.specs.Calls.{Answer, is_failed}
 use Rattle.vk_spec.specs.Versions.{Version, Ask, ask_of}
 use Rattle.vk_spec.specs.Manifests.{Manifest}
@@ -60,11 +60,20 @@ pub record CanAskManifest {C : Type 0} (ask : Ask) (page : Page C) : Type 0 wher
 
 -- ---- what is known of a catalogue
 
--- where a catalogue comes from: what a tree of files told when the catalogue was made over it, or nothing
+-- the folder where a version of a port stands, if it stands anywhere
+abbrev pub Places : Type 0
+Places = List ℕ → Version → Option Path
+
+-- where a catalogue comes from, which no call of it changes
 pub record Origin : Type 0 where
-  pub files : Option Files
-  pub log : Option (List Path)
+  -- files and log, as a tree told them when the catalogue was made over it
+  pub told : Option Told
+  -- what was changed in that tree
   pub changes : ℕ
+  -- the paths that were read of it before
+  pub opened : List Path
+  -- where versions stand, where the pages are told
+  pub places : Places
 
 pub record CatalogueState (C : Type 0) : Type 0 where
   -- the page of each port, where it tells them

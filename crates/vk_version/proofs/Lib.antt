@@ -12,3 +12,4 @@ pub mod TestLemmas
 mod ApartLemmas
 mod RefusedLemmas
 mod WordLemmas
+mod PortLemmas

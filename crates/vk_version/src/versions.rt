@@ -70,6 +70,15 @@ impl Version {
         self.ask.port
     }
 
+    /// The same class and text with this port-version.
+    #[tactic(auto, using(crate::proofs::PortLemmas::kept_with_port))]
+    pub fn with_port(mut self, port: u32) -> Version
+        ensures { result ≡ record self { port = port } }
+    {
+        self.ask.port = port;
+        self
+    }
+
     /// The ask that means it: its text and its port-version. Takes no memory.
     pub fn ask(&self) -> &Ask
         ensures { ask_view result.now ≡ ask_of self.now }

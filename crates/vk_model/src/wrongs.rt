@@ -1,7 +1,7 @@
 ghost use Rattle.std.specs.Prelude.{◌≡◌};
 ghost use Rattle.vk_spec.specs.Pages.{given_ask};
 ghost use Rattle.vk_version.specs.AskViews.{ask_view};
-ghost use Rattle.vk_catalogue.specs.Views.{given_view};
+ghost use Rattle.vk_model.specs.WrongViews.{given_view};
 
 use vk_base::{Text, TreePath};
 use vk_json::Why;
@@ -31,7 +31,7 @@ impl Given {
     }
 }
 
-/// In what a versions table and a manifest differ; the first in this order.
+/// The first field, in this order, in which a versions table and a manifest differ.
 #[derive(Clone, Copy, Debug, PartialEq, Eq)]
 pub enum Field {
     /// The port's name.
