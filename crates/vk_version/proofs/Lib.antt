@@ -11,4 +11,5 @@ mod SameTextLemmas
 pub mod TestLemmas
 mod ApartLemmas
 mod RefusedLemmas
+mod WordLemmas
 mod PortLemmas

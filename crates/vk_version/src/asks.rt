@@ -1,5 +1,6 @@
 //! Asks: a version's text without a scheme, and a port-version.
-ghost use Rattle.std.specs.Prelude.{◌≡◌};
+ghost use Rattle.std.specs.Prelude.{◌≡◌, IfOk};
+ghost use Rattle.vk_base.specs.Printed.{version_text};
 ghost use Rattle.vk_spec.specs.Reading.{Gives};
 ghost use Rattle.vk_base.specs.Stops.{fault_in};
 ghost use Rattle.vk_version.specs.declared.faults.VersionFault.TheVariants as fault;
@@ -12,7 +13,7 @@ use crate::faults::VersionFault;
 use crate::numbers::{is_number, number};
 use crate::plains::is_plain;
 use std::alloc::{AllocError, Global};
-use vk_base::{Text, Unread};
+use vk_base::{Memory, Text, Unread, token};
 
 /// What a minimum, a baseline entry or an override asks for: a version's text without a scheme, and
 /// a port-version. A port's versions table says which version it means.
@@ -22,6 +23,18 @@ pub struct Ask {
     pub text: Text,
     /// The port-version.
     pub port: u32,
+}
+
+impl Ask {
+    /// The ask as it is printed, and so a version that has its text and port-version: its text's
+    /// token, `#` and the port-version.
+    pub fn printed(&self, alloc: Global) -> Result<Text, Memory>
+        ensures { IfOk result (λ t. t ≡ version_text (ask_view self.now)) }
+    {
+        let text = token(alloc, self.text.as_bytes())?;
+        let port = self.port;
+        Ok(Text::from_string(format!(in alloc; "{text}#{port}")?))
+    }
 }
 
 impl Clone for Ask {

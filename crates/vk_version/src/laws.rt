@@ -5,7 +5,8 @@ ghost use Rattle.std.specs.List.{Contains, list_any};
 ghost use Rattle.semver.specs.Order.{parts};
 ghost use Rattle.semver.specs.Parse.{Parts, version_parts};
 ghost use Rattle.jiff.specs.Words.{IsDate};
-ghost use Rattle.vk_spec.specs.Versions.{IsOrder, Version};
+ghost use Rattle.vk_spec.specs.Versions.{Class, IsOrder, Version};
+ghost use Rattle.vk_version.specs.ClassWords.{class_word};
 ghost use Rattle.vk_spec.specs.Versions as plain;
 ghost use Rattle.vk_version.specs.declared.faults.VersionFault.TheVariants as fault;
 ghost use Rattle.vk_version.specs.Schemes as the;
@@ -99,4 +100,9 @@ pub fn days()
 pub fn semantic_parts()
     ensures numbers { (text : List ℕ) (found : Parts) → version_parts text ≡ Ok found → numbers_in (core_of text) ≡ found.0 ∷ found.1 ∷ found.2 ∷ [] }
     ensures pre_release { (text : List ℕ) (found : Parts) → version_parts text ≡ Ok found → pre_in (tail_of text) ≡ found.3 }
+{}
+
+/// Different classes have different words.
+pub fn class_words()
+    ensures { (c d : Class) → class_word c ≡ class_word d → c ≡ d }
 {}

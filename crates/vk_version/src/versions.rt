@@ -3,7 +3,9 @@ ghost use Rattle.std.specs.Prelude.{◌≡◌, ◌↔◌, Some, None, Ok};
 ghost use Rattle.std.specs.declared.cmp.Ordering.TheVariants.{Less, Equal, Greater};
 ghost use Rattle.semver.specs.Identifiers.{pre_text};
 ghost use Rattle.vk_spec.specs.Reading.{Gives};
-ghost use Rattle.vk_spec.specs.Versions.{ask_of};
+ghost use Rattle.vk_spec.specs.Versions.{ask_of, same_version};
+ghost use Rattle.std.specs.Cmp.{partial_equiv_from_equiv};
+ghost use Rattle.vk_version.specs.SameVersions.{version_fed, version_hashed, version_laws};
 ghost use Rattle.vk_base.specs.Stops.{fault_in};
 ghost use Rattle.vk_version.specs.Readings.{IsVersion};
 ghost use Rattle.vk_version.specs.Orders.{Below, Unrelated, order_of, rank_cmp, tie_cmp};
@@ -17,6 +19,7 @@ use crate::schemes::Class;
 use semver::Prerelease;
 use std::alloc::{AllocError, Global};
 use std::cmp::Ordering;
+use std::hash::{Hash, Hasher};
 use std::marker::Model;
 use vk_base::{List, Text, Unread};
 
@@ -115,6 +118,30 @@ impl Clone for Version {
             numbers: self.numbers.clone()?,
             pre: self.pre.clone()?,
         })
+    }
+}
+
+impl PartialEq for Version {
+    ghost eq = { same_version };
+
+    ghost laws = { partial_equiv_from_equiv version_laws };
+
+    fn eq(&self, other: &Version) -> bool {
+        self.class == other.class && self.ask == other.ask
+    }
+}
+
+impl Eq for Version {
+    ghost laws = { version_laws };
+}
+
+impl Hash for Version {
+    ghost hash_input = { version_fed };
+
+    ghost respects_eq = { version_hashed };
+
+    fn hash<H: Hasher>(&self, state: &mut H) {
+        self.ask.hash(state);
     }
 }
 
