@@ -4,6 +4,7 @@
 #![tactic(auto)]
 
 mod earlies;
+pub mod lines;
 mod manifests;
 mod projects;
 mod settings;
