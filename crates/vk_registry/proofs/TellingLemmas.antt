@@ -1,12 +1,12 @@
 -- Where the faults of a registry's files stand.
-use Rattle.std.proofs.Common.{◌≡◌, ◌&&◌, ◌==◌, Bool, true, false, ℕ, List, [], not, refl, ap, sym}
+use Rattle.std.proofs.Common.{◌≡◌, ◌&&◌, ◌==◌, Bool, true, false, ℕ, List, not, ap, sym}
 use Rattle.std.proofs.Common.{◌∙◌}
-use Rattle.std.specs.Prelude.{Option, Some, None, Result, Ok, Err, codes, if◌then◌else◌}
+use Rattle.std.specs.Prelude.{Option, Some, None, Ok, Err, codes, if◌then◌else◌}
 use Rattle.std.specs.List.{All, list_any}
 use Rattle.serde_json.specs.Data.{Data}
 use Rattle.serde_json.specs.Data as json
 use Rattle.vk_spec.specs.Paths.{Path}
-use Rattle.vk_spec.specs.Reading.{◌>>=◌, or_fault, read_after}
+use Rattle.vk_spec.specs.Reading.{◌>>=◌}
 use Rattle.vk_spec.specs.Versions.{Ask, same_ask}
 use Rattle.vk_spec.specs.Fronts.{after}
 use Rattle.vk_base.specs.Names.{reads_name, port_rule}
@@ -26,7 +26,7 @@ use Rattle.vk_fields.proofs.TellingLemmas.{version_needed_says, ask_under_says}
 use Rattle.vk_registry.specs.Baselines.{Entry, is_note, entry_at, entry_unless_note}
 use Rattle.vk_registry.specs.Baselines.{entries_at, baseline_at, baseline_by}
 use Rattle.vk_registry.specs.Folders.{unless_above, folder_of, folder_at}
-use Rattle.vk_registry.specs.Tables.{Row, ask_in, asks_of, row_at, new_ask, row_from, rows_at}
+use Rattle.vk_registry.specs.Tables.{ask_in, asks_of, row_at, new_ask, row_from, rows_at}
 use Rattle.vk_registry.specs.Tables.{table_at, table_of}
 
 -- ---- baselines
@@ -35,8 +35,8 @@ entry_says : (key : List ℕ) → Reads Anything (entry_at key)
 unfolding entry_at
 entry_says key d =
     says_then Anything Anything d _ _
-        (said_says name_word Anything d (reads_name port_rule key) name_there (λ name e. tt))
-        (λ port any.
+    (said_says name_word Anything d (reads_name port_rule key) name_there (λ name e. tt))
+    (λ port any.
     says_then Anything Anything d _ _ (object_says d) (λ object any.
     says_then Anything Anything d _ _ (ask_under_says d (codes "baseline")) (λ ask any. tt)))
 
@@ -62,13 +62,13 @@ baseline_says : (name : List ℕ) → Reads Anything (baseline_at name)
 unfolding baseline_at
 baseline_says name d =
     says_then Anything Anything d _ _ (object_says d)
-        (λ object any. wanted_says Anything entries_at entries_says name d)
+    (λ object any. wanted_says Anything entries_at entries_says name d)
 
 pub baseline_stands : (name bytes : List ℕ) (d : Data) (fault : FileFault) → json_of bytes ≡ Ok d
     → baseline_by name bytes ≡ Err fault → StandsIn d fault
 baseline_stands name bytes d fault is told =
     told_stands Anything d (baseline_at name d) fault (baseline_says name d)
-        (sym (ap (λ r. r >>= baseline_at name) is) ∙ told)
+    (sym (ap (λ r. r >>= baseline_at name) is) ∙ told)
 
 -- ---- versions files
 
@@ -85,10 +85,10 @@ unfolding folder_of
 folder_says d =
     says_then Anything Anything d _ _ (text_says d) (λ text any.
     says_then Anything Anything d _ _ (or_says d why.Path (after (codes "$/") text) (λ e. (cc)))
-        (λ rest any.
+    (λ rest any.
     says_then Anything Anything d _ _
-        (said_says path_word Anything d (path_of rest) (λ wrong e. (cc)) (λ path e. tt))
-        (λ path any. above_says d path)))
+    (said_says path_word Anything d (path_of rest) (λ wrong e. (cc)) (λ path e. tt))
+    (λ path any. above_says d path)))
 
 row_says : Reads Anything row_at
 unfolding row_at
@@ -96,7 +96,7 @@ row_says d =
     says_then Anything Anything d _ _ (object_says d) (λ object any.
     says_then Anything Anything d _ _ (version_needed_says d) (λ version any.
     says_then Anything Anything d _ _ (wanted_says Anything folder_at folder_says (codes "path") d)
-        (λ path any. tt)))
+    (λ path any. tt)))
 
 new_says : (d : Data) (asks : List Ask) (ask : Ask) → Says Anything d (new_ask asks ask)
 new_says d asks ask = by (list_any (same_ask ask) asks)
@@ -127,10 +127,10 @@ table_says : Reads Anything table_at
 unfolding table_at
 table_says d =
     says_then Anything Anything d _ _ (object_says d)
-        (λ object any. wanted_says Anything rows_at rows_says (codes "versions") d)
+    (λ object any. wanted_says Anything rows_at rows_says (codes "versions") d)
 
 pub table_stands : (bytes : List ℕ) (d : Data) (fault : FileFault) → json_of bytes ≡ Ok d
     → table_of bytes ≡ Err fault → StandsIn d fault
 table_stands bytes d fault is told =
     told_stands Anything d (table_at d) fault (table_says d)
-        (sym (ap (λ r. r >>= table_at) is) ∙ told)
+    (sym (ap (λ r. r >>= table_at) is) ∙ told)

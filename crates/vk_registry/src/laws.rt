@@ -10,12 +10,8 @@ ghost use Rattle.vk_registry.specs.Tables.{table_of};
 /// Every fault of a document stands in it: at a value that is there, but for a member that is
 /// missing, which is told at its key.
 pub fn fault_places()
-    ensures baseline {
-        (name bytes : List ℕ) (d : Data) (fault : FileFault)
-        → json_of bytes ≡ Ok d → baseline_by name bytes ≡ Err fault → StandsIn d fault
-    }
-    ensures table {
-        (bytes : List ℕ) (d : Data) (fault : FileFault)
-        → json_of bytes ≡ Ok d → table_of bytes ≡ Err fault → StandsIn d fault
-    }
+    ensures baseline { (name bytes : List ℕ) (d : Data) (fault : FileFault)
+        → json_of bytes ≡ Ok d → baseline_by name bytes ≡ Err fault → StandsIn d fault }
+    ensures table { (bytes : List ℕ) (d : Data) (fault : FileFault)
+        → json_of bytes ≡ Ok d → table_of bytes ≡ Err fault → StandsIn d fault }
 {}
