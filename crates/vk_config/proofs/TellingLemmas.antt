@@ -1,14 +1,12 @@
 -- Where the faults of a configuration stand.
-use Rattle.std.proofs.Common.{◌≡◌, ◌&&◌, ◌==◌, ◌≢◌, Bool, true, false, ℕ, List, [], length, refl}
+use Rattle.std.proofs.Common.{◌≡◌, ◌&&◌, ◌==◌, Bool, true, false, ℕ, List, [], length}
 use Rattle.std.proofs.Common.{ap, sym, ◌∙◌}
-use Rattle.std.specs.Prelude.{Option, Some, None, IfSome, Result, Ok, Err, codes, if◌then◌else◌}
+use Rattle.std.specs.Prelude.{Option, Some, None, IfSome, Ok, Err, codes, if◌then◌else◌}
 use Rattle.std.specs.List.{All, list_any, before_first, after_first}
 use Rattle.std.specs.Option.{is_some}
-use Rattle.std.proofs.lemmas.List.Elements.{All-nil}
 use Rattle.serde_json.specs.Data.{Data}
 use Rattle.serde_json.specs.Find.{as_null}
-use Rattle.vk_spec.specs.Paths.{Path}
-use Rattle.vk_spec.specs.Reading.{◌>>=◌, or_fault}
+use Rattle.vk_spec.specs.Reading.{◌>>=◌}
 use Rattle.vk_base.specs.Names.{reads_name, port_rule}
 use Rattle.vk_json.specs.Documents.{json_of}
 use Rattle.vk_json.specs.Places.{here}
@@ -29,7 +27,7 @@ use Rattle.vk_config.specs.Patterns.{pattern_of, pattern_at}
 use Rattle.vk_config.specs.Registries.{Kind, in_folder, in_git, built_in, of_artifacts, kind_of}
 use Rattle.vk_config.specs.Registries.{kind_at}
 use Rattle.vk_config.specs.Registries.{folder_in, source_by, source_at, packages_by, registry_at}
-use Rattle.vk_config.specs.Readings.{unless_null, paths_under, registries_in, default_in, config_at}
+use Rattle.vk_config.specs.Readings.{unless_null, paths_under, config_at}
 use Rattle.vk_config.specs.Readings.{config_of}
 use Rattle.vk_config.specs.Embedding.{first_key, second_key, has_both, either, only_one}
 use Rattle.vk_config.specs.Embedding.{embedded_at, embedded_of}
@@ -75,10 +73,10 @@ folder_says : Reads Anything folder_in
 unfolding folder_in
 folder_says d =
     says_then Anything Anything d _ _ (wanted_says Anything path_at path_says (codes "path") d)
-        (λ path any.
+    (λ path any.
     says_then Anything Anything d _ _
-        (optional_or_says Anything text_at text_says (codes "baseline") d (codes "default") tt)
-        (λ baseline any. tt))
+    (optional_or_says Anything text_at text_says (codes "baseline") d (codes "default") tt)
+    (λ baseline any. tt))
 
 by_kind_says : (kind : Kind) → Reads Anything (source_by kind)
 by_kind_says in_folder d = folder_says d
@@ -91,7 +89,7 @@ unfolding source_at
 source_says d =
     says_then Anything Anything d _ _ (object_says d) (λ object any.
     says_then Anything Anything d _ _ (wanted_says Anything kind_at kind_says (codes "kind") d)
-        (λ kind any. by_kind_says kind d))
+    (λ kind any. by_kind_says kind d))
 
 -- whatever a list's items are
 items_says : {A : Type 0} (f : Reading A) → Reads Anything f → Reads Anything (each_item f)
@@ -137,30 +135,38 @@ unfolding config_at
 config_says d =
     says_then Anything Anything d _ _ (object_says d) (λ object any.
     says_then Anything Anything d _ _
-        (optional_or_says Anything (unless_null source_at) null_says
-        (codes "default-registry") d None tt) (λ default any.
+    (optional_or_says Anything (unless_null source_at) null_says
+    (codes "default-registry") d None tt) (λ default any.
     says_then Anything Anything d _ _ (paths_says (codes "overlay-ports") d) (λ ports any.
     says_then Anything Anything d _ _ (paths_says (codes "overlay-triplets") d) (λ triplets any.
     says_then Anything Anything d _ _
-        (optional_or_says Anything (each_item registry_at) (items_says registry_at registry_says)
-        (codes "registries") d [] tt) (λ registries any. tt)))))
+    (optional_or_says Anything (each_item registry_at) (items_says registry_at registry_says)
+    (codes "registries") d [] tt) (λ registries any. tt)))))
 
 pub config_stands : (bytes : List ℕ) (d : Data) (fault : FileFault) → json_of bytes ≡ Ok d
     → config_of bytes ≡ Err fault → StandsIn d fault
 config_stands bytes d fault is told =
     told_stands Anything d (config_at d) fault (config_says d)
-        (sym (ap (λ r. r >>= config_at) is) ∙ told)
+    (sym (ap (λ r. r >>= config_at) is) ∙ told)
 
 -- ---- in a root manifest
 
 under_says : (key : List ℕ) (d : Data) → Says (λ o. IfSome o Anything) d (optional config_at key d)
 under_says key d = optional_says Anything config_at config_says key d
 
+-- whatever a configuration is that may be there
+abbrev IsAny : Option Config → Type 0
+IsAny found = IfSome found (λ config. Anything config)
+
 only_says : Reads Anything only_one
 unfolding only_one
 only_says d =
-    says_then (λ o. IfSome o Anything) Anything d _ _ (under_says first_key d) (λ first any.
-    says_then (λ o. IfSome o Anything) Anything d _ _ (under_says second_key d) (λ second any. tt))
+    says_then IsAny Anything d (optional config_at first_key d)
+    (λ first. optional config_at second_key d >>= λ second. Ok (either first second))
+    (under_says first_key d)
+    (λ first any.
+    says_then IsAny Anything d (optional config_at second_key d)
+    (λ second. Ok (either first second)) (under_says second_key d) (λ second any. tt))
 
 embedded_says : Reads Anything embedded_at
 unfolding embedded_at
@@ -174,4 +180,4 @@ pub embedded_stands : (bytes : List ℕ) (d : Data) (fault : FileFault) → json
     → embedded_of bytes ≡ Err fault → StandsIn d fault
 embedded_stands bytes d fault is told =
     told_stands Anything d (embedded_at d) fault (embedded_says d)
-        (sym (ap (λ r. r >>= embedded_at) is) ∙ told)
+    (sym (ap (λ r. r >>= embedded_at) is) ∙ told)

@@ -10,12 +10,8 @@ ghost use Rattle.vk_config.specs.Readings.{config_of};
 /// Every fault of a document stands in it: at a value that is there, but for a member that is
 /// missing, which is told at its key.
 pub fn fault_places()
-    ensures file {
-        (bytes : List ℕ) (d : Data) (fault : FileFault)
-        → json_of bytes ≡ Ok d → config_of bytes ≡ Err fault → StandsIn d fault
-    }
-    ensures embedded {
-        (bytes : List ℕ) (d : Data) (fault : FileFault)
-        → json_of bytes ≡ Ok d → embedded_of bytes ≡ Err fault → StandsIn d fault
-    }
+    ensures file { (bytes : List ℕ) (d : Data) (fault : FileFault)
+        → json_of bytes ≡ Ok d → config_of bytes ≡ Err fault → StandsIn d fault }
+    ensures embedded { (bytes : List ℕ) (d : Data) (fault : FileFault)
+        → json_of bytes ≡ Ok d → embedded_of bytes ≡ Err fault → StandsIn d fault }
 {}
