@@ -8,7 +8,7 @@ use Rattle.vk_spec.specs.Files.{Files}
 use Rattle.vk_files.specs.Kept.{Held}
 use Rattle.vk_files.specs.Readings.{ReadsAs}
 use Rattle.vk_base.specs.declared.stops.Stop.{Stop}
-use Rattle.vk_triplet.specs.declared.triplets.Triplet.{Triplet}
+use Rattle.vk_triplet.specs.TripletReadings.{Triplet}
 use Rattle.vk_triplet.specs.TripletReadings as plain
 use Rattle.vk_spec.specs.Earlies.{Early}
 use Rattle.vk_opening.specs.TripletFiles.{Triplets, triplet_at, triplets_at}

@@ -6,8 +6,8 @@ use Rattle.vk_spec.specs.Paths.{Path}
 use Rattle.vk_spec.specs.Files.{Files}
 use Rattle.vk_spec.specs.Manifests.{Manifest}
 use Rattle.vk_spec.specs.Conditions.{Condition}
-use Rattle.vk_json.specs.declared.faults.FileFault.{FileFault}
 use Rattle.vk_json.specs.Documents.{json_of}
+use Rattle.vk_json.specs.declared.faults.FileFault.{FileFault}
 use Rattle.vk_json.specs.Words.{word_of}
 use Rattle.vk_manifest.specs.Manifests.{manifest_at, manifest_of}
 use Rattle.vk_files.specs.Readings.{Bad, file_at}

@@ -9,7 +9,7 @@ use Rattle.vk_json.specs.declared.faults.Why.TheVariants as why
 use Rattle.vk_json.specs.declared.faults.FileFault.{FileFault}
 use Rattle.vk_fields.specs.Saying.{said_here}
 use Rattle.vk_triplet.specs.declared.faults.TripletFault.{TripletFault}
-use Rattle.vk_triplet.specs.declared.faults.TripletFault.TheVariants as fault
+use Rattle.vk_triplet.specs.declared.faults.TripletFault.TheVariants as triplet_fault
 use Rattle.vk_triplet.specs.TripletReadings.{Triplet, triplet_of}
 use Rattle.vk_files.specs.Readings.{is_at}
 use Rattle.vk_spec.specs.Earlies.{Early, no_triplet}
@@ -18,8 +18,8 @@ use Rattle.vk_opening.specs.Projects.{triplet_path}
 
 -- the word for what is wrong with a triplet file
 abbrev pub triplet_word : TripletFault → Why
-triplet_word (fault.Line n) = why.Line n
-triplet_word fault.NotText = why.Utf8
+triplet_word (triplet_fault.Line n) = why.Line n
+triplet_word triplet_fault.NotText = why.Utf8
 
 -- the triplet that a file of this name is; its faults are told of the whole
 unfoldable pub triplet_in : List ℕ → List ℕ → Result Triplet FileFault

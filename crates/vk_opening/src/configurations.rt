@@ -54,7 +54,7 @@ fn has_configuration(document: &Value) -> bool
 // The configuration that counts, by what the root manifest has of it.
 fn only_of(alloc: Global, embedded: Embedded) -> Result<Config, Stop<Early>>
     ensures given { Gives config_view (fault_seen early_view) result (only_of (embedded_view embedded)) }
-    ensures tree_ok { has_failed result ≡ false }
+    ensures calm { has_failed result ≡ false }
 {
     match embedded {
         Embedded::Nothing => Ok(Config {
@@ -75,19 +75,19 @@ fn read_embedded(
     document: &Value,
 ) -> Result<Embedded, Stop<Early>>
     ensures given { Gives embedded_view (fault_seen early_view) result (or_early (told_at (manifest_path folder.now) (embedded_at (view document.now)))) }
-    ensures tree_ok { has_failed result ≡ false }
+    ensures calm { has_failed result ≡ false }
 {
     let path = manifest_path(alloc, folder)?;
     match vk_config::embedded_in(alloc, document) {
         Ok(embedded) => Ok(embedded),
-        Err(fault) => Err(bad_file(path, fault)),
+        Err(unread) => Err(bad_file(path, unread)),
     }
 }
 
 // The configuration in the root manifest.
 fn embedded_in(alloc: Global, folder: &TreePath, document: &Value) -> Result<Config, Stop<Early>>
     ensures given { Gives config_view (fault_seen early_view) result (embedded_in folder.now (view document.now)) }
-    ensures tree_ok { has_failed result ≡ false }
+    ensures calm { has_failed result ≡ false }
 {
     only_of(alloc, read_embedded(alloc, folder, document)?)
 }

@@ -1,8 +1,7 @@
 //! A file that is read, and its fault as an early line.
 ghost use Rattle.std.specs.Prelude.{◌≡◌, false, Ok, option_map};
-ghost use Rattle.vk_base.specs.Stops.{fault_in};
 ghost use Rattle.vk_files.specs.Views.{held};
-ghost use Rattle.vk_base.specs.Stops.{is_failure};
+ghost use Rattle.vk_base.specs.Stops.{fault_in, is_failure};
 ghost use Rattle.vk_files.specs.StopViews.{fault_seen};
 ghost use Rattle.vk_files.specs.StandingViews.{standing_view};
 ghost use Rattle.vk_files.specs.Readings.{ReadsAs, bad_view, standing_at};
@@ -18,14 +17,12 @@ use vk_model::Early;
 use vk_tree::Tree;
 
 /// The fault of a file, with the file.
-pub fn bad_file(path: TreePath, fault: Unread<FileFault>) -> Stop<Early>
-    ensures told { fault_seen early_view result ≡ option_map (line_at path) (fault_in fault) }
-    ensures tree_ok { is_failure result ≡ false }
+pub fn bad_file(path: TreePath, unread: Unread<FileFault>) -> Stop<Early>
+    ensures told { fault_seen early_view result ≡ option_map (line_at path) (fault_in unread) }
+    ensures calm { is_failure result ≡ false }
 {
-    match fault {
-        Unread::Fault(FileFault { place, why }) => {
-            Stop::Fault(Early::BadFile { path, place, why })
-        }
+    match unread {
+        Unread::Fault(FileFault { place, why }) => Stop::Fault(Early::BadFile { path, place, why }),
         Unread::Memory(memory) => Stop::Memory(memory),
     }
 }

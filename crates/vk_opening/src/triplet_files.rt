@@ -1,11 +1,10 @@
 //! The triplets of a project, each the first file of its name in folders of triplets.
 ghost use Rattle.std.specs.Prelude.{◌≡◌, ◌↔◌, false, Ok, Err, IsTrue, option_map};
 ghost use Rattle.vk_spec.specs.Reading.{Fails};
-ghost use Rattle.vk_base.specs.Stops.{fault_in};
 ghost use Rattle.vk_json.specs.Places.{here};
 ghost use Rattle.vk_triplet.specs.TripletReadings as plain;
 ghost use Rattle.vk_files.specs.Views.{held};
-ghost use Rattle.vk_base.specs.Stops.{is_failure};
+ghost use Rattle.vk_base.specs.Stops.{fault_in, is_failure};
 ghost use Rattle.vk_files.specs.StopViews.{fault_seen};
 ghost use Rattle.vk_files.specs.Readings.{ReadsAs, is_at};
 ghost use Rattle.vk_spec.specs.Earlies as early;
@@ -24,22 +23,13 @@ use vk_model::Early;
 use vk_tree::Tree;
 use vk_triplet::{Triplet, TripletFault};
 
-// The word for what is wrong with a triplet file.
-fn triplet_word(fault: TripletFault) -> Why
-    ensures { result ≡ triplet_word fault }
-{
-    match fault {
-        TripletFault::Line { n } => Why::Line(n),
-        TripletFault::NotText => Why::Utf8,
-    }
-}
-
 // What is wrong with a triplet file, told of the whole.
 fn wrong_triplet(alloc: Global, unread: Unread<TripletFault>) -> Unread<FileFault>
     ensures { fault_in result ≡ option_map (λ f. here (triplet_word f)) (fault_in unread) }
 {
     match unread {
-        Unread::Fault(fault) => wrong(alloc, triplet_word(fault)),
+        Unread::Fault(TripletFault::Line { n }) => wrong(alloc, Why::Line(n)),
+        Unread::Fault(TripletFault::NotText) => wrong(alloc, Why::Utf8),
         Unread::Memory(memory) => Unread::Memory(memory),
     }
 }
@@ -61,7 +51,7 @@ impl FileReader for TripletFile<'_> {
     fn read(&self, alloc: Global, bytes: &[u8]) -> Result<Triplet, Unread<FileFault>> {
         match vk_triplet::read(alloc, self.0, bytes) {
             Ok(triplet) => Ok(triplet),
-            Err(fault) => Err(wrong_triplet(alloc, fault)),
+            Err(unread) => Err(wrong_triplet(alloc, unread)),
         }
     }
 }
@@ -97,7 +87,7 @@ fn triplet_file<T: Tree>(
 
 fn no_triplet(name: &TripletName) -> Stop<Early>
     ensures told { Fails {Y = plain.Triplet} (fault_seen early_view result) (Err (early.no_triplet name.now)) }
-    ensures tree_ok { is_failure result ≡ false }
+    ensures calm { is_failure result ≡ false }
 {
     match name.clone() {
         Ok(name) => Stop::Fault(Early::NoTriplet { name }),
