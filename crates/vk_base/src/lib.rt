@@ -10,6 +10,7 @@ mod instances;
 mod lists;
 mod memory;
 mod names;
+mod path_texts;
 mod paths;
 mod schedules;
 mod stops;
