@@ -24,6 +24,7 @@ pub use instances::Instance;
 pub use lists::List;
 pub use memory::Memory;
 pub use names::{AgentName, NameFault, PortName, TripletName, name_order, port_rule, triplet_rule};
+pub use path_texts::PathToken;
 pub use paths::{PathFault, TreePath, path_rule};
 pub use schedules::{Schedule, Turn};
 pub use stops::{Stop, Unread};

@@ -1,15 +1,18 @@
 //! The text of a path byte by byte, and the order that texts give to paths.
-ghost use Rattle.std.specs.Prelude.{◌≡◌, ◌<◌, ◌-◌, ◌∷◌, [], MatchOption};
+ghost use Rattle.std.specs.Prelude.{◌≡◌, ◌<◌, ◌-◌, ◌∷◌, [], Some, MatchOption};
 ghost use Rattle.std.specs.List.{join_with_byte};
 ghost use Rattle.std.specs.Cmp.Lexicographic.{slice_cmp};
 ghost use Rattle.std.specs.Ordering.{nat_cmp};
 ghost use Rattle.vk_base.specs.Paths.{text_of_path};
+ghost use Rattle.vk_base.specs.Printed.{path_text};
 ghost use Rattle.vk_base.specs.PathTexts.{later, left_text, segments_in};
 ghost use Rattle.vk_base.specs.PathTexts.{parts_text, climbing_text, end_order};
 
 use crate::paths::TreePath;
 use crate::texts::Text;
+use crate::tokens::TokenOf;
 use std::cmp::Ordering;
+use std::fmt;
 
 // What is left of a path's text: these bytes, then so many steps and after them the parts, each
 // after a slash.
@@ -157,5 +160,23 @@ impl TreePath {
         ensures { result ≡ slice_cmp nat_cmp (text_of_path self.now) (text_of_path other.now) }
     {
         order(all_left(self), all_left(other))
+    }
+}
+
+/// A path that is printed as the token of its text, which takes no memory.
+#[derive(Clone, Copy)]
+pub struct PathToken<'a>(pub &'a TreePath);
+
+impl fmt::Display for PathToken<'_> {
+    ghost output = { λ p. Some (path_text p.0.now) };
+
+    fn fmt<W: fmt::Write>(&self, f: &mut fmt::Formatter<W>) -> fmt::Result {
+        let mut left = all_left(self.0);
+        TokenOf(left.bytes).fmt(f)?;
+        while let Some(segment) = left.segment() {
+            f.write_str("/")?;
+            TokenOf(segment).fmt(f)?;
+        }
+        Ok(())
     }
 }
