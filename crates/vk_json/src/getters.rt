@@ -1,10 +1,7 @@
 //! Getters over a value. None takes memory but `keys`.
 ghost use Rattle.std.specs.Prelude.{◌≡◌, ◌<◌, ◌^◌, ◌++◌, ◌∷◌, [], map};
 ghost use Rattle.std.specs.Prelude.{option_map, option_and_then, IfOk, IfSome, OnOk};
-ghost use Rattle.std.specs.List.Sorted.{IsStrictlySortedBy};
-ghost use Rattle.std.specs.Ordering.{nat_cmp};
-ghost use Rattle.std.specs.Cmp.Lexicographic.{slice_cmp};
-ghost use Rattle.vk_json.specs.KeyOrders.{KeysAscend};
+ghost use Rattle.vk_json.specs.KeyOrders.{NamesAscend, KeysAscend};
 ghost use Rattle.serde_json.specs.Find.{get, as_str, as_number, as_u64, as_bool};
 ghost use Rattle.serde_json.specs.View.{view};
 ghost use Rattle.vk_json.specs.Looks.{items_of, keys_of, number_of, if_small, names_of};
@@ -82,7 +79,7 @@ fn push_name(alloc: Global, names: &mut List<Text>, key: &str) -> Result<(), Mem
 
 fn names_of(alloc: Global, object: &Map<String, Value>) -> Result<List<Text>, Memory>
     ensures names { IfOk result (λ names. names ≡ names_of (members_view object.now.entries)) }
-    ensures order { IfOk result (λ names. IsStrictlySortedBy (slice_cmp nat_cmp) (names_of (members_view object.now.entries))) }
+    ensures order { IfOk result (λ names. NamesAscend (members_view object.now.entries)) }
 {
     let mut names = List::new(alloc);
     for (key, _) in object.iter() {
