@@ -1,65 +1,65 @@
 //! JSON documents, what stands in them, and the words of faults.
 
-use crate::shows::{needed, push_number, push_token, shown, word};
+use crate::shows::{tell_reads, tell_value};
 use serde_json::Value;
-use std::alloc::Global;
-use vk_base::{List, Text, Unread};
-use vk_json::{Doc, FileFault, Why, as_bool, as_number, as_text, items, keys, member};
-use vk_row_text::{NoRow, bytes_of, cut, number_of, texts_of};
+use vk_base::Unread;
+use vk_json::{Doc, Why, as_bool, as_number, as_text, items, keys, member};
+use vk_row_text::{Reply, cut};
 
-fn reading(
-    alloc: Global,
-    rest: &str,
-) -> Result<Result<Doc, Unread<FileFault>>, Unread<NoRow>> {
-    let bytes = bytes_of(alloc, rest)?;
-    Ok(Doc::read(alloc, bytes.as_slice()).map_err(Unread::Fault))
+fn reads(rest: &str, reply: &mut Reply) {
+    if let Some(bytes) = reply.bytes(rest) {
+        tell_reads(Doc::read(reply.alloc(), bytes.as_slice()).map_err(Unread::Fault), reply);
+    }
 }
 
 /// The document of a row that has to have it.
-pub fn document_of(alloc: Global, rest: &str) -> Result<Doc, Unread<NoRow>> {
-    needed(reading(alloc, rest)?)
+pub fn document_of(rest: &str, reply: &mut Reply) -> Option<Doc> {
+    let bytes = reply.bytes(rest)?;
+    let read = Doc::read(reply.alloc(), bytes.as_slice()).map_err(Unread::Fault);
+    reply.needed(read)
 }
 
-fn reads(alloc: Global, rest: &str) -> Result<Text, Unread<NoRow>> {
-    match reading(alloc, rest)? {
-        Ok(_) => word(alloc, "reads"),
-        Err(Unread::Fault(fault)) => shown(alloc, &fault),
-        Err(Unread::Memory(memory)) => Err(Unread::Memory(memory)),
+fn push_number(value: &Value, reply: &mut Reply) {
+    match as_number(value) {
+        Some(number) => {
+            reply.push("number ");
+            reply.push_number(u64::from(number));
+        }
+        None => reply.push("another"),
     }
 }
 
-fn push_kind(alloc: Global, out: &mut Text, value: &Value) -> Result<(), Unread<NoRow>> {
-    if let Some(text) = as_text(value) {
-        out.push_str("text ")?;
-        return Ok(push_token(alloc, out, text.as_bytes())?);
+fn push_plain(value: &Value, reply: &mut Reply) {
+    match (as_text(value), as_bool(value)) {
+        (Some(text), _) => {
+            reply.push("text ");
+            reply.push_token(text.as_bytes());
+        }
+        (None, Some(test)) => reply.push(if test { "true" } else { "false" }),
+        (None, None) => push_number(value, reply),
     }
-    if let Some(number) = as_number(value) {
-        out.push_str("number ")?;
-        return Ok(push_number(alloc, out, u64::from(number))?);
-    }
-    if let Some(test) = as_bool(value) {
-        return Ok(out.push_str(if test { "true" } else { "false" })?);
-    }
-    Ok(out.push_str("another")?)
 }
 
-fn kind(alloc: Global, value: &Value) -> Result<Text, Unread<NoRow>> {
-    let mut out = Text::new(alloc);
+fn push_value(value: &Value, reply: &mut Reply) {
     match items(value) {
         Some(items) => {
-            out.push_str("list of ")?;
-            push_number(alloc, &mut out, items.len() as u64)?;
+            reply.push("list of ");
+            reply.push_number(items.len() as u64);
         }
-        None => push_kind(alloc, &mut out, value)?,
+        None => push_plain(value, reply),
     }
-    Ok(out)
 }
 
-fn in_member(alloc: Global, key: &str, rest: &str) -> Result<Text, Unread<NoRow>> {
-    let document = document_of(alloc, rest)?;
-    match member(document.value(), key) {
-        Some(value) => kind(alloc, value),
-        None => word(alloc, "none"),
+fn push_found(value: Option<&Value>, reply: &mut Reply) {
+    match value {
+        Some(value) => push_value(value, reply),
+        None => reply.push("none"),
+    }
+}
+
+fn tell_member(key: &str, rest: &str, reply: &mut Reply) {
+    if let Some(document) = document_of(rest, reply) {
+        push_found(member(document.value(), key), reply);
     }
 }
 
@@ -67,29 +67,34 @@ fn item<'a>(value: &'a Value, key: &str, place: usize) -> Option<&'a Value> {
     items(member(value, key)?)?.get(place)
 }
 
-fn in_item(alloc: Global, key: &str, rest: &str) -> Result<Text, Unread<NoRow>> {
+fn tell_item(key: &str, rest: &str, reply: &mut Reply) {
     let (place, rest) = cut(rest);
-    let place = number_of(place)?;
-    let document = document_of(alloc, rest)?;
-    match item(document.value(), key, place) {
-        Some(value) => kind(alloc, value),
-        None => word(alloc, "none"),
+    let Some(place) = reply.number(place) else {
+        return;
+    };
+    if let Some(document) = document_of(rest, reply) {
+        push_found(item(document.value(), key, place), reply);
     }
 }
 
-fn names(alloc: Global, rest: &str) -> Result<Text, Unread<NoRow>> {
-    let document = document_of(alloc, rest)?;
-    match keys(alloc, document.value())? {
-        Some(names) => shown(alloc, &names),
-        None => word(alloc, "none"),
+fn tell_keys(value: &Value, reply: &mut Reply) {
+    match keys(reply.alloc(), value) {
+        Ok(Some(names)) => tell_value(&names, reply),
+        Ok(None) => reply.push("none"),
+        Err(memory) => reply.lack(memory),
     }
 }
 
-fn fault_word(alloc: Global, rest: &str) -> Result<Text, Unread<NoRow>> {
-    let text = texts_of(alloc, rest)?;
+fn tell_word(rest: &str, reply: &mut Reply) {
+    let Some(text) = reply.texts(rest) else {
+        return;
+    };
     match Why::read(text.as_str()) {
-        Some(why) => Ok(why.word(alloc)?),
-        None => word(alloc, "none"),
+        Some(why) => {
+            let word = why.word(reply.alloc());
+            reply.push_made(word);
+        }
+        None => reply.push("none"),
     }
 }
 
@@ -97,14 +102,18 @@ fn fault_word(alloc: Global, rest: &str) -> Result<Text, Unread<NoRow>> {
 /// - `keys FILE`: the keys of the object, in byte order; `member KEY FILE`: what stands there;
 /// - `item KEY N FILE`: the item with this number of the list that stands there;
 /// - `word TEXT`: the word of the fault that is read from the text, or `none`.
-pub fn answer(alloc: Global, question: &str, rest: &str) -> Result<Text, Unread<NoRow>> {
+pub fn answer(question: &str, rest: &str, reply: &mut Reply) {
     let (key, others) = cut(rest);
     match question {
-        "read" => reads(alloc, rest),
-        "keys" => names(alloc, rest),
-        "member" => in_member(alloc, key, others),
-        "item" => in_item(alloc, key, others),
-        "word" => fault_word(alloc, rest),
-        _ => Err(Unread::Fault(NoRow)),
+        "read" => reads(rest, reply),
+        "keys" => {
+            if let Some(document) = document_of(rest, reply) {
+                tell_keys(document.value(), reply);
+            }
+        }
+        "member" => tell_member(key, others, reply),
+        "item" => tell_item(key, others, reply),
+        "word" => tell_word(rest, reply),
+        _ => reply.refuse(),
     }
 }

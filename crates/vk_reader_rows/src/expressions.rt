@@ -1,27 +1,21 @@
 //! Platform expressions, and whether they are true where there are marks.
 
-use crate::shows::{needed, tell, yes_or_no};
+use crate::shows::tell;
 use std::alloc::Global;
-use vk_base::{List, Text, Unread};
+use vk_base::{List, Unread};
 use vk_expr::{Expr, ExprFault, Marks, read, truth};
-use vk_row_text::{NoRow, cut, text_of, texts_of};
+use vk_row_text::{NoRow, Reply, cut, text_of};
 
 // As many bytes as a row's expression may have.
 const MOST_BYTES: usize = 1_000_000;
 
-fn reading(
-    alloc: Global,
-    text: &Text,
-) -> Result<Result<Expr, Unread<ExprFault>>, Unread<NoRow>> {
+fn reading(rest: &str, reply: &mut Reply) -> Option<Result<Expr, Unread<ExprFault>>> {
+    let text = reply.texts(rest)?;
     if text.len() > MOST_BYTES {
-        return Err(Unread::Fault(NoRow));
+        reply.refuse();
+        return None;
     }
-    Ok(read(alloc, text.as_str()).map_err(Unread::Fault))
-}
-
-fn reads(alloc: Global, rest: &str) -> Result<Text, Unread<NoRow>> {
-    let text = texts_of(alloc, rest)?;
-    tell(alloc, reading(alloc, &text)?)
+    Some(read(reply.alloc(), text.as_str()).map_err(Unread::Fault))
 }
 
 fn marks_of(alloc: Global, word: &str) -> Result<Marks, Unread<NoRow>> {
@@ -32,31 +26,43 @@ fn marks_of(alloc: Global, word: &str) -> Result<Marks, Unread<NoRow>> {
     Ok(Marks { names })
 }
 
-fn expression_of(alloc: Global, rest: &str) -> Result<Expr, Unread<NoRow>> {
-    let text = texts_of(alloc, rest)?;
-    needed(reading(alloc, &text)?)
+fn marks(word: &str, reply: &mut Reply) -> Option<Marks> {
+    let read = marks_of(reply.alloc(), word);
+    reply.needed(read)
 }
 
-fn is_true(alloc: Global, marks: &str, rest: &str) -> Result<Text, Unread<NoRow>> {
-    let marks = marks_of(alloc, marks)?;
-    let expression = expression_of(alloc, rest)?;
-    yes_or_no(alloc, truth(&expression, &marks))
+fn expression(rest: &str, reply: &mut Reply) -> Option<Expr> {
+    let reading = reading(rest, reply)?;
+    reply.needed(reading)
 }
 
-fn has(alloc: Global, marks: &str, name: &str) -> Result<Text, Unread<NoRow>> {
-    let marks = marks_of(alloc, marks)?;
-    yes_or_no(alloc, marks.has(name))
+fn tell_truth(marks: &Marks, rest: &str, reply: &mut Reply) {
+    if let Some(expression) = expression(rest, reply) {
+        reply.push_test(truth(&expression, marks));
+    }
 }
 
 /// - `read TEXT`: the expression in its printed form, or the fault;
 /// - `truth MARKS TEXT`: whether it is true where there are these marks, with commas between;
 /// - `has MARKS NAME`: whether there is a mark of this name.
-pub fn answer(alloc: Global, question: &str, rest: &str) -> Result<Text, Unread<NoRow>> {
+pub fn answer(question: &str, rest: &str, reply: &mut Reply) {
     let (first, others) = cut(rest);
     match question {
-        "read" => reads(alloc, rest),
-        "truth" => is_true(alloc, first, others),
-        "has" => has(alloc, first, others),
-        _ => Err(Unread::Fault(NoRow)),
+        "read" => {
+            if let Some(reading) = reading(rest, reply) {
+                tell(reading, reply);
+            }
+        }
+        "truth" => {
+            if let Some(marks) = marks(first, reply) {
+                tell_truth(&marks, others, reply);
+            }
+        }
+        "has" => {
+            if let Some(marks) = marks(first, reply) {
+                reply.push_test(marks.has(others));
+            }
+        }
+        _ => reply.refuse(),
     }
 }

@@ -2,60 +2,84 @@
 //! and versions under their four keys.
 
 use crate::documents::document_of;
-use crate::shows::{Show, tell, word};
+use crate::rows::meaning;
+use crate::shows::{Show, tell};
 use serde_json::Value;
-use std::alloc::Global;
-use vk_base::{Memory, Text, Unread};
+use vk_base::Unread;
 use vk_fields::{AskText, ExpressionText, FeatureNameText, PathText, PlainText, PortNameText};
 use vk_fields::{ask_under, key, port_version, scheme, version, version_needed};
 use vk_json::{Reader, wanted};
-use vk_row_text::{NoRow, cut};
-use vk_version::{Scheme, Version};
+use vk_row_text::{Reply, cut};
+use vk_version::Scheme;
 
-impl Show for Option<Version> {
-    fn show(&self, alloc: Global, out: &mut Text) -> Result<(), Memory> {
-        match self {
-            Some(version) => version.show(alloc, out),
-            None => Ok(()),
-        }
+#[derive(Clone, Copy)]
+enum Question {
+    PortName,
+    FeatureName,
+    Path,
+    Expression,
+    Ask,
+    Text,
+    Scheme,
+    PortVersion,
+    Version,
+    VersionNeeded,
+}
+
+const QUESTIONS: [(&str, Question); 10] = [
+    ("port-name", Question::PortName),
+    ("feature-name", Question::FeatureName),
+    ("path", Question::Path),
+    ("expression", Question::Expression),
+    ("ask", Question::Ask),
+    ("text", Question::Text),
+    ("scheme", Question::Scheme),
+    ("port-version", Question::PortVersion),
+    ("version", Question::Version),
+    ("version-needed", Question::VersionNeeded),
+];
+
+impl Show for Scheme {
+    fn show(&self, reply: &mut Reply) {
+        reply.push(key(*self));
     }
 }
 
-impl Show for Option<Scheme> {
-    fn show(&self, _: Global, out: &mut Text) -> Result<(), Memory> {
-        match self {
-            Some(scheme) => Ok(out.push_str(key(*scheme))?),
-            None => Ok(()),
-        }
-    }
-}
-
-fn under<R: Reader>(alloc: Global, rest: &str, reader: &R) -> Result<Text, Unread<NoRow>>
+fn under<R: Reader>(value: &Value, reader: &R, reply: &mut Reply)
 where
     R::Out: Show + Drop,
 {
-    let document = document_of(alloc, rest)?;
-    tell(alloc, wanted(alloc, document.value(), "x", reader).map_err(Unread::Fault))
+    tell(wanted(reply.alloc(), value, "x", reader).map_err(Unread::Fault), reply);
 }
 
-fn of_version(alloc: Global, question: &str, value: &Value) -> Result<Text, Unread<NoRow>> {
+fn ask(question: Question, value: &Value, reply: &mut Reply) {
+    let alloc = reply.alloc();
     match question {
-        "scheme" => tell(alloc, scheme(alloc, value).map_err(Unread::Fault)),
-        "port-version" => tell(alloc, port_version(alloc, value).map_err(Unread::Fault)),
-        "version" => tell(alloc, version(alloc, value).map_err(Unread::Fault)),
-        "version-needed" => tell(alloc, version_needed(alloc, value).map_err(Unread::Fault)),
-        _ => Err(Unread::Fault(NoRow)),
+        Question::PortName => under(value, &PortNameText, reply),
+        Question::FeatureName => under(value, &FeatureNameText, reply),
+        Question::Path => under(value, &PathText, reply),
+        Question::Expression => under(value, &ExpressionText, reply),
+        Question::Ask => under(value, &AskText, reply),
+        Question::Text => under(value, &PlainText, reply),
+        Question::Scheme => tell(scheme(alloc, value).map_err(Unread::Fault), reply),
+        Question::PortVersion => tell(port_version(alloc, value).map_err(Unread::Fault), reply),
+        Question::Version => tell(version(alloc, value).map_err(Unread::Fault), reply),
+        Question::VersionNeeded => {
+            tell(version_needed(alloc, value).map_err(Unread::Fault), reply)
+        }
     }
 }
 
-fn at_keys(alloc: Global, question: &str, rest: &str) -> Result<Text, Unread<NoRow>> {
-    let document = document_of(alloc, rest)?;
-    of_version(alloc, question, document.value())
+fn ask_at(key: &str, rest: &str, reply: &mut Reply) {
+    if let Some(document) = document_of(rest, reply) {
+        tell(ask_under(reply.alloc(), document.value(), key).map_err(Unread::Fault), reply);
+    }
 }
 
-fn ask_at(alloc: Global, key: &str, rest: &str) -> Result<Text, Unread<NoRow>> {
-    let document = document_of(alloc, rest)?;
-    tell(alloc, ask_under(alloc, document.value(), key).map_err(Unread::Fault))
+fn in_document(question: Question, rest: &str, reply: &mut Reply) {
+    if let Some(document) = document_of(rest, reply) {
+        ask(question, document.value(), reply);
+    }
 }
 
 /// - `port-name FILE`, `feature-name FILE`, `path FILE`, `expression FILE`, `ask FILE`, `text FILE`:
@@ -63,18 +87,13 @@ fn ask_at(alloc: Global, key: &str, rest: &str) -> Result<Text, Unread<NoRow>> {
 /// - `scheme FILE`, `port-version FILE`, `version FILE`, `version-needed FILE`: what the object says
 ///   of a version;
 /// - `ask-under KEY FILE`: the ask of a text under a key and of the port-version.
-pub fn answer(alloc: Global, question: &str, rest: &str) -> Result<Text, Unread<NoRow>> {
-    match question {
-        "port-name" => under(alloc, rest, &PortNameText),
-        "feature-name" => under(alloc, rest, &FeatureNameText),
-        "path" => under(alloc, rest, &PathText),
-        "expression" => under(alloc, rest, &ExpressionText),
-        "ask" => under(alloc, rest, &AskText),
-        "text" => under(alloc, rest, &PlainText),
-        "ask-under" => {
-            let (key, rest) = cut(rest);
-            ask_at(alloc, key, rest)
-        }
-        _ => at_keys(alloc, question, rest),
+pub fn answer(question: &str, rest: &str, reply: &mut Reply) {
+    if question == "ask-under" {
+        let (key, rest) = cut(rest);
+        return ask_at(key, rest, reply);
+    }
+    match meaning(&QUESTIONS, question) {
+        Some(question) => in_document(question, rest, reply),
+        None => reply.refuse(),
     }
 }

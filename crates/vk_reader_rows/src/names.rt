@@ -1,79 +1,115 @@
 //! Names of ports, triplets and features, and of instances, `PORT:TRIPLET`.
 
-use crate::shows::{needed, ordering, tell};
-use std::alloc::Global;
-use vk_base::{FeatureName, Instance, PortName, Text, TripletName, Unread};
-use vk_row_text::{NoRow, cut, texts_of};
+use crate::rows::meaning;
+use crate::shows::{tell, tell_order};
+use vk_base::{FeatureName, Instance, PortName, TripletName, Unread};
+use vk_row_text::{Reply, cut};
 
-fn port(alloc: Global, rest: &str) -> Result<Text, Unread<NoRow>> {
-    let text = texts_of(alloc, rest)?;
-    tell(alloc, PortName::read(alloc, text.as_str()).map_err(Unread::Fault))
+#[derive(Clone, Copy)]
+enum Question {
+    Port,
+    Triplet,
+    Feature,
+    Triplets,
+    Features,
+    Instances,
 }
 
-fn triplet(alloc: Global, rest: &str) -> Result<Text, Unread<NoRow>> {
-    let text = texts_of(alloc, rest)?;
-    tell(alloc, TripletName::read(alloc, text.as_str()).map_err(Unread::Fault))
-}
-
-fn feature(alloc: Global, rest: &str) -> Result<Text, Unread<NoRow>> {
-    let text = texts_of(alloc, rest)?;
-    tell(alloc, FeatureName::read(alloc, text.as_str()).map_err(Unread::Fault))
-}
+const QUESTIONS: [(&str, Question); 6] = [
+    ("port", Question::Port),
+    ("triplet", Question::Triplet),
+    ("feature", Question::Feature),
+    ("triplets", Question::Triplets),
+    ("features", Question::Features),
+    ("instances", Question::Instances),
+];
 
 /// The port of a row that has to have it.
-pub fn port_of(alloc: Global, word: &str) -> Result<PortName, Unread<NoRow>> {
-    needed(PortName::read(alloc, word).map_err(Unread::Fault))
+pub fn port_of(word: &str, reply: &mut Reply) -> Option<PortName> {
+    let read = PortName::read(reply.alloc(), word).map_err(Unread::Fault);
+    reply.needed(read)
 }
 
-fn triplet_of(alloc: Global, word: &str) -> Result<TripletName, Unread<NoRow>> {
-    needed(TripletName::read(alloc, word).map_err(Unread::Fault))
+fn triplet_of(word: &str, reply: &mut Reply) -> Option<TripletName> {
+    let read = TripletName::read(reply.alloc(), word).map_err(Unread::Fault);
+    reply.needed(read)
 }
 
-fn feature_of(alloc: Global, word: &str) -> Result<FeatureName, Unread<NoRow>> {
-    match word {
-        "core" => Ok(FeatureName::Core),
-        "default" => Ok(FeatureName::Default),
-        _ => needed(FeatureName::read(alloc, word).map_err(Unread::Fault)),
+fn feature_of(word: &str, reply: &mut Reply) -> Option<FeatureName> {
+    if word == "core" {
+        return Some(FeatureName::Core);
+    }
+    if word == "default" {
+        return Some(FeatureName::Default);
+    }
+    let read = FeatureName::read(reply.alloc(), word).map_err(Unread::Fault);
+    reply.needed(read)
+}
+
+fn instance_of(word: &str, reply: &mut Reply) -> Option<Instance> {
+    let (port, triplet) = word.split_once(':')?;
+    let port = port_of(port, reply)?;
+    let triplet = triplet_of(triplet, reply)?;
+    Some(Instance { port, triplet })
+}
+
+// Reads one name, and tells it or its fault.
+fn read(question: Question, text: &str, reply: &mut Reply) {
+    let alloc = reply.alloc();
+    match question {
+        Question::Triplet => tell(TripletName::read(alloc, text).map_err(Unread::Fault), reply),
+        Question::Feature => tell(FeatureName::read(alloc, text).map_err(Unread::Fault), reply),
+        _ => tell(PortName::read(alloc, text).map_err(Unread::Fault), reply),
     }
 }
 
-fn instance_of(alloc: Global, word: &str) -> Result<Instance, Unread<NoRow>> {
-    let (port, triplet) = word.split_once(':').ok_or(Unread::Fault(NoRow))?;
-    Ok(Instance {
-        port: port_of(alloc, port)?,
-        triplet: triplet_of(alloc, triplet)?,
-    })
+// Compares what two words stand for.
+fn compare<T: Ord + Drop>(one: Option<T>, other: Option<T>, reply: &mut Reply) {
+    match (&one, &other) {
+        (Some(one), Some(other)) => tell_order(Some(one.cmp(other)), reply),
+        _ => reply.refuse(),
+    }
 }
 
-fn triplets(alloc: Global, one: &str, other: &str) -> Result<Text, Unread<NoRow>> {
-    let one = triplet_of(alloc, one)?;
-    let other = triplet_of(alloc, other)?;
-    ordering(alloc, Some(one.cmp(&other)))
+fn triplets(rest: &str, reply: &mut Reply) {
+    let (one, other) = cut(rest);
+    let one = triplet_of(one, reply);
+    let other = triplet_of(other, reply);
+    compare(one, other, reply);
 }
 
-fn features(alloc: Global, one: &str, other: &str) -> Result<Text, Unread<NoRow>> {
-    let one = feature_of(alloc, one)?;
-    let other = feature_of(alloc, other)?;
-    ordering(alloc, Some(one.cmp(&other)))
+fn features(rest: &str, reply: &mut Reply) {
+    let (one, other) = cut(rest);
+    let one = feature_of(one, reply);
+    let other = feature_of(other, reply);
+    compare(one, other, reply);
 }
 
-fn instances(alloc: Global, one: &str, other: &str) -> Result<Text, Unread<NoRow>> {
-    let one = instance_of(alloc, one)?;
-    let other = instance_of(alloc, other)?;
-    ordering(alloc, Some(one.cmp(&other)))
+fn instances(rest: &str, reply: &mut Reply) {
+    let (one, other) = cut(rest);
+    let one = instance_of(one, reply);
+    let other = instance_of(other, reply);
+    compare(one, other, reply);
+}
+
+fn ask(question: Question, rest: &str, reply: &mut Reply) {
+    match question {
+        Question::Triplets => triplets(rest, reply),
+        Question::Features => features(rest, reply),
+        Question::Instances => instances(rest, reply),
+        _ => {
+            if let Some(text) = reply.texts(rest) {
+                read(question, text.as_str(), reply);
+            }
+        }
+    }
 }
 
 /// - `port TEXT`, `triplet TEXT`, `feature TEXT`: the name, or its fault;
 /// - `triplets A B`, `features A B`, `instances A B`: how two names are ordered.
-pub fn answer(alloc: Global, question: &str, rest: &str) -> Result<Text, Unread<NoRow>> {
-    let (one, other) = cut(rest);
-    match question {
-        "port" => port(alloc, rest),
-        "triplet" => triplet(alloc, rest),
-        "feature" => feature(alloc, rest),
-        "triplets" => triplets(alloc, one, other),
-        "features" => features(alloc, one, other),
-        "instances" => instances(alloc, one, other),
-        _ => Err(Unread::Fault(NoRow)),
+pub fn answer(question: &str, rest: &str, reply: &mut Reply) {
+    match meaning(&QUESTIONS, question) {
+        Some(question) => ask(question, rest, reply),
+        None => reply.refuse(),
     }
 }

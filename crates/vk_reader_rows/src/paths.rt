@@ -1,16 +1,37 @@
 //! Paths of a tree.
 
-use crate::shows::{ordering, push_number, shown, tell, yes_or_no};
+use crate::rows::meaning;
+use crate::shows::{tell, tell_order};
 use std::alloc::Global;
 use vk_base::{Memory, Text, TreePath, Unread};
-use vk_row_text::{NoRow, cut, number_of, path_of, texts_of};
+use vk_row_text::{Reply, cut};
+
+#[derive(Clone, Copy)]
+enum Question {
+    Read,
+    Letters,
+    Parts,
+    Join,
+    Begins,
+    Order,
+    Child,
+}
+
+const QUESTIONS: [(&str, Question); 7] = [
+    ("read", Question::Read),
+    ("letters", Question::Letters),
+    ("parts", Question::Parts),
+    ("join", Question::Join),
+    ("begins", Question::Begins),
+    ("order", Question::Order),
+    ("child", Question::Child),
+];
 
 // More steps up than a row's path has.
 const MANY_STEPS: u32 = 1_000_000;
 
-fn read(alloc: Global, rest: &str) -> Result<Text, Unread<NoRow>> {
-    let text = texts_of(alloc, rest)?;
-    tell(alloc, TreePath::read(alloc, text.as_str()).map_err(Unread::Fault))
+fn read(text: &str, reply: &mut Reply) {
+    tell(TreePath::read(reply.alloc(), text).map_err(Unread::Fault), reply);
 }
 
 fn letters(alloc: Global, count: u32) -> Result<Text, Memory> {
@@ -21,74 +42,88 @@ fn letters(alloc: Global, count: u32) -> Result<Text, Memory> {
     Ok(text)
 }
 
-fn read_letters(alloc: Global, rest: &str) -> Result<Text, Unread<NoRow>> {
-    let text = letters(alloc, number_of(rest)?)?;
-    tell(alloc, TreePath::read(alloc, text.as_str()).map_err(Unread::Fault))
+fn read_letters(count: u32, reply: &mut Reply) {
+    match letters(reply.alloc(), count) {
+        Ok(text) => read(text.as_str(), reply),
+        Err(memory) => reply.lack(memory),
+    }
 }
 
-fn push_start(out: &mut Text, is_rooted: bool) -> Result<(), Memory> {
-    out.push_str(if is_rooted { "rooted, " } else { "not rooted, " })?;
-    Ok(())
+fn parts(path: &TreePath, reply: &mut Reply) {
+    reply.push(if path.is_rooted() { "rooted, " } else { "not rooted, " });
+    reply.push_number(u64::from(path.steps_up()));
+    reply.push(" steps up, ");
+    reply.push_number(path.parts().len() as u64);
+    reply.push(" parts");
 }
 
-fn parts(alloc: Global, rest: &str) -> Result<Text, Unread<NoRow>> {
-    let path = path_of(alloc, rest)?;
-    let mut out = Text::new(alloc);
-    push_start(&mut out, path.is_rooted())?;
-    push_number(alloc, &mut out, u64::from(path.steps_up()))?;
-    out.push_str(" steps up, ")?;
-    push_number(alloc, &mut out, path.parts().len() as u64)?;
-    out.push_str(" parts")?;
-    Ok(out)
+fn push_whole(whole: Result<TreePath, Memory>, reply: &mut Reply) {
+    match whole {
+        Ok(path) => reply.push_path(&path),
+        Err(memory) => reply.lack(memory),
+    }
 }
 
-fn joined(alloc: Global, from: &TreePath, more: &TreePath) -> Result<TreePath, Unread<NoRow>> {
+fn join(from: &TreePath, more: &TreePath, reply: &mut Reply) {
     if from.steps_up() > MANY_STEPS {
-        return Err(Unread::Fault(NoRow));
+        return reply.refuse();
     }
     if more.steps_up() > MANY_STEPS {
-        return Err(Unread::Fault(NoRow));
+        return reply.refuse();
     }
-    Ok(from.join(alloc, more)?)
+    push_whole(from.join(reply.alloc(), more), reply);
 }
 
-fn join(alloc: Global, one: &str, other: &str) -> Result<Text, Unread<NoRow>> {
-    let from = path_of(alloc, one)?;
-    let more = path_of(alloc, other)?;
-    shown(alloc, &joined(alloc, &from, &more)?)
+fn ask_both(question: Question, one: &TreePath, other: &TreePath, reply: &mut Reply) {
+    match question {
+        Question::Join => join(one, other, reply),
+        Question::Begins => reply.push_test(one.begins(other)),
+        _ => tell_order(Some(one.cmp(other)), reply),
+    }
 }
 
-fn begins(alloc: Global, one: &str, other: &str) -> Result<Text, Unread<NoRow>> {
-    let front = path_of(alloc, one)?;
-    let whole = path_of(alloc, other)?;
-    yes_or_no(alloc, front.begins(&whole))
+fn both(question: Question, rest: &str, reply: &mut Reply) {
+    let (one, other) = cut(rest);
+    let one = reply.path(one);
+    let other = reply.path(other);
+    if let (Some(one), Some(other)) = (&one, &other) {
+        ask_both(question, one, other, reply);
+    }
 }
 
-fn order(alloc: Global, one: &str, other: &str) -> Result<Text, Unread<NoRow>> {
-    let one = path_of(alloc, one)?;
-    let other = path_of(alloc, other)?;
-    ordering(alloc, Some(one.cmp(&other)))
-}
-
-fn child(alloc: Global, rest: &str) -> Result<Text, Unread<NoRow>> {
-    let folder = path_of(alloc, rest)?;
-    shown(alloc, &folder.child(alloc, "a")?)
+fn ask(question: Question, rest: &str, reply: &mut Reply) {
+    match question {
+        Question::Read => {
+            if let Some(text) = reply.texts(rest) {
+                read(text.as_str(), reply);
+            }
+        }
+        Question::Letters => {
+            if let Some(count) = reply.number(rest) {
+                read_letters(count, reply);
+            }
+        }
+        Question::Parts => {
+            if let Some(path) = reply.path(rest) {
+                parts(&path, reply);
+            }
+        }
+        Question::Child => {
+            if let Some(path) = reply.path(rest) {
+                push_whole(path.child(reply.alloc(), "a"), reply);
+            }
+        }
+        _ => both(question, rest, reply),
+    }
 }
 
 /// - `read TEXT`: the path, or the fault; `letters N`: the same of so many letters;
 /// - `parts PATH`: where it begins, and how many parts it has;
 /// - `join PATH PATH`, `begins PATH PATH`, `order PATH PATH`: what the first is to the second;
 /// - `child PATH`: what is called `a` in that folder.
-pub fn answer(alloc: Global, question: &str, rest: &str) -> Result<Text, Unread<NoRow>> {
-    let (one, other) = cut(rest);
-    match question {
-        "read" => read(alloc, rest),
-        "letters" => read_letters(alloc, rest),
-        "parts" => parts(alloc, rest),
-        "join" => join(alloc, one, other),
-        "begins" => begins(alloc, one, other),
-        "order" => order(alloc, one, other),
-        "child" => child(alloc, rest),
-        _ => Err(Unread::Fault(NoRow)),
+pub fn answer(question: &str, rest: &str, reply: &mut Reply) {
+    match meaning(&QUESTIONS, question) {
+        Some(question) => ask(question, rest, reply),
+        None => reply.refuse(),
     }
 }

@@ -1,120 +1,116 @@
 //! The files of registries: baselines, and the versions of a port, which are a table.
 
 use crate::names::port_of;
-use crate::shows::{Show, push_text, shown, tell, word};
-use std::alloc::Global;
-use vk_base::{Memory, PortName, Text, Unread};
+use crate::shows::{Show, refused, tell, tell_place};
+use vk_base::{List, PortName, Unread};
 use vk_json::FileFault;
-use vk_registry::{Baseline, Row, Table, baseline_of, find, read_baseline, read_table};
-use vk_row_text::{NoRow, bytes_of, cut, number_of, text_of};
+use vk_registry::{Baseline, Table, baseline_of, find, read_baseline, read_table};
+use vk_row_text::{Reply, cut};
 use vk_version::Ask;
 
 impl Show for Baseline {
-    fn show(&self, alloc: Global, out: &mut Text) -> Result<(), Memory> {
-        out.push_str("baseline")?;
+    fn show(&self, reply: &mut Reply) {
+        reply.push("baseline");
         for entry in self.entries() {
-            out.push_str(" ")?;
-            out.push_str(entry.port.as_str())?;
-            out.push_str("=")?;
-            push_text(alloc, out, &entry.ask.text, entry.ask.port)?;
+            reply.push(" ");
+            entry.port.show(reply);
+            reply.push("=");
+            reply.push_ask(&entry.ask);
         }
-        Ok(())
-    }
-}
-
-impl Show for Row {
-    fn show(&self, alloc: Global, out: &mut Text) -> Result<(), Memory> {
-        let version = &self.version;
-        push_text(alloc, out, version.text(), version.port())?;
-        out.push_str("=")?;
-        self.path.show(alloc, out)
     }
 }
 
 impl Show for Table {
-    fn show(&self, alloc: Global, out: &mut Text) -> Result<(), Memory> {
-        out.push_str("table")?;
+    fn show(&self, reply: &mut Reply) {
+        reply.push("table");
         for row in self.rows() {
-            out.push_str(" ")?;
-            row.show(alloc, out)?;
+            reply.push(" ");
+            reply.push_ask(row.version.ask());
+            reply.push("=");
+            reply.push_path(&row.path);
         }
-        Ok(())
     }
 }
 
 fn baseline_in(
-    alloc: Global,
     name: &str,
     rest: &str,
-) -> Result<Result<Baseline, Unread<FileFault>>, Unread<NoRow>> {
-    let name = text_of(alloc, name)?;
-    let bytes = bytes_of(alloc, rest)?;
-    Ok(read_baseline(alloc, bytes.as_slice(), name.as_str()).map_err(Unread::Fault))
+    reply: &mut Reply,
+) -> Option<Result<Baseline, Unread<FileFault>>> {
+    let name = reply.text(name)?;
+    let bytes = reply.bytes(rest)?;
+    let alloc = reply.alloc();
+    Some(read_baseline(alloc, bytes.as_slice(), name.as_str()).map_err(Unread::Fault))
 }
 
-fn table_in(alloc: Global, rest: &str) -> Result<Result<Table, Unread<FileFault>>, Unread<NoRow>> {
-    let bytes = bytes_of(alloc, rest)?;
-    Ok(read_table(alloc, bytes.as_slice()).map_err(Unread::Fault))
-}
-
-fn ask_shown(alloc: Global, ask: Option<&Ask>) -> Result<Text, Unread<NoRow>> {
-    match ask {
-        Some(ask) => shown(alloc, ask),
-        None => word(alloc, "none"),
+fn tell_entry(baseline: &Baseline, port: &PortName, reply: &mut Reply) {
+    match baseline_of(baseline, port) {
+        Some(ask) => reply.push_ask(ask),
+        None => reply.push("none"),
     }
 }
 
-fn entry(alloc: Global, name: &str, port: &PortName, rest: &str) -> Result<Text, Unread<NoRow>> {
-    match baseline_in(alloc, name, rest)? {
-        Ok(baseline) => ask_shown(alloc, baseline_of(&baseline, port)),
-        Err(Unread::Fault(fault)) => shown(alloc, &fault),
-        Err(Unread::Memory(memory)) => Err(Unread::Memory(memory)),
+fn entry(name: &str, port: &PortName, rest: &str, reply: &mut Reply) {
+    match baseline_in(name, rest, reply) {
+        Some(Ok(baseline)) => tell_entry(&baseline, port, reply),
+        Some(Err(stop)) => refused(stop, reply),
+        None => {}
     }
 }
 
-fn ask_of(alloc: Global, text: &str, number: &str) -> Result<Ask, Unread<NoRow>> {
-    let port = number_of(number)?;
-    Ok(Ask {
-        text: text_of(alloc, text)?,
-        port,
-    })
+fn ask_of(text: &str, number: &str, reply: &mut Reply) -> Option<Ask> {
+    let port = reply.number(number)?;
+    let text = reply.text(text)?;
+    Some(Ask { text, port })
 }
 
-fn found(alloc: Global, ask: &Ask, rest: &str) -> Result<Text, Unread<NoRow>> {
-    match table_in(alloc, rest)? {
-        Ok(table) => match find(&table, ask) {
-            Some(place) => Ok(Text::from_string(format!(in alloc; "{place}")?)),
-            None => word(alloc, "none"),
-        },
-        Err(Unread::Fault(fault)) => shown(alloc, &fault),
-        Err(Unread::Memory(memory)) => Err(Unread::Memory(memory)),
+fn found(ask: &Ask, bytes: &List<u8>, reply: &mut Reply) {
+    match read_table(reply.alloc(), bytes.as_slice()).map_err(Unread::Fault) {
+        Ok(table) => tell_place(find(&table, ask), reply),
+        Err(stop) => refused(stop, reply),
+    }
+}
+
+fn find_in(rest: &str, reply: &mut Reply) {
+    let (text, rest) = cut(rest);
+    let (number, rest) = cut(rest);
+    let ask = ask_of(text, number, reply);
+    let bytes = reply.bytes(rest);
+    if let (Some(ask), Some(bytes)) = (&ask, &bytes) {
+        found(ask, bytes, reply);
     }
 }
 
 /// - `read NAME FILE`: the baseline of this name, or the fault;
 /// - `entry NAME PORT FILE`: what it says of a port.
-pub fn baseline(alloc: Global, question: &str, rest: &str) -> Result<Text, Unread<NoRow>> {
+pub fn baseline(question: &str, rest: &str, reply: &mut Reply) {
     let (name, rest) = cut(rest);
     match question {
-        "read" => tell(alloc, baseline_in(alloc, name, rest)?),
+        "read" => {
+            if let Some(read) = baseline_in(name, rest, reply) {
+                tell(read, reply);
+            }
+        }
         "entry" => {
             let (port, rest) = cut(rest);
-            entry(alloc, name, &port_of(alloc, port)?, rest)
+            if let Some(port) = port_of(port, reply) {
+                entry(name, &port, rest, reply);
+            }
         }
-        _ => Err(Unread::Fault(NoRow)),
+        _ => reply.refuse(),
     }
 }
 
 /// - `read FILE`: the versions of a port, each with its folder, or the fault;
 /// - `find TEXT N FILE`: the place of the version with this text and port-version, or `none`.
-pub fn table(alloc: Global, question: &str, rest: &str) -> Result<Text, Unread<NoRow>> {
+pub fn table(question: &str, rest: &str, reply: &mut Reply) {
     match question {
-        "read" => tell(alloc, table_in(alloc, rest)?),
-        "find" => {
-            let (text, rest) = cut(rest);
-            let (number, rest) = cut(rest);
-            found(alloc, &ask_of(alloc, text, number)?, rest)
+        "read" => {
+            if let Some(bytes) = reply.bytes(rest) {
+                tell(read_table(reply.alloc(), bytes.as_slice()).map_err(Unread::Fault), reply);
+            }
         }
-        _ => Err(Unread::Fault(NoRow)),
+        "find" => find_in(rest, reply),
+        _ => reply.refuse(),
     }
 }

@@ -1,164 +1,143 @@
 //! What has a form on a line.
 
-use std::alloc::Global;
 use std::cmp::Ordering;
-use vk_base::{FeatureName, List, Memory, PortName, Text, TreePath, TripletName, Unread, token};
+use vk_base::{FeatureName, List, PortName, Text, TreePath, TripletName, Unread};
 use vk_expr::{Expr, print};
-use vk_row_text::NoRow;
-use vk_version::{Ask, Class, Version};
+use vk_row_text::Reply;
+use vk_version::{Ask, Version};
 
 /// What has a form on a line.
 pub trait Show {
     /// Puts the form at the end.
-    fn show(&self, alloc: Global, out: &mut Text) -> Result<(), Memory>;
+    fn show(&self, reply: &mut Reply);
 }
 
-/// The form of a value, and `nothing` where that is empty.
-pub fn shown<T: Show>(alloc: Global, value: &T) -> Result<Text, Unread<NoRow>> {
-    let mut out = Text::new(alloc);
-    value.show(alloc, &mut out)?;
-    if out.is_empty() {
-        out.push_str("nothing")?;
+/// Tells a value, and `nothing` where its form is empty.
+pub fn tell_value<T: Show>(value: &T, reply: &mut Reply) {
+    value.show(reply);
+    if reply.is_empty() {
+        reply.push("nothing");
     }
-    Ok(out)
 }
 
-/// What a reading answers: the form of the value, or that of the fault.
-pub fn tell<T: Show + Drop, F: Show + Drop>(
-    alloc: Global,
-    reading: Result<T, Unread<F>>,
-) -> Result<Text, Unread<NoRow>> {
+/// Tells why there is no value.
+pub fn refused<F: Show + Drop>(stop: Unread<F>, reply: &mut Reply) {
+    match stop {
+        Unread::Fault(fault) => fault.show(reply),
+        Unread::Memory(memory) => reply.lack(memory),
+    }
+}
+
+/// Tells what a reading answers: the value, or the fault.
+pub fn tell<T: Show + Drop, F: Show + Drop>(reading: Result<T, Unread<F>>, reply: &mut Reply) {
     match reading {
-        Ok(value) => shown(alloc, &value),
-        Err(Unread::Fault(fault)) => shown(alloc, &fault),
-        Err(Unread::Memory(memory)) => Err(Unread::Memory(memory)),
+        Ok(value) => tell_value(&value, reply),
+        Err(stop) => refused(stop, reply),
     }
 }
 
-/// What is read, of a row that has to have it.
-pub fn needed<T: Drop, F: Drop>(reading: Result<T, Unread<F>>) -> Result<T, Unread<NoRow>> {
+/// Tells whether there is a reading, or the fault.
+pub fn tell_reads<T: Drop, F: Show + Drop>(reading: Result<T, Unread<F>>, reply: &mut Reply) {
     match reading {
-        Ok(value) => Ok(value),
-        Err(Unread::Fault(_)) => Err(Unread::Fault(NoRow)),
-        Err(Unread::Memory(memory)) => Err(Unread::Memory(memory)),
+        Ok(_) => reply.push("reads"),
+        Err(stop) => refused(stop, reply),
     }
 }
 
-/// A word as an answer.
-pub fn word(alloc: Global, word: &str) -> Result<Text, Unread<NoRow>> {
-    Ok(Text::from_str(alloc, word)?)
+/// Tells an order.
+pub fn tell_order(order: Option<Ordering>, reply: &mut Reply) {
+    reply.push(match order {
+        Some(Ordering::Less) => "less",
+        Some(Ordering::Equal) => "equal",
+        Some(Ordering::Greater) => "greater",
+        None => "unrelated",
+    });
 }
 
-/// A test as an answer.
-pub fn yes_or_no(alloc: Global, test: bool) -> Result<Text, Unread<NoRow>> {
-    word(alloc, if test { "yes" } else { "no" })
-}
-
-/// An order as an answer.
-pub fn ordering(alloc: Global, order: Option<Ordering>) -> Result<Text, Unread<NoRow>> {
-    match order {
-        Some(Ordering::Less) => word(alloc, "less"),
-        Some(Ordering::Equal) => word(alloc, "equal"),
-        Some(Ordering::Greater) => word(alloc, "greater"),
-        None => word(alloc, "unrelated"),
+/// Tells a place, or `none`.
+pub fn tell_place(place: Option<usize>, reply: &mut Reply) {
+    match place {
+        Some(place) => reply.push_number(place as u64),
+        None => reply.push("none"),
     }
-}
-
-/// Puts the token of bytes at the end.
-pub fn push_token(alloc: Global, out: &mut Text, bytes: &[u8]) -> Result<(), Memory> {
-    Ok(out.push_str(token(alloc, bytes)?.as_str())?)
-}
-
-/// Puts a number at the end.
-pub fn push_number(alloc: Global, out: &mut Text, number: u64) -> Result<(), Memory> {
-    Ok(out.push_str(format!(in alloc; "{number}")?.as_str())?)
-}
-
-/// Puts a version's text, as a token, and its port-version at the end.
-pub fn push_text(alloc: Global, out: &mut Text, text: &Text, port: u32) -> Result<(), Memory> {
-    push_token(alloc, out, text.as_bytes())?;
-    out.push_str("#")?;
-    push_number(alloc, out, u64::from(port))
 }
 
 impl Show for u8 {
-    fn show(&self, alloc: Global, out: &mut Text) -> Result<(), Memory> {
-        push_number(alloc, out, u64::from(*self))
+    fn show(&self, reply: &mut Reply) {
+        reply.push_number(u64::from(*self));
     }
 }
 
 impl Show for u32 {
-    fn show(&self, alloc: Global, out: &mut Text) -> Result<(), Memory> {
-        push_number(alloc, out, u64::from(*self))
+    fn show(&self, reply: &mut Reply) {
+        reply.push_number(u64::from(*self));
     }
 }
 
 impl<T: Show> Show for List<T> {
-    fn show(&self, alloc: Global, out: &mut Text) -> Result<(), Memory> {
+    fn show(&self, reply: &mut Reply) {
         for (n, item) in self.iter().enumerate() {
             if n > 0 {
-                out.push_str(" ")?;
+                reply.push(" ");
             }
-            item.show(alloc, out)?;
+            item.show(reply);
         }
-        Ok(())
+    }
+}
+
+impl<T: Show> Show for Option<T> {
+    fn show(&self, reply: &mut Reply) {
+        if let Some(value) = self {
+            value.show(reply);
+        }
     }
 }
 
 impl Show for Text {
-    fn show(&self, alloc: Global, out: &mut Text) -> Result<(), Memory> {
-        push_token(alloc, out, self.as_bytes())
+    fn show(&self, reply: &mut Reply) {
+        reply.push_token(self.as_bytes());
     }
 }
 
 impl Show for PortName {
-    fn show(&self, _: Global, out: &mut Text) -> Result<(), Memory> {
-        Ok(out.push_str(self.as_str())?)
+    fn show(&self, reply: &mut Reply) {
+        reply.push(self.as_str());
     }
 }
 
 impl Show for TripletName {
-    fn show(&self, _: Global, out: &mut Text) -> Result<(), Memory> {
-        Ok(out.push_str(self.as_str())?)
+    fn show(&self, reply: &mut Reply) {
+        reply.push(self.as_str());
     }
 }
 
 impl Show for FeatureName {
-    fn show(&self, _: Global, out: &mut Text) -> Result<(), Memory> {
-        Ok(out.push_str(self.as_str())?)
+    fn show(&self, reply: &mut Reply) {
+        reply.push(self.as_str());
     }
 }
 
 impl Show for TreePath {
-    fn show(&self, alloc: Global, out: &mut Text) -> Result<(), Memory> {
-        let text = self.text(alloc)?;
-        push_token(alloc, out, text.as_bytes())
+    fn show(&self, reply: &mut Reply) {
+        reply.push_path(self);
     }
 }
 
 impl Show for Expr {
-    fn show(&self, alloc: Global, out: &mut Text) -> Result<(), Memory> {
-        Ok(out.push_str(print(alloc, self)?.as_str())?)
+    fn show(&self, reply: &mut Reply) {
+        let printed = print(reply.alloc(), self);
+        reply.push_made(printed);
     }
 }
 
 impl Show for Ask {
-    fn show(&self, alloc: Global, out: &mut Text) -> Result<(), Memory> {
-        push_text(alloc, out, &self.text, self.port)
-    }
-}
-
-fn class_word(class: Class) -> &'static str {
-    match class {
-        Class::Dot => "dot:",
-        Class::Date => "date:",
-        Class::Text => "text:",
+    fn show(&self, reply: &mut Reply) {
+        reply.push_ask(self);
     }
 }
 
 impl Show for Version {
-    fn show(&self, alloc: Global, out: &mut Text) -> Result<(), Memory> {
-        out.push_str(class_word(self.class()))?;
-        push_text(alloc, out, self.text(), self.port())
+    fn show(&self, reply: &mut Reply) {
+        reply.push_version(self);
     }
 }

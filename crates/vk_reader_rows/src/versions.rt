@@ -1,80 +1,88 @@
 //! Versions: a scheme, a text and a port-version, and how two of them compare.
 
-use crate::shows::{needed, ordering, tell, word};
-use crate::shows::shown;
-use std::alloc::Global;
-use vk_base::{Text, Unread};
-use vk_row_text::{NoRow, cut, number_of, text_of, texts_of};
+use crate::rows::meaning;
+use crate::shows::{tell, tell_order, tell_reads};
+use vk_base::Unread;
+use vk_row_text::{Reply, cut};
 use vk_version::{Scheme, Version, VersionFault, order, read, read_ask};
 
-fn scheme_of(word: &str) -> Result<Scheme, Unread<NoRow>> {
-    match word {
-        "relaxed" => Ok(Scheme::Relaxed),
-        "semver" => Ok(Scheme::Semver),
-        "date" => Ok(Scheme::Date),
-        "string" => Ok(Scheme::Text),
-        _ => Err(Unread::Fault(NoRow)),
-    }
-}
+const SCHEMES: [(&str, Scheme); 4] = [
+    ("relaxed", Scheme::Relaxed),
+    ("semver", Scheme::Semver),
+    ("date", Scheme::Date),
+    ("string", Scheme::Text),
+];
 
 // What is read of a scheme, a text and a port-version.
-fn reading(
-    alloc: Global,
-    scheme: &str,
-    text: &str,
-    port: &str,
-) -> Result<Result<Version, Unread<VersionFault>>, Unread<NoRow>> {
-    let scheme = scheme_of(scheme)?;
-    let port = number_of(port)?;
-    let text = text_of(alloc, text)?;
-    Ok(read(alloc, scheme, text.as_str(), port).map_err(Unread::Fault))
+type Reading = Result<Version, Unread<VersionFault>>;
+
+// What is read of a text by a scheme, where the row has both and a port-version.
+fn reading_by(scheme: Scheme, text: &str, port: &str, reply: &mut Reply) -> Option<Reading> {
+    let port = reply.number(port)?;
+    let text = reply.text(text)?;
+    Some(read(reply.alloc(), scheme, text.as_str(), port).map_err(Unread::Fault))
 }
 
-fn reads(alloc: Global, rest: &str) -> Result<Text, Unread<NoRow>> {
-    let (scheme, rest) = cut(rest);
-    let (text, port) = cut(rest);
-    match reading(alloc, scheme, text, port)? {
-        Ok(_) => word(alloc, "reads"),
-        Err(Unread::Fault(fault)) => shown(alloc, &fault),
-        Err(Unread::Memory(memory)) => Err(Unread::Memory(memory)),
+fn reading(scheme: &str, text: &str, port: &str, reply: &mut Reply) -> Option<Reading> {
+    match meaning(&SCHEMES, scheme) {
+        Some(scheme) => reading_by(scheme, text, port, reply),
+        None => {
+            reply.refuse();
+            None
+        }
     }
-}
-
-fn shows(alloc: Global, rest: &str) -> Result<Text, Unread<NoRow>> {
-    let (scheme, rest) = cut(rest);
-    let (text, port) = cut(rest);
-    tell(alloc, reading(alloc, scheme, text, port)?)
 }
 
 // The first version of a row, and what stands behind it.
-fn version<'a>(alloc: Global, rest: &'a str) -> Result<(Version, &'a str), Unread<NoRow>> {
+fn first<'a>(rest: &'a str, reply: &mut Reply) -> (Option<Reading>, &'a str) {
     let (scheme, rest) = cut(rest);
     let (text, rest) = cut(rest);
     let (port, rest) = cut(rest);
-    Ok((needed(reading(alloc, scheme, text, port)?)?, rest))
+    (reading(scheme, text, port, reply), rest)
 }
 
-fn compared(alloc: Global, rest: &str) -> Result<Text, Unread<NoRow>> {
-    let (left, rest) = version(alloc, rest)?;
-    let (right, _) = version(alloc, rest)?;
-    ordering(alloc, order(&left, &right))
+fn version_of(reading: Option<Reading>, reply: &mut Reply) -> Option<Version> {
+    reply.needed(reading?)
 }
 
-fn ask(alloc: Global, rest: &str) -> Result<Text, Unread<NoRow>> {
-    let text = texts_of(alloc, rest)?;
-    tell(alloc, read_ask(alloc, text.as_str()).map_err(Unread::Fault))
+fn compare(rest: &str, reply: &mut Reply) {
+    let (left, rest) = first(rest, reply);
+    let (right, _) = first(rest, reply);
+    let left = version_of(left, reply);
+    let right = version_of(right, reply);
+    if let (Some(left), Some(right)) = (&left, &right) {
+        tell_order(order(left, right), reply);
+    }
+}
+
+fn reads(rest: &str, reply: &mut Reply) {
+    if let (Some(reading), _) = first(rest, reply) {
+        tell_reads(reading, reply);
+    }
+}
+
+fn shows(rest: &str, reply: &mut Reply) {
+    if let (Some(reading), _) = first(rest, reply) {
+        tell(reading, reply);
+    }
+}
+
+fn ask(rest: &str, reply: &mut Reply) {
+    if let Some(text) = reply.texts(rest) {
+        tell(read_ask(reply.alloc(), text.as_str()).map_err(Unread::Fault), reply);
+    }
 }
 
 /// - `read SCHEME TEXT N`: whether the text with this port-version reads, or the fault;
 /// - `show SCHEME TEXT N`: the version;
 /// - `order SCHEME TEXT N SCHEME TEXT N`: what the first version is to the second;
 /// - `ask TEXT`: the text and the port-version of an ask, or the fault.
-pub fn answer(alloc: Global, question: &str, rest: &str) -> Result<Text, Unread<NoRow>> {
+pub fn answer(question: &str, rest: &str, reply: &mut Reply) {
     match question {
-        "read" => reads(alloc, rest),
-        "show" => shows(alloc, rest),
-        "order" => compared(alloc, rest),
-        "ask" => ask(alloc, rest),
-        _ => Err(Unread::Fault(NoRow)),
+        "read" => reads(rest, reply),
+        "show" => shows(rest, reply),
+        "order" => compare(rest, reply),
+        "ask" => ask(rest, reply),
+        _ => reply.refuse(),
     }
 }

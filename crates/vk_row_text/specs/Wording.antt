@@ -6,7 +6,7 @@ use Rattle.vk_base.specs.PathReading.{PathWrong, path_of}
 use Rattle.vk_base.specs.Tokens.{ReadsToken}
 use Rattle.vk_base.specs.declared.stops.Unread.{Unread}
 use Rattle.vk_base.specs.declared.stops.Unread.TheVariants.{Fault, Memory}
-use Rattle.vk_row_text.specs.declared.wording.NoRow.{NoRow}
+use Rattle.vk_row_text.specs.declared.replies.NoRow.{NoRow}
 
 abbrev pub is_blank : ℕ → Bool
 is_blank b = b == 32

@@ -4,24 +4,15 @@
 //! A row is a question, or a question and ` => ` and its answer. An answer of several lines stands
 //! below its question, each line behind four blanks. An empty line asks nothing.
 
-use crate::wording::NoRow;
+use crate::replies::Reply;
 use std::alloc::{AllocError, Global};
 use std::io;
-use vk_base::{Text, Unread};
-
-/// The answer to a row.
-#[derive(Drop)]
-pub enum Reply {
-    /// It is done, and nothing is to be told.
-    Done,
-    /// What is told, which may have several lines.
-    Told(Text),
-}
+use vk_base::Text;
 
 /// What answers rows, and keeps what they did.
 pub trait Answering {
-    /// The answer to a question. `NoRow` where it is of no form, or what it says can't be done.
-    fn answer(&mut self, alloc: Global, question: &str) -> Result<Reply, Unread<NoRow>>;
+    /// Puts the answer to a question into the reply.
+    fn answer(&mut self, question: &str, reply: &mut Reply);
 }
 
 const MARGIN: &str = "    ";
@@ -51,13 +42,22 @@ fn print_lines<R: Print>(rt: &R, lines: &Text) -> io::Result<()> {
     Ok(())
 }
 
-// The answer in words, or nothing where nothing is to be told.
-fn told_of(alloc: Global, reply: Result<Reply, Unread<NoRow>>) -> Result<Option<Text>, AllocError> {
-    match reply {
-        Ok(Reply::Done) => Ok(None),
-        Ok(Reply::Told(told)) => Ok(Some(told)),
-        Err(Unread::Fault(NoRow)) => Ok(Some(Text::from_str(alloc, "no row")?)),
-        Err(Unread::Memory(_)) => Ok(Some(Text::from_str(alloc, "no memory")?)),
+// What is told of a question, or nothing where nothing is to be told.
+fn told_of<A: Answering>(
+    alloc: Global,
+    rows: &mut A,
+    question: &str,
+) -> Result<Option<Text>, AllocError> {
+    let mut reply = Reply::new(alloc);
+    rows.answer(question, &mut reply);
+    reply.end()
+}
+
+// A row's question, and what stands behind ` => `.
+fn parts_of(row: &str) -> (&str, Option<&str>) {
+    match row.split_once(" => ") {
+        Some((question, wanted)) => (question, Some(wanted)),
+        None => (row, None),
     }
 }
 
@@ -126,11 +126,8 @@ impl Sheet {
         rows: &mut A,
         row: &str,
     ) -> io::Result<()> {
-        let (question, wanted) = match row.split_once(" => ") {
-            Some((question, wanted)) => (question, Some(wanted)),
-            None => (row, None),
-        };
-        let told = told_of(rt.alloc(), rows.answer(rt.alloc(), question))?;
+        let (question, wanted) = parts_of(row);
+        let told = told_of(rt.alloc(), rows, question)?;
         match (told, wanted) {
             (Some(told), Some(wanted)) => self.beside(rt, question, &told, wanted),
             (Some(told), None) => {

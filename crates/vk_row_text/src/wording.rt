@@ -4,13 +4,10 @@ ghost use Rattle.std.specs.List.{before_first, after_first};
 ghost use Rattle.vk_row_text.specs.Wording.{is_blank, IsPathOf, IsTextOf, ReadsBytes, ReadsNumber};
 ghost use Rattle.vk_row_text.specs.Wording.{ReadsPath, ReadsText};
 
+use crate::replies::NoRow;
 use std::alloc::Global;
 use std::str::FromStr;
 use vk_base::{List, PathFault, Text, TreePath, Unread, read_token};
-
-/// A row is of no form, or what it says can't be done.
-#[derive(Clone, Copy, Debug, PartialEq, Eq, Drop)]
-pub struct NoRow;
 
 /// A row's first word, and what stands after the blank behind it, which is nothing where the row has
 /// no blank.

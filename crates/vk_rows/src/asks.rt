@@ -4,20 +4,18 @@ ghost use Rattle.std.specs.Prelude.{IfOk, IsTrue};
 ghost use Rattle.vk_spec.specs.Catalogues.{OnPage, CanAskVersion, CanAskManifest};
 ghost use Rattle.vk_version.specs.AskViews.{ask_view};
 
-use crate::lines::{given_line, manifest_line, version_line, wrong_line};
+use crate::lines::{tell_given, tell_manifest, tell_version, tell_wrong};
 use crate::projects::{ask_of, port_of};
-use std::alloc::Global;
-use vk_base::{PortName, Text, Unread};
+use vk_base::{Memory, PortName};
 use vk_catalogue::{CatStop, Catalogue, GivenManifest, manifest_at_given};
-use vk_row_text::{NoRow, cut};
+use vk_row_text::{Reply, cut};
 use vk_version::Ask;
 
-// What a catalogue told, also that it failed.
-fn told(alloc: Global, answer: Result<Text, CatStop>) -> Result<Text, Unread<NoRow>> {
-    match answer {
-        Ok(told) => Ok(told),
-        Err(CatStop::Failed) => Ok(Text::from_str(alloc, "failed")?),
-        Err(CatStop::Memory) => Err(Unread::from(vk_base::Memory::without_allocation())),
+// Tells that a catalogue failed.
+fn stopped(stop: CatStop, reply: &mut Reply) {
+    match stop {
+        CatStop::Failed => reply.push("failed"),
+        CatStop::Memory => reply.lack(Memory::without_allocation()),
     }
 }
 
@@ -26,111 +24,92 @@ fn told(alloc: Global, answer: Result<Text, CatStop>) -> Result<Text, Unread<NoR
 fn has_given<C: Catalogue>(catalogue: &mut C, port: &PortName) -> Result<bool, CatStop>
     ensures { IfOk result (λ yes. IsTrue yes → OnPage port.now CanAskVersion (C.state catalogue.new)) }
 {
-    match catalogue.given(port)? {
-        Ok(_) => Ok(true),
-        Err(_) => Ok(false),
+    match catalogue.given(port) {
+        Ok(Ok(_)) => Ok(true),
+        Ok(Err(_)) => Ok(false),
+        Err(stop) => Err(stop),
     }
 }
 
-fn given_told<C: Catalogue>(
-    alloc: Global,
-    catalogue: &mut C,
-    port: &PortName,
-) -> Result<Text, CatStop> {
-    match catalogue.given(port)? {
-        Ok(given) => Ok(given_line(alloc, &given)?),
-        Err(wrong) => Ok(wrong_line(alloc, &wrong)?),
+fn given<C: Catalogue>(catalogue: &mut C, port: &PortName, reply: &mut Reply) {
+    match catalogue.given(port) {
+        Ok(Ok(given)) => tell_given(&given, reply),
+        Ok(Err(wrong)) => tell_wrong(&wrong, reply),
+        Err(stop) => stopped(stop, reply),
     }
 }
 
-fn version_told<C: Catalogue>(
-    alloc: Global,
-    catalogue: &mut C,
-    port: &PortName,
-    ask: &Ask,
-) -> Result<Text, CatStop>
+fn version<C: Catalogue>(catalogue: &mut C, port: &PortName, ask: &Ask, reply: &mut Reply)
     requires { OnPage port.now CanAskVersion (C.state catalogue.old) }
 {
-    let version = catalogue.version(port, ask)?;
-    Ok(version_line(alloc, version.as_ref())?)
+    match catalogue.version(port, ask) {
+        Ok(version) => tell_version(version.as_ref(), reply),
+        Err(stop) => stopped(stop, reply),
+    }
 }
 
-fn listed_told<C: Catalogue>(
-    alloc: Global,
-    catalogue: &mut C,
-    port: &PortName,
-    ask: &Ask,
-) -> Result<Text, CatStop>
+fn listed<C: Catalogue>(catalogue: &mut C, port: &PortName, ask: &Ask, reply: &mut Reply)
     requires { OnPage port.now (CanAskManifest (ask_view ask.now)) (C.state catalogue.old) }
 {
-    match catalogue.manifest(port, ask)? {
-        Ok(manifest) => Ok(manifest_line(alloc, &manifest)?),
-        Err(wrong) => Ok(wrong_line(alloc, &wrong)?),
+    match catalogue.manifest(port, ask) {
+        Ok(Ok(manifest)) => tell_manifest(&manifest, reply),
+        Ok(Err(wrong)) => tell_wrong(&wrong, reply),
+        Err(stop) => stopped(stop, reply),
     }
 }
 
-// The manifest of a version that is there.
+// Tells the manifest of a version, where that is there.
 #[tactic(auto, using(vk_spec::proofs::AskLemmas::can_ask_manifest))]
-fn manifest_told<C: Catalogue>(
-    alloc: Global,
-    catalogue: &mut C,
-    port: &PortName,
-    ask: &Ask,
-) -> Result<Option<Text>, CatStop>
+fn manifest<C: Catalogue>(catalogue: &mut C, port: &PortName, ask: &Ask, reply: &mut Reply)
     requires { OnPage port.now CanAskVersion (C.state catalogue.old) }
 {
-    match catalogue.version(port, ask)? {
-        Some(_) => Ok(Some(listed_told(alloc, catalogue, port, ask)?)),
-        None => Ok(None),
+    match catalogue.version(port, ask) {
+        Ok(Some(_)) => listed(catalogue, port, ask, reply),
+        Ok(None) => reply.refuse(),
+        Err(stop) => stopped(stop, reply),
     }
 }
 
-fn at_told<C: Catalogue>(
-    alloc: Global,
-    catalogue: &mut C,
-    port: &PortName,
-) -> Result<Text, CatStop> {
-    match manifest_at_given(catalogue, port)? {
-        GivenManifest::Found(manifest) => Ok(manifest_line(alloc, &manifest)?),
-        GivenManifest::NoVersion(_) => Ok(version_line(alloc, None)?),
-        GivenManifest::Bad(wrong) => Ok(wrong_line(alloc, &wrong)?),
+fn at<C: Catalogue>(catalogue: &mut C, port: &PortName, reply: &mut Reply) {
+    match manifest_at_given(catalogue, port) {
+        Ok(GivenManifest::Found(manifest)) => tell_manifest(&manifest, reply),
+        Ok(GivenManifest::NoVersion(_)) => tell_version(None, reply),
+        Ok(GivenManifest::Bad(wrong)) => tell_wrong(&wrong, reply),
+        Err(stop) => stopped(stop, reply),
     }
 }
 
-fn version<C: Catalogue>(
-    alloc: Global,
-    catalogue: &mut C,
-    port: &PortName,
-    ask: &Ask,
-) -> Result<Text, Unread<NoRow>> {
-    match has_given(catalogue, port) {
-        Ok(true) => told(alloc, version_told(alloc, catalogue, port, ask)),
-        Ok(false) => Err(Unread::Fault(NoRow)),
-        Err(stop) => told(alloc, Err(stop)),
-    }
-}
-
-fn manifest_found(
-    alloc: Global,
-    answer: Result<Option<Text>, CatStop>,
-) -> Result<Text, Unread<NoRow>> {
-    match answer {
-        Ok(Some(line)) => Ok(line),
-        Ok(None) => Err(Unread::Fault(NoRow)),
-        Err(stop) => told(alloc, Err(stop)),
-    }
-}
-
-fn manifest<C: Catalogue>(
-    alloc: Global,
+// Asks for a version, or for its manifest, where the port has a given one.
+fn of_version<C: Catalogue>(
     catalogue: &mut C,
     port: &PortName,
     ask: &Ask,
-) -> Result<Text, Unread<NoRow>> {
+    is_manifest: bool,
+    reply: &mut Reply,
+) {
     match has_given(catalogue, port) {
-        Ok(true) => manifest_found(alloc, manifest_told(alloc, catalogue, port, ask)),
-        Ok(false) => Err(Unread::Fault(NoRow)),
-        Err(stop) => told(alloc, Err(stop)),
+        Ok(true) if is_manifest => manifest(catalogue, port, ask, reply),
+        Ok(true) => version(catalogue, port, ask, reply),
+        Ok(false) => reply.refuse(),
+        Err(stop) => stopped(stop, reply),
+    }
+}
+
+fn of_port<C: Catalogue>(
+    catalogue: &mut C,
+    question: &str,
+    port: &PortName,
+    rest: &str,
+    reply: &mut Reply,
+) {
+    match question {
+        "given" => given(catalogue, port, reply),
+        "at" => at(catalogue, port, reply),
+        _ => {
+            if let Some(ask) = ask_of(rest, reply) {
+                of_version(catalogue, port, &ask, question == "manifest", reply);
+            }
+        }
     }
 }
 
@@ -138,19 +117,9 @@ fn manifest<C: Catalogue>(
 /// - `version PORT ASK`: the version that the ask means;
 /// - `manifest PORT ASK`: the manifest of that version;
 /// - `at PORT`: the manifest of a port at its given version.
-pub fn ask<C: Catalogue>(
-    alloc: Global,
-    catalogue: &mut C,
-    question: &str,
-    row: &str,
-) -> Result<Text, Unread<NoRow>> {
+pub fn ask<C: Catalogue>(catalogue: &mut C, question: &str, row: &str, reply: &mut Reply) {
     let (port, rest) = cut(row);
-    let port = port_of(alloc, port)?;
-    match question {
-        "given" => told(alloc, given_told(alloc, catalogue, &port)),
-        "version" => version(alloc, catalogue, &port, &ask_of(alloc, rest)?),
-        "manifest" => manifest(alloc, catalogue, &port, &ask_of(alloc, rest)?),
-        "at" => told(alloc, at_told(alloc, catalogue, &port)),
-        _ => Err(Unread::Fault(NoRow)),
+    if let Some(port) = port_of(port, reply) {
+        of_port(catalogue, question, &port, rest, reply);
     }
 }

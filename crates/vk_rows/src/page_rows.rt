@@ -1,21 +1,21 @@
 //! A catalogue in memory, and the pages that rows put.
 
-use crate::lines::number_line;
-use crate::projects::{ask_of, port_of};
-use std::alloc::Global;
+use crate::asks::ask;
+use crate::projects::{ask_of, port_of, version_by};
+use crate::workspaces::{done, numbers_of};
+use std::alloc::{AllocError, Global};
 use std::rc::Rc;
 use vk_base::{List, Memory, PortName, Text, TreePath, Unread};
 use vk_catalogue::{Catalogue, Given, MemCatalogue, Page, PageRow, Wrong};
 use vk_expr::Expr;
 use vk_json::Why;
 use vk_model::Manifest;
-use vk_row_text::{NoRow, cut, path_of};
-use vk_version::{Scheme, Version, read};
+use vk_row_text::{NoRow, Reply, cut};
+use vk_version::{Scheme, Version};
 
-fn version_of(alloc: Global, word: &str) -> Result<Version, Unread<NoRow>> {
-    let ask = ask_of(alloc, word)?;
-    read(alloc, Scheme::Relaxed, ask.text.as_str(), ask.port)
-        .map_err(|_| Unread::Fault(NoRow))
+fn version_of(word: &str, reply: &mut Reply) -> Option<Version> {
+    let ask = ask_of(word, reply)?;
+    version_by(Scheme::Relaxed, &ask, reply)
 }
 
 // The manifest that has a name, and nothing else.
@@ -31,8 +31,12 @@ fn manifest_with(alloc: Global, name: PortName) -> Manifest {
     }
 }
 
-fn manifest_of(alloc: Global, name: &PortName) -> Result<Rc<Manifest>, Memory> {
-    Ok(Rc::new(alloc, manifest_with(alloc, name.clone()?))?)
+fn manifest_of(alloc: Global, name: &PortName) -> Result<Rc<Manifest>, AllocError> {
+    let name = name.clone()?;
+    match Rc::new(alloc, manifest_with(alloc, name)) {
+        Ok(manifest) => Ok(manifest),
+        Err(_) => Err(AllocError),
+    }
 }
 
 fn bad_file(path: TreePath, place: Text) -> Wrong {
@@ -43,91 +47,118 @@ fn bad_file(path: TreePath, place: Text) -> Wrong {
     }
 }
 
-fn wrong_of(alloc: Global) -> Result<Wrong, Unread<NoRow>> {
-    let path = path_of(alloc, "a/vcpkg.json")?;
-    let place = Text::from_str(alloc, "/name")?;
-    Ok(bad_file(path, place))
+fn wrong_of(reply: &mut Reply) -> Option<Wrong> {
+    let path = reply.path("a/vcpkg.json")?;
+    let place = reply.text("/name")?;
+    Some(bad_file(path, place))
 }
 
-fn row_of(version: Version, manifest: Result<Rc<Manifest>, Wrong>) -> PageRow {
-    PageRow { version, manifest }
+fn good_row(name: &PortName, word: &str, reply: &mut Reply) -> Option<PageRow> {
+    let version = version_of(word, reply)?;
+    match manifest_of(reply.alloc(), name) {
+        Ok(manifest) => Some(PageRow {
+            version,
+            manifest: Ok(manifest),
+        }),
+        Err(lack) => {
+            reply.lack(Memory::from(lack));
+            None
+        }
+    }
 }
 
-fn good_row(alloc: Global, name: &PortName, word: &str) -> Result<PageRow, Unread<NoRow>> {
-    let manifest = manifest_of(alloc, name)?;
-    let version = version_of(alloc, word)?;
-    Ok(row_of(version, Ok(manifest)))
-}
-
-fn bad_row(alloc: Global, word: &str) -> Result<PageRow, Unread<NoRow>> {
-    let version = version_of(alloc, word)?;
-    let wrong = wrong_of(alloc)?;
-    Ok(row_of(version, Err(wrong)))
+fn bad_row(word: &str, reply: &mut Reply) -> Option<PageRow> {
+    let version = version_of(word, reply)?;
+    match wrong_of(reply) {
+        Some(wrong) => Some(PageRow {
+            version,
+            manifest: Err(wrong),
+        }),
+        None => None,
+    }
 }
 
 // The row of a word: a version with a manifest of the port's name, or, behind `!`, one whose manifest
 // lacks its name.
-fn row(alloc: Global, name: &PortName, word: &str) -> Result<PageRow, Unread<NoRow>> {
+fn row_of(name: &PortName, word: &str, reply: &mut Reply) -> Option<PageRow> {
     match word.strip_prefix('!') {
-        Some(word) => bad_row(alloc, word),
-        None => good_row(alloc, name, word),
+        Some(word) => bad_row(word, reply),
+        None => good_row(name, word, reply),
     }
 }
 
-fn rows_of(alloc: Global, name: &PortName, words: &str) -> Result<List<PageRow>, Unread<NoRow>> {
-    let mut rows = List::new(alloc);
+fn push_rows(rows: &mut List<PageRow>, name: &PortName, words: &str, reply: &mut Reply) {
     for word in words.split(' ') {
-        rows.push(row(alloc, name, word)?)?;
+        if let Some(row) = row_of(name, word, reply)
+            && let Err(lack) = rows.push(row)
+        {
+            reply.lack(Memory::from(lack));
+        }
     }
-    Ok(rows)
 }
 
 // What is given by an ask, or `-` for no baseline.
-fn given_of(alloc: Global, word: &str) -> Result<Result<Given, Wrong>, Unread<NoRow>> {
+fn given_of(word: &str, reply: &mut Reply) -> Option<Result<Given, Wrong>> {
     if word == "-" {
-        return Ok(Err(Wrong::NoBaseline));
+        return Some(Err(Wrong::NoBaseline));
     }
-    Ok(Ok(Given::Baseline(ask_of(alloc, word)?)))
+    let ask = ask_of(word, reply)?;
+    Some(Ok(Given::Baseline(ask)))
 }
 
-fn page_with(port: PortName, given: Result<Given, Wrong>, rows: List<PageRow>) -> Page {
-    Page { port, given, rows }
-}
-
-fn page_of(alloc: Global, row: &str) -> Result<Page, Unread<NoRow>> {
+fn page_of(row: &str, reply: &mut Reply) -> Option<Page> {
     let (port, row) = cut(row);
     let (given, words) = cut(row);
-    let port = port_of(alloc, port)?;
-    let given = given_of(alloc, given)?;
-    let rows = rows_of(alloc, &port, words)?;
-    Ok(page_with(port, given, rows))
+    let port = port_of(port, reply)?;
+    let given = given_of(given, reply)?;
+    let mut rows = List::new(reply.alloc());
+    push_rows(&mut rows, &port, words, reply);
+    Some(Page { port, given, rows })
 }
 
-/// `put PORT GIVEN VERSION ..`: puts a page, where one fits.
-pub fn put(alloc: Global, pages: &mut MemCatalogue, row: &str) -> Result<(), Unread<NoRow>> {
-    let page = page_of(alloc, row)?;
+fn put_page(pages: &mut MemCatalogue, page: Page) -> Result<(), Unread<NoRow>> {
     if !pages.fits(&page)? {
         return Err(Unread::Fault(NoRow));
     }
     Ok(pages.put(page)?)
 }
 
-fn fits(alloc: Global, pages: &MemCatalogue, row: &str) -> Result<Text, Unread<NoRow>> {
-    let page = page_of(alloc, row)?;
-    Ok(Text::from_str(alloc, if pages.fits(&page)? { "yes" } else { "no" })?)
+fn put(pages: &mut MemCatalogue, row: &str, reply: &mut Reply) {
+    if let Some(page) = page_of(row, reply) {
+        done(reply, put_page(pages, page));
+    }
 }
 
-/// - `fits PORT GIVEN VERSION ..`: whether such a page may be put;
-/// - `faults`: how many calls failed.
-pub fn answer(
-    alloc: Global,
-    pages: &MemCatalogue,
-    question: &str,
-    row: &str,
-) -> Result<Text, Unread<NoRow>> {
+fn tell_fits(pages: &MemCatalogue, page: &Page, reply: &mut Reply) {
+    match pages.fits(page) {
+        Ok(fits) => reply.push_test(fits),
+        Err(memory) => reply.lack(memory),
+    }
+}
+
+fn fail_at(alloc: Global, pages: &mut MemCatalogue, row: &str) -> Result<(), Unread<NoRow>> {
+    let calls = numbers_of(alloc, row)?;
+    Ok(pages.fail_at(calls.as_slice())?)
+}
+
+/// - `put PORT GIVEN VERSION ..`: puts a page, where one fits; `fits PORT GIVEN VERSION ..`: whether
+///   one does;
+/// - `fails N ..`: it fails at these calls, counted from 1; `faults`: how many calls failed;
+/// - what every catalogue is asked.
+pub fn answer(pages: &mut MemCatalogue, row: &str, reply: &mut Reply) {
+    let (question, rest) = cut(row);
     match question {
-        "fits" => fits(alloc, pages, row),
-        "faults" => Ok(number_line(alloc, pages.faults())?),
-        _ => Err(Unread::Fault(NoRow)),
+        "put" => put(pages, rest, reply),
+        "fits" => {
+            if let Some(page) = page_of(rest, reply) {
+                tell_fits(pages, &page, reply);
+            }
+        }
+        "fails" => {
+            let set = fail_at(reply.alloc(), pages, rest);
+            done(reply, set);
+        }
+        "faults" => reply.push_number(pages.faults()),
+        _ => ask(pages, question, rest, reply),
     }
 }

@@ -3,120 +3,127 @@
 use std::alloc::Global;
 use vk_base::{List, PortName, TreePath, TripletName, Unread};
 use vk_model::Project;
-use vk_row_text::{NoRow, cut, path_of, text_of};
+use vk_row_text::{NoRow, Reply, cut, path_of};
 use vk_version::{Ask, Scheme, Version, read, read_ask};
 
 // How many requirements may be made, and how many bytes a folder may have: neither counts here.
 const MOST: u32 = 1000;
 
-// What is read, of a row that has to have it.
-fn needed<T: Drop, F: Drop>(reading: Result<T, Unread<F>>) -> Result<T, Unread<NoRow>> {
-    match reading {
-        Ok(value) => Ok(value),
-        Err(Unread::Fault(_)) => Err(Unread::Fault(NoRow)),
-        Err(Unread::Memory(memory)) => Err(Unread::Memory(memory)),
-    }
-}
-
-fn triplet_of(alloc: Global, word: &str) -> Result<TripletName, Unread<NoRow>> {
-    needed(TripletName::read(alloc, word).map_err(Unread::Fault))
+fn triplet_of(word: &str, reply: &mut Reply) -> Option<TripletName> {
+    let read = TripletName::read(reply.alloc(), word).map_err(Unread::Fault);
+    reply.needed(read)
 }
 
 /// The port that a word names.
-pub fn port_of(alloc: Global, word: &str) -> Result<PortName, Unread<NoRow>> {
-    needed(PortName::read(alloc, word).map_err(Unread::Fault))
+pub fn port_of(word: &str, reply: &mut Reply) -> Option<PortName> {
+    let read = PortName::read(reply.alloc(), word).map_err(Unread::Fault);
+    reply.needed(read)
 }
 
 /// The ask of a word, a token with a port-version or without one.
-pub fn ask_of(alloc: Global, word: &str) -> Result<Ask, Unread<NoRow>> {
-    let text = text_of(alloc, word)?;
-    needed(read_ask(alloc, text.as_str()).map_err(Unread::Fault))
+pub fn ask_of(word: &str, reply: &mut Reply) -> Option<Ask> {
+    let text = reply.text(word)?;
+    let read = read_ask(reply.alloc(), text.as_str()).map_err(Unread::Fault);
+    reply.needed(read)
 }
 
-fn scheme_of(class: &str) -> Result<Scheme, Unread<NoRow>> {
+/// The version of an ask by a scheme.
+pub fn version_by(scheme: Scheme, ask: &Ask, reply: &mut Reply) -> Option<Version> {
+    let read = read(reply.alloc(), scheme, ask.text.as_str(), ask.port).map_err(Unread::Fault);
+    reply.needed(read)
+}
+
+fn scheme_of(class: &str) -> Option<Scheme> {
     match class {
-        "dot" => Ok(Scheme::Relaxed),
-        "date" => Ok(Scheme::Date),
-        "text" => Ok(Scheme::Text),
-        _ => Err(Unread::Fault(NoRow)),
+        "dot" => Some(Scheme::Relaxed),
+        "date" => Some(Scheme::Date),
+        "text" => Some(Scheme::Text),
+        _ => None,
+    }
+}
+
+// The version of two words: a class, and the ask that means it.
+fn version_with(class: &str, ask: &str, reply: &mut Reply) -> Option<Version> {
+    let scheme = scheme_of(class);
+    let ask = ask_of(ask, reply);
+    match (scheme, &ask) {
+        (Some(scheme), Some(ask)) => version_by(scheme, ask, reply),
+        _ => {
+            reply.refuse();
+            None
+        }
     }
 }
 
 /// The version of a word, as versions are told: the class, `:`, and the ask that means it.
-pub fn version_of(alloc: Global, word: &str) -> Result<Version, Unread<NoRow>> {
-    let (class, ask) = word.split_once(':').ok_or(Unread::Fault(NoRow))?;
-    let scheme = scheme_of(class)?;
-    let ask = ask_of(alloc, ask)?;
-    needed(read(alloc, scheme, ask.text.as_str(), ask.port).map_err(Unread::Fault))
+pub fn version_of(word: &str, reply: &mut Reply) -> Option<Version> {
+    match word.split_once(':') {
+        Some((class, ask)) => version_with(class, ask, reply),
+        None => {
+            reply.refuse();
+            None
+        }
+    }
 }
 
-// The paths of a word, with commas between; `-` has none.
-fn paths_of(alloc: Global, word: &str) -> Result<List<TreePath>, Unread<NoRow>> {
-    let mut paths = List::new(alloc);
+// Puts the paths of a word at the end, with commas between; `-` has none.
+fn push_paths(
+    alloc: Global,
+    paths: &mut List<TreePath>,
+    word: &str,
+) -> Result<(), Unread<NoRow>> {
     if word == "-" {
-        return Ok(paths);
+        return Ok(());
     }
     for path in word.split(',') {
-        paths.push(path_of(alloc, path)?)?;
+        let path = path_of(alloc, path)?;
+        paths.push(path)?;
     }
-    Ok(paths)
+    Ok(())
 }
 
-// The folders of a row's project: of ports, and of triplets.
-#[derive(Drop)]
-struct Overlays {
-    ports: List<TreePath>,
-    triplets: List<TreePath>,
-}
-
-fn overlays_of(alloc: Global, row: &str) -> Result<Overlays, Unread<NoRow>> {
-    let (ports, triplets) = cut(row);
-    Ok(Overlays {
-        ports: paths_of(alloc, ports)?,
-        triplets: paths_of(alloc, triplets)?,
-    })
-}
-
-// The triplets of a row's project: of the target, and of the host.
-#[derive(Drop)]
-struct Triplets {
-    target: TripletName,
-    host: TripletName,
-}
-
-fn triplets_of(alloc: Global, target: &str, host: &str) -> Result<Triplets, Unread<NoRow>> {
-    Ok(Triplets {
-        target: triplet_of(alloc, target)?,
-        host: triplet_of(alloc, host)?,
-    })
-}
-
-fn project_with(
-    alloc: Global,
-    folder: TreePath,
-    triplets: Triplets,
-    overlays: Overlays,
-) -> Project {
+// A project without folders of ports and of triplets.
+fn project_in(alloc: Global, folder: TreePath, target: TripletName, host: TripletName) -> Project {
     Project {
         folder,
-        target: triplets.target,
-        host: triplets.host,
+        target,
+        host,
         features: List::new(alloc),
         defaults: true,
-        overlay_ports: overlays.ports,
-        overlay_triplets: overlays.triplets,
+        overlay_ports: List::new(alloc),
+        overlay_triplets: List::new(alloc),
         max_facts: MOST,
         max_bytes: u64::from(MOST),
     }
 }
 
+fn plain_project(folder: &str, target: &str, host: &str, reply: &mut Reply) -> Option<Project> {
+    let target = triplet_of(target, reply)?;
+    let host = triplet_of(host, reply)?;
+    let folder = reply.path(folder)?;
+    Some(project_in(reply.alloc(), folder, target, host))
+}
+
+fn push_folders(
+    alloc: Global,
+    project: &mut Project,
+    ports: &str,
+    triplets: &str,
+) -> Result<(), Unread<NoRow>> {
+    push_paths(alloc, &mut project.overlay_ports, ports)?;
+    push_paths(alloc, &mut project.overlay_triplets, triplets)
+}
+
 /// The project of a row: its folder, both triplets, folders of ports, and folders of triplets.
-pub fn project_of(alloc: Global, row: &str) -> Result<Project, Unread<NoRow>> {
+pub fn project_of(row: &str, reply: &mut Reply) -> Option<Project> {
     let (folder, row) = cut(row);
     let (target, row) = cut(row);
     let (host, row) = cut(row);
-    let folder = path_of(alloc, folder)?;
-    let triplets = triplets_of(alloc, target, host)?;
-    let overlays = overlays_of(alloc, row)?;
-    Ok(project_with(alloc, folder, triplets, overlays))
+    let (ports, triplets) = cut(row);
+    let mut project = plain_project(folder, target, host, reply)?;
+    let pushed = push_folders(reply.alloc(), &mut project, ports, triplets);
+    match reply.needed(pushed) {
+        Some(()) => Some(project),
+        None => None,
+    }
 }

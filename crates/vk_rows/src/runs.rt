@@ -3,7 +3,15 @@
 use std::alloc::Global;
 use std::str;
 use vk_base::{List, Memory, Text, Unread, Word};
-use vk_row_text::{NoRow, bytes_of, cut, number_of};
+use vk_row_text::{NoRow, Reply, bytes_of, cut};
+use vk_tree::MemSink;
+
+/// Both sinks of a run.
+#[derive(Drop)]
+pub struct Sinks {
+    pub out: MemSink,
+    pub err: MemSink,
+}
 
 /// How many bytes each of the two sinks takes.
 #[derive(Clone, Copy)]
@@ -18,13 +26,21 @@ pub const ROOM: Room = Room {
     err: 100,
 };
 
+impl Sinks {
+    /// Sinks that take so many bytes.
+    pub fn new(alloc: Global, room: Room) -> Result<Sinks, Memory> {
+        let out = MemSink::new(alloc, room.out)?;
+        let err = MemSink::new(alloc, room.err)?;
+        Ok(Sinks { out, err })
+    }
+}
+
 /// `room OUT ERR`: how many bytes the two sinks take.
-pub fn room_of(row: &str) -> Result<Room, Unread<NoRow>> {
+pub fn room_of(row: &str, reply: &mut Reply) -> Option<Room> {
     let (out, err) = cut(row);
-    Ok(Room {
-        out: number_of(out)?,
-        err: number_of(err)?,
-    })
+    let out = reply.number(out)?;
+    let err = reply.number(err)?;
+    Some(Room { out, err })
 }
 
 // The word of the command line that a token stands for.
@@ -48,40 +64,39 @@ pub fn words_of(alloc: Global, row: &str) -> Result<List<Word>, Unread<NoRow>> {
     Ok(words)
 }
 
-fn push_lines(told: &mut Text, mark: &str, lines: &str) -> Result<(), Memory> {
+fn push_lines(mark: &str, lines: &str, reply: &mut Reply) {
     for line in lines.split('\n') {
-        told.push_str("\n")?;
-        told.push_str(mark)?;
-        told.push_str(line)?;
+        reply.push("\n");
+        reply.push(mark);
+        reply.push(line);
     }
-    Ok(())
 }
 
-fn push_text(told: &mut Text, mark: &str, text: &str) -> Result<(), Memory> {
+fn push_text(mark: &str, text: &str, reply: &mut Reply) {
     match text.strip_suffix('\n') {
-        Some(lines) => push_lines(told, mark, lines),
+        Some(lines) => push_lines(mark, lines, reply),
         None => {
-            push_lines(told, mark, text)?;
-            push_lines(told, mark, "(cut short)")
+            push_lines(mark, text, reply);
+            push_lines(mark, "(cut short)", reply);
         }
     }
 }
 
 // Puts what a sink took at the end, each line behind a mark.
-fn push_taken(told: &mut Text, mark: &str, bytes: &[u8]) -> Result<(), Memory> {
+fn push_taken(mark: &str, bytes: &[u8], reply: &mut Reply) {
     if bytes.is_empty() {
-        return Ok(());
+        return;
     }
     match str::from_utf8(bytes) {
-        Ok(text) => push_text(told, mark, text),
-        Err(_) => push_lines(told, mark, "(no text)"),
+        Ok(text) => push_text(mark, text, reply),
+        Err(_) => push_lines(mark, "(no text)", reply),
     }
 }
 
-/// How a run ended: its status, and the lines that both sinks took.
-pub fn ended(alloc: Global, status: u8, out: &[u8], err: &[u8]) -> Result<Text, Memory> {
-    let mut told = Text::from_string(format!(in alloc; "exit {status}")?);
-    push_taken(&mut told, "", out)?;
-    push_taken(&mut told, "err: ", err)?;
-    Ok(told)
+/// Tells how a run ended: its status, and the lines that both sinks took.
+pub fn tell_ended(status: u8, sinks: &Sinks, reply: &mut Reply) {
+    reply.push("exit ");
+    reply.push_number(u64::from(status));
+    push_taken("", sinks.out.bytes(), reply);
+    push_taken("err: ", sinks.err.bytes(), reply);
 }

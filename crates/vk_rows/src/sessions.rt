@@ -1,6 +1,8 @@
-//! The rows, besides those that put files (`Workspace::set`):
+//! The rows, each a question and its words:
 //! - `forget`: no common files from here on; `group TITLE`, `case TITLE`: a new tree with the common
 //!   ones;
+//! - `common PATH FILE`, `file PATH FILE`, `blanks PATH N`, `fails N ..`: the files of the tree, and
+//!   the calls at which it fails;
 //! - `room OUT ERR`, `run WORD ..`: how many bytes the two sinks take, and a run with these words;
 //! - `open FOLDER TARGET HOST PORTS TRIPLETS`: opens a project with these folders of ports and of
 //!   triplet files, each a list with commas, or `-`; the world is then the one that is asked;
@@ -10,20 +12,20 @@
 //! - `tree ..`, `sink ..`, `pages ..`: asks a tree, a sink or a catalogue in memory.
 
 use crate::asks::ask;
-use crate::lines::path_lines;
+use crate::lines::tell_paths;
 use crate::openings::{Opening, folder, open_on};
 use crate::page_rows;
 use crate::projects::project_of;
-use crate::runs::{ROOM, Room, ended, room_of, words_of};
+use crate::runs::{ROOM, Room, Sinks, room_of, tell_ended, words_of};
 use crate::sink_rows;
 use crate::tree_rows;
-use crate::workspaces::{Workspace, numbers_of};
+use crate::workspaces::{Workspace, done};
 use std::alloc::Global;
 use vk_app::run;
-use vk_base::{List, Memory, Text, Unread, Word};
+use vk_base::{List, Memory, Unread, Word};
 use vk_catalogue::MemCatalogue;
 use vk_model::Project;
-use vk_row_text::{Answering, NoRow, Reply, cut, number_of};
+use vk_row_text::{Answering, NoRow, Reply, cut};
 use vk_tree::{MemSink, MemTree};
 use vk_world::World;
 
@@ -68,51 +70,21 @@ impl Session {
         self.files.restart(alloc)
     }
 
-    fn forget(&mut self, alloc: Global) -> Result<(), Unread<NoRow>> {
-        self.files.forget(alloc)?;
-        self.restart(alloc)
-    }
-
-    // Keeps the world, or the tree, that opening gave.
-    fn keep(&mut self, opening: Opening) -> Result<Text, Memory> {
-        match opening {
-            Opening::World(told, world) => {
-                self.world = Some(world);
-                told
-            }
-            Opening::Tree(told, tree) => {
-                self.files.tree = tree;
-                told
-            }
+    fn open_project(&mut self, project: &Project, reply: &mut Reply) -> Result<(), Memory> {
+        let tree = self.files.take_tree(reply.alloc())?;
+        match open_on(reply.alloc(), tree, project, reply) {
+            Opening::World(world) => self.world = Some(world),
+            Opening::Refused(tree) => self.files.tree = tree,
         }
+        Ok(())
     }
 
-    fn open_project(&mut self, alloc: Global, project: &Project) -> Result<Text, Memory> {
-        let tree = self.files.take_tree(alloc)?;
-        self.keep(open_on(alloc, tree, project))
-    }
-
-    fn open(&mut self, alloc: Global, row: &str) -> Result<Text, Unread<NoRow>> {
-        let project = project_of(alloc, row)?;
-        Ok(self.open_project(alloc, &project)?)
-    }
-
-    fn ask_world(
-        &mut self,
-        alloc: Global,
-        question: &str,
-        row: &str,
-    ) -> Result<Text, Unread<NoRow>> {
-        match &mut self.world {
-            Some(world) => ask(alloc, world, question, row),
-            None => Err(Unread::Fault(NoRow)),
-        }
-    }
-
-    fn folder(&mut self, alloc: Global, row: &str) -> Result<Text, Unread<NoRow>> {
-        match &self.world {
-            Some(world) => folder(alloc, world, row),
-            None => Err(Unread::Fault(NoRow)),
+    fn open(&mut self, row: &str, reply: &mut Reply) {
+        let Some(project) = project_of(row, reply) else {
+            return;
+        };
+        if let Err(memory) = self.open_project(&project, reply) {
+            reply.lack(memory);
         }
     }
 
@@ -121,134 +93,89 @@ impl Session {
         &mut self,
         alloc: Global,
         words: &List<Word>,
-        out: &mut MemSink,
-        err: &mut MemSink,
+        sinks: &mut Sinks,
     ) -> Result<u8, Unread<NoRow>> {
         if words.len() > MOST_WORDS {
             return Err(Unread::Fault(NoRow));
         }
         let tree = self.files.take_tree(alloc)?;
-        let ran = run(alloc, words, tree, out, err);
+        let ran = run(alloc, words, tree, &mut sinks.out, &mut sinks.err);
         self.files.tree = ran.tree;
         Ok(ran.status)
     }
 
-    fn run(&mut self, alloc: Global, row: &str) -> Result<Text, Unread<NoRow>> {
-        let words = words_of(alloc, row)?;
-        let mut out = MemSink::new(alloc, self.room.out)?;
-        let mut err = MemSink::new(alloc, self.room.err)?;
-        let status = self.run_with(alloc, &words, &mut out, &mut err)?;
-        Ok(ended(alloc, status, out.bytes(), err.bytes())?)
-    }
-
-    fn tree(&mut self, alloc: Global, row: &str) -> Result<Reply, Unread<NoRow>> {
-        let (question, rest) = cut(row);
-        if question == "stops" {
-            self.files.tree.stop_at(number_of(rest)?);
-            return Ok(Reply::Done);
-        }
-        let told = tree_rows::answer(alloc, &mut self.files.tree, question, rest)?;
-        Ok(Reply::Told(told))
-    }
-
-    fn sink(&mut self, alloc: Global, row: &str) -> Result<Reply, Unread<NoRow>> {
-        let (question, rest) = cut(row);
-        match question {
-            "new" => {
-                self.sink = MemSink::new(alloc, number_of(rest)?)?;
-                Ok(Reply::Done)
-            }
-            "fails" | "nothing-from" => {
-                sink_rows::set(alloc, &mut self.sink, question, rest)?;
-                Ok(Reply::Done)
-            }
-            _ => {
-                let told = sink_rows::answer(alloc, &mut self.sink, question, rest)?;
-                Ok(Reply::Told(told))
-            }
+    fn run_words(&mut self, words: &List<Word>, reply: &mut Reply) {
+        let sinks = Sinks::new(reply.alloc(), self.room).map_err(Unread::from);
+        let Some(mut sinks) = reply.needed::<Sinks, NoRow>(sinks) else {
+            return;
+        };
+        let status = self.run_with(reply.alloc(), words, &mut sinks);
+        if let Some(status) = reply.needed(status) {
+            tell_ended(status, &sinks, reply);
         }
     }
 
-    fn set_pages(
-        &mut self,
-        alloc: Global,
-        what: &str,
-        row: &str,
-    ) -> Result<(), Unread<NoRow>> {
+    fn run(&mut self, row: &str, reply: &mut Reply) {
+        let words = words_of(reply.alloc(), row);
+        if let Some(words) = reply.needed(words) {
+            self.run_words(&words, reply);
+        }
+    }
+
+    fn set_room(&mut self, row: &str, reply: &mut Reply) {
+        reply.silence();
+        if let Some(room) = room_of(row, reply) {
+            self.room = room;
+        }
+    }
+
+    // Begins a group or a case, or sets files or room.
+    fn set(&mut self, what: &str, row: &str, reply: &mut Reply) {
+        let alloc = reply.alloc();
         match what {
-            "put" => page_rows::put(alloc, &mut self.pages, row),
-            _ => Ok(self.pages.fail_at(numbers_of(alloc, row)?.as_slice())?),
-        }
-    }
-
-    fn ask_pages(
-        &mut self,
-        alloc: Global,
-        question: &str,
-        row: &str,
-    ) -> Result<Text, Unread<NoRow>> {
-        match question {
-            "fits" | "faults" => page_rows::answer(alloc, &self.pages, question, row),
-            _ => ask(alloc, &mut self.pages, question, row),
-        }
-    }
-
-    fn pages(&mut self, alloc: Global, row: &str) -> Result<Reply, Unread<NoRow>> {
-        let (question, rest) = cut(row);
-        match question {
-            "put" | "fails" => {
-                self.set_pages(alloc, question, rest)?;
-                Ok(Reply::Done)
-            }
-            _ => Ok(Reply::Told(self.ask_pages(alloc, question, rest)?)),
-        }
-    }
-
-    // Begins a group or a case, or does what else is done and not told.
-    fn set(&mut self, alloc: Global, what: &str, row: &str) -> Result<(), Unread<NoRow>> {
-        match what {
-            "forget" => self.forget(alloc),
-            "group" | "case" => self.restart(alloc),
-            "room" => {
-                self.room = room_of(row)?;
-                Ok(())
-            }
-            _ => self.files.set(alloc, what, row),
+            "group" | "case" => done(reply, self.restart(alloc)),
+            "forget" => done(reply, self.files.forget(alloc)),
+            "common" => done(reply, self.files.share(alloc, row)),
+            "file" => done(reply, self.files.put(alloc, row)),
+            "blanks" => done(reply, self.files.put_blanks(alloc, row)),
+            "fails" => done(reply, self.files.fail_at(alloc, row)),
+            "room" => self.set_room(row, reply),
+            _ => reply.refuse(),
         }
     }
 
     // What a row that isn't asked of the world does.
-    fn outside(
-        &mut self,
-        alloc: Global,
-        question: &str,
-        row: &str,
-    ) -> Result<Reply, Unread<NoRow>> {
+    fn outside(&mut self, question: &str, row: &str, reply: &mut Reply) {
         self.close();
         match question {
-            "open" => Ok(Reply::Told(self.open(alloc, row)?)),
-            "run" => Ok(Reply::Told(self.run(alloc, row)?)),
-            "log" => Ok(Reply::Told(path_lines(alloc, self.files.tree.logged())?)),
-            "tree" => self.tree(alloc, row),
-            "sink" => self.sink(alloc, row),
-            "pages" => self.pages(alloc, row),
-            _ => {
-                self.set(alloc, question, row)?;
-                Ok(Reply::Done)
-            }
+            "open" => self.open(row, reply),
+            "run" => self.run(row, reply),
+            "log" => tell_paths(self.files.tree.logged(), reply),
+            "tree" => tree_rows::answer(&mut self.files.tree, row, reply),
+            "sink" => sink_rows::answer(&mut self.sink, row, reply),
+            "pages" => page_rows::answer(&mut self.pages, row, reply),
+            _ => self.set(question, row, reply),
+        }
+    }
+
+    // Asks the world, where there is one.
+    fn inside(&mut self, question: &str, row: &str, reply: &mut Reply) {
+        match &mut self.world {
+            Some(world) if question == "folder" => folder(world, row, reply),
+            Some(world) => ask(world, question, row, reply),
+            None => reply.refuse(),
         }
     }
 }
 
 impl Answering for Session {
-    fn answer(&mut self, alloc: Global, row: &str) -> Result<Reply, Unread<NoRow>> {
+    fn answer(&mut self, row: &str, reply: &mut Reply) {
         let (question, rest) = cut(row);
         match question {
-            "given" | "version" | "manifest" | "at" => {
-                Ok(Reply::Told(self.ask_world(alloc, question, rest)?))
+            "given" | "version" | "manifest" | "at" | "folder" => {
+                self.inside(question, rest, reply);
             }
-            "folder" => Ok(Reply::Told(self.folder(alloc, rest)?)),
-            _ => self.outside(alloc, question, rest),
+            _ => self.outside(question, rest, reply),
         }
     }
 }

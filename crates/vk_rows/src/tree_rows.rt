@@ -1,9 +1,8 @@
 //! What a tree in memory answers.
 
-use crate::lines::{number_line, path_lines};
-use std::alloc::Global;
-use vk_base::{List, Text, Unread, token};
-use vk_row_text::{NoRow, cut, number_of, path_of};
+use crate::lines::tell_paths;
+use vk_base::TreePath;
+use vk_row_text::{Reply, cut};
 use vk_tree::{MemTree, ReadFault, Tree};
 
 fn fault_word(fault: ReadFault) -> &'static str {
@@ -15,52 +14,57 @@ fn fault_word(fault: ReadFault) -> &'static str {
     }
 }
 
-fn read_line(
-    alloc: Global,
-    answer: &Result<List<u8>, ReadFault>,
-) -> Result<Text, Unread<NoRow>> {
-    match answer {
-        Ok(bytes) => Ok(token(alloc, bytes.as_slice())?),
-        Err(fault) => Ok(Text::from_str(alloc, fault_word(*fault))?),
+fn tell_read(tree: &mut MemTree, path: &TreePath, limit: u64, reply: &mut Reply) {
+    match tree.read(path, limit) {
+        Ok(bytes) => reply.push_token(bytes.as_slice()),
+        Err(fault) => reply.push(fault_word(fault)),
     }
 }
 
-fn read(alloc: Global, tree: &mut MemTree, row: &str) -> Result<Text, Unread<NoRow>> {
+fn read(tree: &mut MemTree, row: &str, reply: &mut Reply) {
     let (path, limit) = cut(row);
-    let limit = number_of(limit)?;
-    let path = path_of(alloc, path)?;
-    read_line(alloc, &tree.read(&path, limit))
+    let limit = reply.number(limit);
+    let path = reply.path(path);
+    if let (Some(path), Some(limit)) = (&path, limit) {
+        tell_read(tree, path, limit, reply);
+    }
 }
 
-fn room(alloc: Global, tree: &MemTree, row: &str) -> Result<Text, Unread<NoRow>> {
-    let path = path_of(alloc, row)?;
-    Ok(Text::from_str(alloc, if tree.has_room(&path) { "yes" } else { "no" })?)
-}
-
-fn file(alloc: Global, tree: &MemTree, row: &str) -> Result<Text, Unread<NoRow>> {
-    let path = path_of(alloc, row)?;
+fn file(tree: &MemTree, row: &str, reply: &mut Reply) {
+    let Some(path) = reply.path(row) else {
+        return;
+    };
     match tree.file(&path) {
-        Some(bytes) => Ok(token(alloc, bytes)?),
-        None => Ok(Text::from_str(alloc, "none")?),
+        Some(bytes) => reply.push_token(bytes),
+        None => reply.push("none"),
+    }
+}
+
+fn stop(tree: &mut MemTree, row: &str, reply: &mut Reply) {
+    reply.silence();
+    if let Some(call) = reply.number(row) {
+        tree.stop_at(call);
     }
 }
 
 /// - `read PATH LIMIT`: the bytes that a call reads, or the fault;
 /// - `room PATH`: whether a file may stand there; `file PATH`: the bytes that stand there;
-/// - `log`: the paths that it was asked for; `changes`, `faults`: how many there were.
-pub fn answer(
-    alloc: Global,
-    tree: &mut MemTree,
-    question: &str,
-    row: &str,
-) -> Result<Text, Unread<NoRow>> {
+/// - `log`: the paths that it was asked for; `changes`, `faults`: how many there were;
+/// - `stops N`: it fails from this call on.
+pub fn answer(tree: &mut MemTree, row: &str, reply: &mut Reply) {
+    let (question, rest) = cut(row);
     match question {
-        "read" => read(alloc, tree, row),
-        "room" => room(alloc, tree, row),
-        "file" => file(alloc, tree, row),
-        "log" => Ok(path_lines(alloc, tree.logged())?),
-        "changes" => Ok(number_line(alloc, tree.changed())?),
-        "faults" => Ok(number_line(alloc, tree.faults())?),
-        _ => Err(Unread::Fault(NoRow)),
+        "read" => read(tree, rest, reply),
+        "file" => file(tree, rest, reply),
+        "stops" => stop(tree, rest, reply),
+        "log" => tell_paths(tree.logged(), reply),
+        "changes" => reply.push_number(tree.changed()),
+        "faults" => reply.push_number(tree.faults()),
+        "room" => {
+            if let Some(path) = reply.path(rest) {
+                reply.push_test(tree.has_room(&path));
+            }
+        }
+        _ => reply.refuse(),
     }
 }

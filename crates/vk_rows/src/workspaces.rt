@@ -3,7 +3,7 @@
 use std::alloc::Global;
 use std::mem;
 use vk_base::{List, Memory, TreePath, Unread};
-use vk_row_text::{NoRow, bytes_of, cut, number_of, path_of};
+use vk_row_text::{NoRow, Reply, bytes_of, cut, number_of, path_of};
 use vk_tree::MemTree;
 
 // A path, and the bytes that are to stand there.
@@ -37,23 +37,20 @@ fn put_all(tree: &mut MemTree, files: &[File]) -> Result<(), Unread<NoRow>> {
 
 fn file_of(alloc: Global, row: &str) -> Result<File, Unread<NoRow>> {
     let (path, bytes) = cut(row);
-    Ok(File {
-        path: path_of(alloc, path)?,
-        bytes: bytes_of(alloc, bytes)?,
-    })
+    let bytes = bytes_of(alloc, bytes)?;
+    let path = path_of(alloc, path)?;
+    Ok(File { path, bytes })
 }
 
-fn blanks(alloc: Global, count: &str) -> Result<List<u8>, Unread<NoRow>> {
-    let count = number_of(count)?;
+fn blanks(alloc: Global, count: usize) -> Result<List<u8>, Memory> {
     Ok(List::from_vec(vec![in alloc; b' '; count]?))
 }
 
 fn blanks_of(alloc: Global, row: &str) -> Result<File, Unread<NoRow>> {
     let (path, count) = cut(row);
-    Ok(File {
-        path: path_of(alloc, path)?,
-        bytes: blanks(alloc, count)?,
-    })
+    let bytes = blanks(alloc, number_of(count)?)?;
+    let path = path_of(alloc, path)?;
+    Ok(File { path, bytes })
 }
 
 /// The numbers of words.
@@ -65,12 +62,19 @@ pub fn numbers_of(alloc: Global, row: &str) -> Result<List<u64>, Unread<NoRow>> 
     Ok(numbers)
 }
 
+/// What was done, and that nothing is to be told of it; or why it wasn't.
+pub fn done(reply: &mut Reply, done: Result<(), Unread<NoRow>>) {
+    reply.silence();
+    reply.needed(done);
+}
+
 impl Workspace {
     /// A tree without files, and no common ones.
     pub fn new(alloc: Global) -> Result<Workspace, Memory> {
+        let tree = MemTree::new(alloc)?;
         Ok(Workspace {
             common: Vec::new(alloc),
-            tree: MemTree::new(alloc)?,
+            tree,
         })
     }
 
@@ -92,19 +96,27 @@ impl Workspace {
         Ok(mem::replace(&mut self.tree, empty))
     }
 
-    /// Does what a row says of the files:
-    /// - `common PATH FILE`: each tree from here on has this file;
-    /// - `file PATH FILE` and `blanks PATH N`: this file, or one of so many blanks;
-    /// - `fails N ..`: the tree fails at these calls, counted from 1.
-    ///
-    /// `NoRow` where it is none of these, or a file stands in the way.
-    pub fn set(&mut self, alloc: Global, what: &str, row: &str) -> Result<(), Unread<NoRow>> {
-        match what {
-            "common" => Ok(self.common.push(file_of(alloc, row)?)?),
-            "file" => put(&mut self.tree, &file_of(alloc, row)?),
-            "blanks" => put(&mut self.tree, &blanks_of(alloc, row)?),
-            "fails" => Ok(self.tree.fail_at(numbers_of(alloc, row)?.as_slice())?),
-            _ => Err(Unread::Fault(NoRow)),
-        }
+    /// `common PATH FILE`: each tree from here on has this file.
+    pub fn share(&mut self, alloc: Global, row: &str) -> Result<(), Unread<NoRow>> {
+        let file = file_of(alloc, row)?;
+        Ok(self.common.push(file)?)
+    }
+
+    /// `file PATH FILE`: puts a file. `NoRow` where one stands in the way.
+    pub fn put(&mut self, alloc: Global, row: &str) -> Result<(), Unread<NoRow>> {
+        let file = file_of(alloc, row)?;
+        put(&mut self.tree, &file)
+    }
+
+    /// `blanks PATH N`: puts a file of so many blanks.
+    pub fn put_blanks(&mut self, alloc: Global, row: &str) -> Result<(), Unread<NoRow>> {
+        let file = blanks_of(alloc, row)?;
+        put(&mut self.tree, &file)
+    }
+
+    /// `fails N ..`: the tree fails at these calls, counted from 1.
+    pub fn fail_at(&mut self, alloc: Global, row: &str) -> Result<(), Unread<NoRow>> {
+        let calls = numbers_of(alloc, row)?;
+        Ok(self.tree.fail_at(calls.as_slice())?)
     }
 }
