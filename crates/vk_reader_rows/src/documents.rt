@@ -1,0 +1,119 @@
+//! JSON documents, what stands in them, and the words of faults.
+
+use crate::shows::{tell_reads, tell_value};
+use serde_json::Value;
+use vk_base::Unread;
+use vk_json::{Doc, Why, as_bool, as_number, as_text, items, keys, member};
+use vk_row_text::{Reply, cut};
+
+fn reads(rest: &str, reply: &mut Reply) {
+    if let Some(bytes) = reply.bytes(rest) {
+        tell_reads(Doc::read(reply.alloc(), bytes.as_slice()).map_err(Unread::Fault), reply);
+    }
+}
+
+/// The document of a row that has to have it.
+pub fn document_of(rest: &str, reply: &mut Reply) -> Option<Doc> {
+    let bytes = reply.bytes(rest)?;
+    let read = Doc::read(reply.alloc(), bytes.as_slice()).map_err(Unread::Fault);
+    reply.needed(read)
+}
+
+fn push_number(value: &Value, reply: &mut Reply) {
+    match as_number(value) {
+        Some(number) => {
+            reply.push("number ");
+            reply.push_number(u64::from(number));
+        }
+        None => reply.push("another"),
+    }
+}
+
+fn push_plain(value: &Value, reply: &mut Reply) {
+    match (as_text(value), as_bool(value)) {
+        (Some(text), _) => {
+            reply.push("text ");
+            reply.push_token(text.as_bytes());
+        }
+        (None, Some(test)) => reply.push(if test { "true" } else { "false" }),
+        (None, None) => push_number(value, reply),
+    }
+}
+
+fn push_value(value: &Value, reply: &mut Reply) {
+    match items(value) {
+        Some(items) => {
+            reply.push("list of ");
+            reply.push_number(items.len() as u64);
+        }
+        None => push_plain(value, reply),
+    }
+}
+
+fn push_found(value: Option<&Value>, reply: &mut Reply) {
+    match value {
+        Some(value) => push_value(value, reply),
+        None => reply.push("none"),
+    }
+}
+
+fn tell_member(key: &str, rest: &str, reply: &mut Reply) {
+    if let Some(document) = document_of(rest, reply) {
+        push_found(member(document.value(), key), reply);
+    }
+}
+
+fn item<'a>(value: &'a Value, key: &str, place: usize) -> Option<&'a Value> {
+    items(member(value, key)?)?.get(place)
+}
+
+fn tell_item(key: &str, rest: &str, reply: &mut Reply) {
+    let (place, rest) = cut(rest);
+    let Some(place) = reply.number(place) else {
+        return;
+    };
+    if let Some(document) = document_of(rest, reply) {
+        push_found(item(document.value(), key, place), reply);
+    }
+}
+
+fn tell_keys(value: &Value, reply: &mut Reply) {
+    match keys(reply.alloc(), value) {
+        Ok(Some(names)) => tell_value(&names, reply),
+        Ok(None) => reply.push("none"),
+        Err(memory) => reply.lack(memory),
+    }
+}
+
+fn tell_word(rest: &str, reply: &mut Reply) {
+    let Some(text) = reply.texts(rest) else {
+        return;
+    };
+    match Why::read(text.as_str()) {
+        Some(why) => {
+            let word = why.word(reply.alloc());
+            reply.push_made(word);
+        }
+        None => reply.push("none"),
+    }
+}
+
+/// - `read FILE`: whether it reads, or the fault;
+/// - `keys FILE`: the keys of the object, in byte order; `member KEY FILE`: what stands there;
+/// - `item KEY N FILE`: the item with this number of the list that stands there;
+/// - `word TEXT`: the word of the fault that is read from the text, or `none`.
+pub fn answer(question: &str, rest: &str, reply: &mut Reply) {
+    let (key, others) = cut(rest);
+    match question {
+        "read" => reads(rest, reply),
+        "keys" => {
+            if let Some(document) = document_of(rest, reply) {
+                tell_keys(document.value(), reply);
+            }
+        }
+        "member" => tell_member(key, others, reply),
+        "item" => tell_item(key, others, reply),
+        "word" => tell_word(rest, reply),
+        _ => reply.refuse(),
+    }
+}

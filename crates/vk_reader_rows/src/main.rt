@@ -1,0 +1,29 @@
+//! Answers rows about what is read of one text: names, paths, tokens, versions, platform
+//! expressions, triplet files, JSON documents and what is read of those.
+#![tactic(auto)]
+
+mod configurations;
+mod documents;
+mod expressions;
+mod fields;
+mod manifests;
+mod names;
+mod paths;
+mod registries;
+mod rows;
+mod shows;
+mod tokens;
+mod triplets;
+mod versions;
+mod wrongs;
+
+use rows::Rows;
+use std::process::ExitCode;
+use vk_row_text::answer_rows;
+
+fn main(rt: HostRuntime) -> ExitCode {
+    match answer_rows(&rt, &mut Rows) {
+        Ok(0) => ExitCode::SUCCESS,
+        _ => ExitCode::FAILURE,
+    }
+}

@@ -1,0 +1,116 @@
+//! The files of registries: baselines, and the versions of a port, which are a table.
+
+use crate::names::port_of;
+use crate::shows::{Show, refused, tell, tell_place};
+use vk_base::{List, PortName, Unread};
+use vk_json::FileFault;
+use vk_registry::{Baseline, Table, baseline_of, find, read_baseline, read_table};
+use vk_row_text::{Reply, cut};
+use vk_version::Ask;
+
+impl Show for Baseline {
+    fn show(&self, reply: &mut Reply) {
+        reply.push("baseline");
+        for entry in self.entries() {
+            reply.push(" ");
+            entry.port.show(reply);
+            reply.push("=");
+            reply.push_ask(&entry.ask);
+        }
+    }
+}
+
+impl Show for Table {
+    fn show(&self, reply: &mut Reply) {
+        reply.push("table");
+        for row in self.rows() {
+            reply.push(" ");
+            reply.push_ask(row.version.ask());
+            reply.push("=");
+            reply.push_path(&row.path);
+        }
+    }
+}
+
+fn baseline_in(
+    name: &str,
+    rest: &str,
+    reply: &mut Reply,
+) -> Option<Result<Baseline, Unread<FileFault>>> {
+    let name = reply.text(name)?;
+    let bytes = reply.bytes(rest)?;
+    let alloc = reply.alloc();
+    Some(read_baseline(alloc, bytes.as_slice(), name.as_str()).map_err(Unread::Fault))
+}
+
+fn tell_entry(baseline: &Baseline, port: &PortName, reply: &mut Reply) {
+    match baseline_of(baseline, port) {
+        Some(ask) => reply.push_ask(ask),
+        None => reply.push("none"),
+    }
+}
+
+fn entry(name: &str, port: &PortName, rest: &str, reply: &mut Reply) {
+    match baseline_in(name, rest, reply) {
+        Some(Ok(baseline)) => tell_entry(&baseline, port, reply),
+        Some(Err(stop)) => refused(stop, reply),
+        None => {}
+    }
+}
+
+fn ask_of(text: &str, number: &str, reply: &mut Reply) -> Option<Ask> {
+    let port = reply.number(number)?;
+    let text = reply.text(text)?;
+    Some(Ask { text, port })
+}
+
+fn found(ask: &Ask, bytes: &List<u8>, reply: &mut Reply) {
+    match read_table(reply.alloc(), bytes.as_slice()).map_err(Unread::Fault) {
+        Ok(table) => tell_place(find(&table, ask), reply),
+        Err(stop) => refused(stop, reply),
+    }
+}
+
+fn find_in(rest: &str, reply: &mut Reply) {
+    let (text, rest) = cut(rest);
+    let (number, rest) = cut(rest);
+    let ask = ask_of(text, number, reply);
+    let bytes = reply.bytes(rest);
+    if let (Some(ask), Some(bytes)) = (&ask, &bytes) {
+        found(ask, bytes, reply);
+    }
+}
+
+/// - `read NAME FILE`: the baseline of this name, or the fault;
+/// - `entry NAME PORT FILE`: what it says of a port.
+pub fn baseline(question: &str, rest: &str, reply: &mut Reply) {
+    let (name, rest) = cut(rest);
+    match question {
+        "read" => {
+            if let Some(read) = baseline_in(name, rest, reply) {
+                tell(read, reply);
+            }
+        }
+        "entry" => {
+            let (port, rest) = cut(rest);
+            if let Some(port) = port_of(port, reply) {
+                entry(name, &port, rest, reply);
+            }
+        }
+        _ => reply.refuse(),
+    }
+}
+
+/// - `read FILE`: the versions of a port, each with its folder, or the fault;
+/// - `find TEXT N FILE`: the place of the version with this text and port-version, or `none`.
+pub fn table(question: &str, rest: &str, reply: &mut Reply) {
+    match question {
+        "read" => {
+            if let Some(bytes) = reply.bytes(rest) {
+                tell(read_table(reply.alloc(), bytes.as_slice()).map_err(Unread::Fault), reply);
+            }
+        }
+        "find" => find_in(rest, reply),
+        _ => reply.refuse(),
+    }
+}

@@ -1,0 +1,72 @@
+//! Opening a project, and the folders that its world knows.
+
+use crate::lines::tell_early;
+use crate::projects::{port_of, version_of};
+use std::alloc::Global;
+use vk_base::{Memory, PortName};
+use vk_model::{Project, Setting};
+use vk_opening::{OpenStop, Opened, Start};
+use vk_row_text::{Reply, cut};
+use vk_tree::MemTree;
+use vk_version::Version;
+use vk_world::World;
+
+/// What opening a project on a tree gave, besides the tree where there is no world.
+#[derive(Drop)]
+pub enum Opening {
+    World(World<MemTree>),
+    Refused(MemTree),
+}
+
+// Tells that a project is opened: both triplets, and how many overlays there are.
+fn tell_ready(setting: &Setting, start: &Start, reply: &mut Reply) {
+    reply.push("ready ");
+    reply.push(setting.target.name.as_str());
+    reply.push(" ");
+    reply.push(setting.host.name.as_str());
+    reply.push(" ");
+    reply.push_number(start.overlays.len() as u64);
+}
+
+fn stopped(stop: OpenStop, reply: &mut Reply) {
+    match stop {
+        OpenStop::TreeFailed => reply.push("failed"),
+        OpenStop::Memory => reply.lack(Memory::without_allocation()),
+    }
+}
+
+/// Opens a project on a tree.
+#[tactic(auto, using(vk_opening::proofs::OpenLemmas::start_right))]
+pub fn open_on(alloc: Global, mut tree: MemTree, project: &Project, reply: &mut Reply) -> Opening {
+    match World::open(alloc, &mut tree, project, None) {
+        Ok(Opened::Ready { setting, start }) => {
+            tell_ready(&setting, &start, reply);
+            Opening::World(World::on(alloc, start, tree))
+        }
+        Ok(Opened::Refused(early)) => {
+            tell_early(&early, reply);
+            Opening::Refused(tree)
+        }
+        Err(stop) => {
+            stopped(stop, reply);
+            Opening::Refused(tree)
+        }
+    }
+}
+
+fn tell_folder(world: &World<MemTree>, port: &PortName, version: &Version, reply: &mut Reply) {
+    match world.folder(port, version) {
+        Some(path) => reply.push_path(path),
+        None => reply.push("none"),
+    }
+}
+
+/// `folder PORT VERSION`: where a version stands that the world answered.
+pub fn folder(world: &World<MemTree>, row: &str, reply: &mut Reply) {
+    let (port, version) = cut(row);
+    let port = port_of(port, reply);
+    let version = version_of(version, reply);
+    if let (Some(port), Some(version)) = (&port, &version) {
+        tell_folder(world, port, version, reply);
+    }
+}

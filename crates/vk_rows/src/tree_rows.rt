@@ -1,0 +1,70 @@
+//! What a tree in memory answers.
+
+use crate::lines::tell_paths;
+use vk_base::TreePath;
+use vk_row_text::{Reply, cut};
+use vk_tree::{MemTree, ReadFault, Tree};
+
+fn fault_word(fault: ReadFault) -> &'static str {
+    match fault {
+        ReadFault::Missing => "missing",
+        ReadFault::TooLarge => "too large",
+        ReadFault::Failed => "failed",
+        ReadFault::Memory => "no memory",
+    }
+}
+
+fn tell_read(tree: &mut MemTree, path: &TreePath, limit: u64, reply: &mut Reply) {
+    match tree.read(path, limit) {
+        Ok(bytes) => reply.push_token(bytes.as_slice()),
+        Err(fault) => reply.push(fault_word(fault)),
+    }
+}
+
+fn read(tree: &mut MemTree, row: &str, reply: &mut Reply) {
+    let (path, limit) = cut(row);
+    let limit = reply.number(limit);
+    let path = reply.path(path);
+    if let (Some(path), Some(limit)) = (&path, limit) {
+        tell_read(tree, path, limit, reply);
+    }
+}
+
+fn file(tree: &MemTree, row: &str, reply: &mut Reply) {
+    let Some(path) = reply.path(row) else {
+        return;
+    };
+    match tree.file(&path) {
+        Some(bytes) => reply.push_token(bytes),
+        None => reply.push("none"),
+    }
+}
+
+fn stop(tree: &mut MemTree, row: &str, reply: &mut Reply) {
+    reply.silence();
+    if let Some(call) = reply.number(row) {
+        tree.stop_at(call);
+    }
+}
+
+/// - `read PATH LIMIT`: the bytes that a call reads, or the fault;
+/// - `room PATH`: whether a file may stand there; `file PATH`: the bytes that stand there;
+/// - `log`: the paths that it was asked for; `changes`, `faults`: how many there were;
+/// - `stops N`: it fails from this call on.
+pub fn answer(tree: &mut MemTree, row: &str, reply: &mut Reply) {
+    let (question, rest) = cut(row);
+    match question {
+        "read" => read(tree, rest, reply),
+        "file" => file(tree, rest, reply),
+        "stops" => stop(tree, rest, reply),
+        "log" => tell_paths(tree.logged(), reply),
+        "changes" => reply.push_number(tree.changed()),
+        "faults" => reply.push_number(tree.faults()),
+        "room" => {
+            if let Some(path) = reply.path(rest) {
+                reply.push_test(tree.has_room(&path));
+            }
+        }
+        _ => reply.refuse(),
+    }
+}
