@@ -1,5 +1,6 @@
 -- What is left of a path's text.
-use Rattle.std.specs.Prelude.{◌++◌, Bool, true, false, ℕ, zero, suc, List, [], ◌∷◌, Option, Some, None}
+use Rattle.std.specs.Prelude.{◌++◌, Bool, true, false, ℕ, zero, suc, List, [], ◌∷◌, Option, Some}
+use Rattle.std.specs.Prelude.{None}
 use Rattle.std.specs.List.{flat_map, join_with_byte}
 use Rattle.std.specs.declared.cmp.Ordering.{Ordering}
 use Rattle.std.specs.declared.cmp.Ordering.TheVariants as ordering

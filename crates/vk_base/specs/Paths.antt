@@ -1,5 +1,7 @@
 -- What a path is, as plain data, and what can be done with one.
-use Rattle.std.specs.Prelude.{◌≡◌, ◌≢◌, ◌<◌, ◌+◌, ◌-◌, ◌/◌, ◌^◌, ◌==◌, ◌&&◌, ◌++◌, ℕ, zero, suc, Bool, true, not, List, [], ◌∷◌, length, take, slice_index, if◌then◌else◌}
+use Rattle.std.specs.Prelude.{◌≡◌, ◌≢◌, ◌<◌, ◌+◌, ◌-◌, ◌/◌, ◌^◌, ◌==◌, ◌&&◌, ◌++◌, ℕ, zero, suc}
+use Rattle.std.specs.Prelude.{Bool, true, not, List, [], ◌∷◌, length, take, slice_index}
+use Rattle.std.specs.Prelude.{if◌then◌else◌}
 use Rattle.std.specs.Prelude.{Option, Some, None}
 use Rattle.std.specs.List.{All, join_with_byte}
 use Rattle.std.specs.Str.{bytes_eq}

@@ -27,7 +27,8 @@ struct Left<'a> {
 impl<'a> Left<'a> {
     // What comes after the next slash.
     fn segment(&mut self) -> Option<&'a [u8]>
-        ensures { MatchOption result (segments_in self.old ≡ []) (λ s. segments_in self.old ≡ s.now ∷ segments_in self.new) }
+        ensures { MatchOption result (segments_in self.old ≡ [])
+            (λ s. segments_in self.old ≡ s.now ∷ segments_in self.new) }
     {
         if self.steps > 0 {
             self.steps -= 1;
@@ -40,7 +41,8 @@ impl<'a> Left<'a> {
 
     // The next slash, after which a segment stands.
     fn slash(&mut self) -> Option<u8>
-        ensures { MatchOption result (later (segments_in self.old) ≡ []) (λ b. later (segments_in self.old) ≡ b ∷ left_text self.new) }
+        ensures { MatchOption result (later (segments_in self.old) ≡ [])
+            (λ b. later (segments_in self.old) ≡ b ∷ left_text self.new) }
     {
         self.bytes = self.segment()?;
         Some(b'/')
@@ -48,7 +50,8 @@ impl<'a> Left<'a> {
 
     // The next byte.
     fn next(&mut self) -> Option<u8>
-        ensures { MatchOption result (left_text self.old ≡ []) (λ b. left_text self.old ≡ b ∷ left_text self.new) }
+        ensures { MatchOption result (left_text self.old ≡ [])
+            (λ b. left_text self.old ≡ b ∷ left_text self.new) }
     {
         match self.bytes.split_first() {
             None => self.slash(),

@@ -1,4 +1,5 @@
-ghost use Rattle.std.specs.Prelude.{◌≡◌, ◌≢◌, ◌↔◌, ◌==◌, ◌<◌, ◌≤◌, ◌+◌, ◌-◌, ◌^◌, ◌++◌, ◌∷◌, ◌⊎◌, []};
+ghost use Rattle.std.specs.Prelude.{◌≡◌, ◌≢◌, ◌↔◌, ◌==◌, ◌<◌, ◌≤◌, ◌+◌, ◌-◌, ◌^◌, ◌++◌, ◌∷◌, ◌⊎◌};
+ghost use Rattle.std.specs.Prelude.{[]};
 ghost use Rattle.std.specs.Prelude.{List, ℕ, Ok, length, slice_index, take, true};
 ghost use Rattle.std.specs.Prelude.{IfOk, OnOk, OnErr, IsTrue};
 ghost use Rattle.std.proofs.Common.{rules, refl};
@@ -11,10 +12,12 @@ ghost use Rattle.std.specs.List.{position, join_with_byte};
 ghost use Rattle.std.specs.Ordering.{nat_cmp, as_partial_cmp};
 ghost use Rattle.vk_spec.specs.Paths.{Path, anchor, path_cmp, Begins};
 ghost use Rattle.vk_spec.specs.Reading.{Gives};
-ghost use Rattle.vk_base.specs.Paths.{Lacks, IsPart, IsPath, IsFrom, is_part, is_rooted, ups_of, parts_of};
+ghost use Rattle.vk_base.specs.Paths.{Lacks, IsPart, IsPath, IsFrom, is_part, is_rooted, ups_of};
+ghost use Rattle.vk_base.specs.Paths.{parts_of};
 ghost use Rattle.vk_base.specs.Paths.{climbed, joined, front_of, text_of_path, steps_of};
 ghost use Rattle.vk_base.specs.PathHash.{path_fed};
-ghost use Rattle.vk_base.specs.PathReading.{checked, segments, stays, climbs, with_segment, walked, start_of, path_of};
+ghost use Rattle.vk_base.specs.PathReading.{checked, segments, stays, climbs, with_segment, walked};
+ghost use Rattle.vk_base.specs.PathReading.{start_of, path_of};
 ghost use Rattle.vk_base.specs.Stops.{fault_in};
 
 use crate::lists::List;
@@ -37,9 +40,9 @@ pub enum PathFault {
     Zero { at: u32 },
 }
 
-/// A path of a tree of files, rooted or with so many steps up, and then its parts.
-/// Contracts see it as its key: one anchor part (`/`, `.`, `..`, `../..` and so on), then its parts.
-/// Its order is that of the keys.
+/// A path of a tree of files, rooted or with so many steps up, and then its parts. Contracts see it
+/// as its key: one anchor part (`/`, `.`, `..`, `../..` and so on), then its parts. Its order is
+/// that of the keys.
 #[derive(Drop)]
 pub struct TreePath {
     rooted: bool,
@@ -470,7 +473,9 @@ impl Ord for TreePath {
 impl PartialOrd for TreePath {
     ghost partial_cmp = { as_partial_cmp path_cmp };
 
-    ghost laws = { partial_order_from_own_ties (Prim.search (comparing, rules)) (lists_ties (slice_cmp nat_cmp) (Prim.search (comparing, rules))) };
+    ghost laws = { partial_order_from_own_ties
+        (Prim.search (comparing, rules))
+        (lists_ties (slice_cmp nat_cmp) (Prim.search (comparing, rules))) };
 
     fn partial_cmp(&self, other: &TreePath) -> Option<Ordering> {
         Some(self.cmp(other))
@@ -480,7 +485,8 @@ impl PartialOrd for TreePath {
 impl Hash for TreePath {
     ghost hash_input = { path_fed };
 
-    ghost respects_eq = { (fed.same_Alike path_fed (λ x y. slice_eq-Decides bytes_eq-Decides x y (pointwise (pointwise ◌==◌) x y) refl)).fed };
+    ghost respects_eq = { (fed.same_Alike path_fed
+        (λ x y. slice_eq-Decides bytes_eq-Decides x y (pointwise (pointwise ◌==◌) x y) refl)).fed };
 
     fn hash<H: Hasher>(&self, state: &mut H) {
         self.is_rooted().hash(state);
@@ -494,7 +500,11 @@ impl Hash for TreePath {
 /// one without steps up only adds its parts.
 pub fn path_rule()
     ensures path { (text : List ℕ) (key : Path) → path_of text ≡ Ok key → IsPath key }
-    ensures again { (key : Path) → IsPath key → length (text_of_path key) ≤ 4096 → path_of (text_of_path key) ≡ Ok key }
-    ensures between { (one other : List ℕ) (key more : Path) → path_of one ≡ Ok key → path_of other ≡ Ok more → slice_index other 0 ≢ 47 → length one + length other < 4096 → path_of (one ++ 47 ∷ other) ≡ Ok (joined key more) }
-    ensures below { (key parts : Path) → IsPath key → joined key ((46 ∷ []) ∷ parts) ≡ key ++ parts }
+    ensures again { (key : Path) → IsPath key → length (text_of_path key) ≤ 4096
+        → path_of (text_of_path key) ≡ Ok key }
+    ensures between { (one other : List ℕ) (key more : Path) → path_of one ≡ Ok key
+        → path_of other ≡ Ok more → slice_index other 0 ≢ 47 → length one + length other < 4096
+        → path_of (one ++ 47 ∷ other) ≡ Ok (joined key more) }
+    ensures below { (key parts : Path) → IsPath key
+        → joined key ((46 ∷ []) ∷ parts) ≡ key ++ parts }
 {}

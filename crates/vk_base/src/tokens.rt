@@ -60,6 +60,7 @@ pub fn read_token(alloc: Global, text: &str) -> Result<Option<List<u8>>, Memory>
 /// Different bytes have different tokens, and a token holds neither blanks, nor line feeds, nor
 /// other control characters, nor bytes beyond ASCII.
 pub fn token_rule()
-    ensures differ { (one other : List ℕ) → All IsByte one → All IsByte other → token_of one ≡ token_of other → one ≡ other }
+    ensures differ { (one other : List ℕ) → All IsByte one → All IsByte other
+        → token_of one ≡ token_of other → one ≡ other }
     ensures plain { (bytes : List ℕ) → All IsByte bytes → All IsPlain (token_of bytes) }
 {}

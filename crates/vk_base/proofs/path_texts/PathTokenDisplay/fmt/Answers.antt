@@ -7,8 +7,7 @@ use Rattle.vk_base.proofs.path_texts.PathTokenDisplay.fmt.Goals as goal
 
 pub loop-segment-init : goal.loop-segment-init
 loop-segment-init g c = λ plain.
-    let left = c.all_left-left.result in
-    (
+    let left = c.all_left-left.result in (
       token_of left.bytes.now,
       search rules,
       sym (token-append left.bytes.now (later (segments_in left))) ∙ ap token_of c.all_left-left.ensures,
@@ -19,8 +18,7 @@ loop-segment-preserved g c = λ plain.
     let so_far = c.loop-segment.invariant plain in
     let s = c.in-Some.segment.now in
     let more = segments_in c.segment.new.self in
-    let all_is : segments_in c.loop-segment.left ≡ s ∷ more = rw c.in-Some.is at c.segment.ensures in
-    (
+    let all_is : segments_in c.loop-segment.left ≡ s ∷ more = rw c.in-Some.is at c.segment.ensures in (
       (so_far.0 ++ 47 ∷ []) ++ token_of s,
       has_written_append _ _ (so_far.0 ++ 47 ∷ []) c.write_str.new.self _ _
           (has_written_append _ _ so_far.0 c.loop-segment.f (47 ∷ []) c.write_str.new.self so_far.1 (search rules))
