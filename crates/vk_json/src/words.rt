@@ -143,5 +143,6 @@ fn named(name: &str, number: Option<u32>) -> Option<Why>
 
 /// No two faults have one word, so a word is read as the fault that it was printed for.
 pub fn word_rule()
-    ensures { (one other : Why) → HasSmallNumber one → HasSmallNumber other → word_of one ≡ word_of other → one ≡ other }
+    ensures { (one other : Why) → HasSmallNumber one → HasSmallNumber other →
+        word_of one ≡ word_of other → one ≡ other }
 {}
