@@ -4,27 +4,29 @@ use Rattle.std.specs.Prelude.{Option, Some, None, Result, Ok, Err, bytes_eq}
 use Rattle.std.proofs.lemmas.Bool.Decides.{Decides-or, not_from_Decides}
 use Rattle.std.proofs.lemmas.Slice.Eq.{bytes_eq-Decides}
 use Rattle.vk_spec.specs.Manifests.{core, default}
-use Rattle.vk_base.specs.Names.{NameWrong, bad, reserved, named, is_reserved, reads_name, reads_feature, word_rule, name_fault, BreaksFirst, IsFeatureName}
+use Rattle.vk_base.specs.declared.names.NameFault.{NameFault}
+use Rattle.vk_base.specs.declared.names.NameFault.TheVariants as fault
+use Rattle.vk_base.specs.Names.{named, is_reserved, reads_name, reads_feature, word_rule, name_fault, BreaksFirst, IsFeatureName}
 use Rattle.vk_base.proofs.NameLemmas.{rule_from_no_fault, no_fault_from_rule, breaks_first}
 
 named-Ok : (text name : List ℕ) (found : Option ℕ) → named text found ≡ Ok name → (found ≡ None) × (name ≡ text)
 named-Ok text name None e = (refl, (cc))
 named-Ok text name (Some at) e = (cc)
 
-named-bad : (text : List ℕ) (at : ℕ) (found : Option ℕ) → named text found ≡ Err (bad at) → found ≡ Some at
+named-bad : (text : List ℕ) (at : ℕ) (found : Option ℕ) → named text found ≡ Err (fault.Bad at) → found ≡ Some at
 named-bad text at None e = (cc)
 named-bad text at (Some other) e = (cc)
 
 -- what the answer says of the test that came first
-read_on : (test : Bool) (rest : Result (List ℕ) NameWrong) (name : List ℕ) → cond test (Err reserved) rest ≡ Ok name → (test ≡ false) × (rest ≡ Ok name)
+read_on : (test : Bool) (rest : Result (List ℕ) NameFault) (name : List ℕ) → cond test (Err fault.Reserved) rest ≡ Ok name → (test ≡ false) × (rest ≡ Ok name)
 read_on true rest name e = (cc)
 read_on false rest name e = (refl, e)
 
-bad_on : (test : Bool) (rest : Result (List ℕ) NameWrong) (at : ℕ) → cond test (Err reserved) rest ≡ Err (bad at) → rest ≡ Err (bad at)
+bad_on : (test : Bool) (rest : Result (List ℕ) NameFault) (at : ℕ) → cond test (Err fault.Reserved) rest ≡ Err (fault.Bad at) → rest ≡ Err (fault.Bad at)
 bad_on true rest at e = (cc)
 bad_on false rest at e = e
 
-stopped : (test : Bool) (text : List ℕ) (found : Option ℕ) → cond test (Err reserved) (named text found) ≡ Err reserved → test ≡ true
+stopped : (test : Bool) (text : List ℕ) (found : Option ℕ) → cond test (Err fault.Reserved) (named text found) ≡ Err fault.Reserved → test ≡ true
 stopped true text found e = refl
 stopped false text None e = (cc)
 stopped false text (Some at) e = (cc)
@@ -54,13 +56,13 @@ feature-same text name e = (named-Ok text name (name_fault word_rule text) (read
 pub feature-only : (text : List ℕ) → IsFeatureName text → reads_feature text ≡ Ok text
 feature-only text name =
     let free = fails (is_reserved text) (reserved_words text) (λ word. elim word [ inl same ↦ name.not_core same | inr same ↦ name.not_default same ]) in
-    ap (λ b. cond b (Err reserved) (reads_name word_rule text)) free ∙ ap (named text) (no_fault_from_rule word_rule text name.word)
+    ap (λ b. cond b (Err fault.Reserved) (reads_name word_rule text)) free ∙ ap (named text) (no_fault_from_rule word_rule text name.word)
 
-pub reserved-only : (text : List ℕ) → reads_feature text ≡ Err reserved → (text ≡ core) ⊎ (text ≡ default)
+pub reserved-only : (text : List ℕ) → reads_feature text ≡ Err fault.Reserved → (text ≡ core) ⊎ (text ≡ default)
 reserved-only text e = (reserved_words text).0 (stopped (is_reserved text) text (name_fault word_rule text) e)
 
-pub reserved-from : (text : List ℕ) → (text ≡ core) ⊎ (text ≡ default) → reads_feature text ≡ Err reserved
-reserved-from text word = ap (λ b. cond b (Err reserved) (reads_name word_rule text)) ((reserved_words text).1 word)
+pub reserved-from : (text : List ℕ) → (text ≡ core) ⊎ (text ≡ default) → reads_feature text ≡ Err fault.Reserved
+reserved-from text word = ap (λ b. cond b (Err fault.Reserved) (reads_name word_rule text)) ((reserved_words text).1 word)
 
-pub bad-first : (text : List ℕ) (at : ℕ) → reads_feature text ≡ Err (bad at) → BreaksFirst word_rule text at
+pub bad-first : (text : List ℕ) (at : ℕ) → reads_feature text ≡ Err (fault.Bad at) → BreaksFirst word_rule text at
 bad-first text at e = breaks_first word_rule text at (named-bad text at (name_fault word_rule text) (bad_on (is_reserved text) (reads_name word_rule text) at e))

@@ -3,3 +3,4 @@ pub mod FeatureLemmas
 pub mod PathLemmas
 pub mod PathLaws
 pub mod TokenLemmas
+pub mod DecimalLemmas

@@ -10,7 +10,8 @@ use Rattle.std.proofs.lemmas.Slice.Eq.{bytes_eq-Decides}
 use Rattle.vk_spec.specs.Paths.{Path, steps_up, anchor}
 use Rattle.vk_spec.specs.Reading.{◌>>=◌}
 use Rattle.vk_base.specs.Paths.{Lacks, IsPart, IsPathOf, IsPath, ups_of, climbed, joined, steps_of, front_of, text_of_path}
-use Rattle.vk_base.specs.PathReading.{PathWrong, checked, zero_fault, segments, stays, climbs, with_segment, walked, start_of, path_of}
+use Rattle.vk_base.specs.declared.paths.PathFault.{PathFault}
+use Rattle.vk_base.specs.PathReading.{checked, zero_fault, segments, stays, climbs, with_segment, walked, start_of, path_of}
 use Rattle.vk_base.proofs.NameLemmas.{neither, position-None, position-All}
 use Rattle.vk_base.proofs.PathLemmas.{ups_of-key, climbed-key, ups_most, climb_ups, segment_first, segment_last, steps_end, front-unrooted, lacks_byte, joined_down, joined-here, is_rooted-key}
 
@@ -113,7 +114,7 @@ start_path rooted = record {
 }
 
 -- what the check of a text says
-not_wrong : (test : Bool) (wrong : PathWrong) (rest : Result (Unit {0}) PathWrong) → cond test (Err wrong) rest ≡ Ok tt → (test ≡ false) × (rest ≡ Ok tt)
+not_wrong : (test : Bool) (wrong : PathFault) (rest : Result (Unit {0}) PathFault) → cond test (Err wrong) rest ≡ Ok tt → (test ≡ false) × (rest ≡ Ok tt)
 not_wrong true wrong rest e = (cc)
 not_wrong false wrong rest e = (refl, e)
 
@@ -130,7 +131,7 @@ checked_says text e =
     let few = short.0 in
     (grind (arith, nat_tests), grind (arith, nat_tests), λ k d within same. let other = position-None (λ b. b == 0) text none k d within in grind (arith, nat_tests))
 
-bound : (read : Result (Unit {0}) PathWrong) (made key : Path) → (read >>= λ u. Ok made) ≡ Ok key → (read ≡ Ok tt) × (made ≡ key)
+bound : (read : Result (Unit {0}) PathFault) (made key : Path) → (read >>= λ u. Ok made) ≡ Ok key → (read ≡ Ok tt) × (made ≡ key)
 bound (Ok u) made key e = (refl, (cc))
 bound (Err wrong) made key e = (cc)
 

@@ -1,11 +1,10 @@
 pub mod Stops
 pub mod Names
-pub mod NameFaults
 pub mod FeatureViews
 pub mod Paths
 pub mod PathReading
-pub mod PathFaults
 pub mod PathHash
 pub mod Tokens
+pub mod Decimals
 pub mod Printed
 pub mod Schedules

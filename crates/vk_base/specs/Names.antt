@@ -2,6 +2,9 @@
 use Rattle.std.specs.Prelude.{◌≡◌, ◌≢◌, ◌-◌, ◌≤◌, ◌<◌, ◌||◌, ◌&&◌, ◌==◌, ℕ, Bool, true, false, not, nat_lt, nat_le, List, length, take, slice_index, Option, Some, None, Result, Ok, Err, bytes_eq, if◌then◌else◌}
 use Rattle.std.specs.List.{position, All}
 use Rattle.vk_spec.specs.Manifests.{core, default}
+use Rattle.vk_base.specs.declared.names.Rule.{Rule}
+use Rattle.vk_base.specs.declared.names.NameFault.{NameFault}
+use Rattle.vk_base.specs.declared.names.NameFault.TheVariants as fault
 
 -- what a kind of names allows besides lower-case letters, digits, and hyphens inside
 pub record NameRule : Type 0 where
@@ -9,6 +12,10 @@ pub record NameRule : Type 0 where
   pub underscore : Bool
   -- a hyphen as the last byte
   pub last_hyphen : Bool
+
+-- the same of the program's own rule
+abbrev pub rule_of : Rule → NameRule
+rule_of r = record { underscore = r.underscore; last_hyphen = r.last_hyphen }
 
 abbrev pub port_rule : NameRule
 port_rule = record { underscore = false; last_hyphen = false }
@@ -52,17 +59,12 @@ pub record BreaksFirst (rule : NameRule) (text : List ℕ) (at : ℕ) : Type 0 w
   pub before : (k : ℕ) → k < at → is_name_byte rule (slice_index text k) ≡ true
   pub first : 0 < at → slice_index text 0 ≢ 45
 
--- what is wrong with a name
-pub data NameWrong : Type 0 where
-  bad : ℕ → NameWrong
-  reserved : NameWrong
-
 -- a name is its text, unless the text has a fault
-abbrev pub named : List ℕ → Option ℕ → Result (List ℕ) NameWrong
+abbrev pub named : List ℕ → Option ℕ → Result (List ℕ) NameFault
 named text None = Ok text
-named text (Some at) = Err (bad at)
+named text (Some at) = Err (fault.Bad at)
 
-abbrev pub reads_name : NameRule → List ℕ → Result (List ℕ) NameWrong
+abbrev pub reads_name : NameRule → List ℕ → Result (List ℕ) NameFault
 reads_name rule text = named text (name_fault rule text)
 
 -- a feature's name is a word that has no meaning of its own
@@ -75,5 +77,5 @@ abbrev pub is_reserved : List ℕ → Bool
 is_reserved text = bytes_eq text core || bytes_eq text default
 
 -- a feature's name, which is its text, or what is wrong with it
-abbrev pub reads_feature : List ℕ → Result (List ℕ) NameWrong
-reads_feature text = if is_reserved text then Err reserved else reads_name word_rule text
+abbrev pub reads_feature : List ℕ → Result (List ℕ) NameFault
+reads_feature text = if is_reserved text then Err fault.Reserved else reads_name word_rule text

@@ -5,21 +5,19 @@ use Rattle.std.specs.Str.{bytes_eq}
 use Rattle.vk_spec.specs.Paths.{Path, anchor}
 use Rattle.vk_spec.specs.Reading.{◌>>=◌}
 use Rattle.vk_base.specs.Paths.{climbed}
+use Rattle.vk_base.specs.declared.paths.PathFault.{PathFault}
+use Rattle.vk_base.specs.declared.paths.PathFault.TheVariants as fault
 
--- no bytes, more than 4,096 of them, or a byte 0 at this place
-pub data PathWrong : Type 0 where
-  empty : PathWrong
-  too_long : PathWrong
-  zero_at : ℕ → PathWrong
-
-abbrev pub zero_fault : Option ℕ → Result (Unit {0}) PathWrong
+-- a byte 0, at the first place that has one
+abbrev pub zero_fault : Option ℕ → Result (Unit {0}) PathFault
 zero_fault None = Ok tt
-zero_fault (Some at) = Err (zero_at at)
+zero_fault (Some at) = Err (fault.Zero at)
 
-abbrev pub checked : List ℕ → Result (Unit {0}) PathWrong
+-- a text has bytes, at most 4,096 of them, and no byte 0
+abbrev pub checked : List ℕ → Result (Unit {0}) PathFault
 checked text =
-    if length text == 0 then Err empty else
-    if nat_lt 4096 (length text) then Err too_long else
+    if length text == 0 then Err fault.Empty else
+    if nat_lt 4096 (length text) then Err fault.TooLong else
     zero_fault (position (λ b. b == 0) text)
 
 -- what stands between one `/` and the next
@@ -46,5 +44,5 @@ walked key (segment ∷ more) = walked (with_segment key segment) more
 abbrev pub start_of : List ℕ → Path
 start_of text = anchor (slice_index text 0 == 47) 0 ∷ []
 
-abbrev pub path_of : List ℕ → Result Path PathWrong
+abbrev pub path_of : List ℕ → Result Path PathFault
 path_of text = checked text >>= λ u. Ok (walked (start_of text) (segments text))

@@ -7,11 +7,13 @@ ghost use Rattle.std.specs.Cmp.Lexicographic.{slice_cmp, pointwise};
 ghost use Rattle.std.specs.Ordering.{nat_cmp, on, as_partial_cmp};
 ghost use Rattle.vk_spec.specs.Reading.{Gives};
 ghost use Rattle.vk_spec.specs.Manifests.{core, default};
-ghost use Rattle.vk_base.specs.Names.{BreaksFirst, IsFeatureName, is_reserved, reads_feature, word_rule, bad, reserved};
-ghost use Rattle.vk_base.specs.NameFaults.{name_fault_of};
+ghost use Rattle.vk_base.specs.declared.names.NameFault.TheVariants as fault;
+ghost use Rattle.vk_base.specs.Names.{BreaksFirst, IsFeatureName, is_reserved, reads_feature, word_rule};
+ghost use Rattle.vk_base.specs.Stops.{fault_in};
 ghost use Rattle.vk_base.specs.FeatureViews.{feature_view, IsNamed};
 
 use crate::names::{NameFault, WORD, read_name};
+use crate::stops::Unread;
 use crate::texts::Text;
 use std::alloc::{AllocError, Global};
 use std::cmp::Ordering;
@@ -28,7 +30,7 @@ fn is_reserved(text: &str) -> bool
 /// The name of a feature that a port's manifest has: at most 200 bytes `a` to `z`, `0` to `9`, `-`
 /// and `_`, with no `-` in front, and neither `core` nor `default`. Contracts see it as its bytes,
 /// and its order is theirs.
-#[derive(Drop)]
+#[derive(Clone, PartialEq, Eq, PartialOrd, Ord, Hash, Drop)]
 pub struct NamedFeature {
     text: Text,
 }
@@ -42,16 +44,18 @@ impl Model for NamedFeature {
     ghost view = { λ n. n.text };
 
     ghost invariant = { λ n. reads_feature n.text ≡ Ok n.text };
+
+    ghost inverse = { λ n. record { text = n } };
 }
 
 impl NamedFeature {
     /// Reads a feature's name. `Reserved` comes exactly for `core` and `default`, and `Bad` exactly
     /// where the rule fails, with the first byte that breaks it.
-    pub fn read(alloc: Global, text: &str) -> Result<NamedFeature, NameFault>
-        ensures { Gives (λ n. n) name_fault_of result (reads_feature text.now) }
+    pub fn read(alloc: Global, text: &str) -> Result<NamedFeature, Unread<NameFault>>
+        ensures { Gives (λ n. n) fault_in result (reads_feature text.now) }
     {
         if is_reserved(text) {
-            return Err(NameFault::Reserved);
+            return Err(Unread::Fault(NameFault::Reserved));
         }
         Ok(NamedFeature {
             text: read_name(alloc, WORD, text)?,
@@ -77,16 +81,6 @@ impl fmt::Display for NamedFeature {
     }
 }
 
-impl Clone for NamedFeature {
-    ghost is_clone = { λ x y. y ≡ x };
-
-    fn clone(&self) -> Result<NamedFeature, AllocError> {
-        Ok(NamedFeature {
-            text: self.text.clone()?,
-        })
-    }
-}
-
 /// What a plan may require of a port besides a version. Contracts see it by `feature_view`, as a
 /// text, and its order is that of the texts' bytes.
 #[derive(Drop)]
@@ -102,8 +96,8 @@ pub enum FeatureName {
 impl FeatureName {
     /// Reads a feature's name, which is `Named`. `Reserved` comes exactly for `core` and `default`,
     /// and `Bad` exactly where the rule fails, with the first byte that breaks it.
-    pub fn read(alloc: Global, text: &str) -> Result<FeatureName, NameFault>
-        ensures value { Gives feature_view name_fault_of result (reads_feature text.now) }
+    pub fn read(alloc: Global, text: &str) -> Result<FeatureName, Unread<NameFault>>
+        ensures value { Gives feature_view fault_in result (reads_feature text.now) }
         ensures named { IfOk result IsNamed }
     {
         Ok(FeatureName::Named(NamedFeature::read(alloc, text)?))
@@ -197,6 +191,6 @@ pub fn feature_rule()
     ensures holds { (text name : List ℕ) → reads_feature text ≡ Ok name → IsFeatureName text }
     ensures same { (text name : List ℕ) → reads_feature text ≡ Ok name → name ≡ text }
     ensures only { (text : List ℕ) → IsFeatureName text → reads_feature text ≡ Ok text }
-    ensures reserved { (text : List ℕ) → (reads_feature text ≡ Err reserved) ↔ ((text ≡ core) ⊎ (text ≡ default)) }
-    ensures first { (text : List ℕ) (at : ℕ) → reads_feature text ≡ Err (bad at) → BreaksFirst word_rule text at }
+    ensures reserved { (text : List ℕ) → (reads_feature text ≡ Err fault.Reserved) ↔ ((text ≡ core) ⊎ (text ≡ default)) }
+    ensures first { (text : List ℕ) (at : ℕ) → reads_feature text ≡ Err (fault.Bad at) → BreaksFirst word_rule text at }
 {}

@@ -1,9 +1,10 @@
-//! Texts, lists, names, paths and tokens: the types that every later crate uses. For fakes, which of
-//! their calls are to go wrong.
+//! Texts, lists, names, paths, tokens and decimal numbers: what every later crate uses. For fakes,
+//! which of their calls are to go wrong.
 //! Contracts see a text as its bytes, a list as a list, and a path as its anchor and parts.
 //! It promises upwards that each reader answers the value exactly where its rule holds.
 #![tactic(auto)]
 
+mod decimals;
 mod features;
 mod instances;
 mod lists;
@@ -16,6 +17,7 @@ mod texts;
 mod tokens;
 mod words;
 
+pub use decimals::{read_u32, read_u64};
 pub use features::{FeatureName, NamedFeature, feature_rule};
 pub use instances::Instance;
 pub use lists::List;
@@ -27,6 +29,3 @@ pub use stops::{Stop, Unread};
 pub use texts::Text;
 pub use tokens::{read_token, token, token_rule};
 pub use words::Word;
-
-#[cfg(test)]
-mod tests;

@@ -1,26 +1,23 @@
-ghost use Rattle.std.specs.Prelude.{◌≡◌, ◌<◌, ◌≤◌, ◌-◌, ◌==◌, List, ℕ, Some, None, length, not, take, slice_index, IfSome};
+ghost use Rattle.std.specs.Prelude.{◌≡◌, ◌<◌, ◌≤◌, ◌-◌, ◌==◌, List, ℕ, Some, None};
+ghost use Rattle.std.specs.Prelude.{length, not, take, slice_index, IfSome};
 ghost use Rattle.std.specs.List.{position};
-ghost use Rattle.std.proofs.Common.{rules};
-ghost use Rattle.std.specs.Cmp.{IsTotalOrder, partial_order_from_own_ties};
+ghost use Rattle.std.specs.Cmp.{IsTotalOrder};
 ghost use Rattle.std.specs.FinMap.{IsAntisymmetric};
-ghost use Rattle.std.specs.Cmp.Rules.{comparing, hashing};
-ghost use Rattle.std.specs.Hash as fed;
-ghost use Rattle.std.specs.Cmp.Lexicographic.{slice_cmp, pointwise};
-ghost use Rattle.std.specs.Ordering.{nat_cmp, on, then_cmp, as_partial_cmp};
+ghost use Rattle.std.specs.Cmp.Lexicographic.{slice_cmp};
+ghost use Rattle.std.specs.Ordering.{nat_cmp, on, then_cmp};
 ghost use Rattle.vk_spec.specs.Reading.{Gives};
-ghost use Rattle.vk_base.specs.declared.names.NameFault.TheVariants.{Memory};
-ghost use Rattle.vk_base.specs.Names.{IsName, BreaksFirst, port_rule, word_rule, is_name_byte, end_fault, name_fault, reads_name};
-ghost use Rattle.vk_base.specs.NameFaults.{name_fault_of, rule_of};
+ghost use Rattle.vk_base.specs.Names.{IsName, BreaksFirst, port_rule, word_rule, rule_of};
+ghost use Rattle.vk_base.specs.Names.{is_name_byte, end_fault, name_fault, reads_name};
+ghost use Rattle.vk_base.specs.Stops.{fault_in};
 ghost use Rattle.vk_base.specs.FeatureViews.{feature_view};
 
 use crate::features::FeatureName;
 use crate::instances::Instance;
-use crate::memory::Memory;
+use crate::stops::Unread;
 use crate::texts::Text;
-use std::alloc::{AllocError, AllocFailed, Global};
-use std::cmp::Ordering;
+use std::alloc::Global;
 use std::fmt;
-use std::hash::{Hash, Hasher};
+use std::hash::Hash;
 use std::marker::Model;
 
 /// Why a text is no name.
@@ -31,32 +28,6 @@ pub enum NameFault {
     Bad { at: u32 },
     /// A word that has a meaning of its own.
     Reserved,
-    /// Want of memory.
-    Memory,
-}
-
-impl From<AllocError> for NameFault {
-    ghost from_gives = { λ _ e. e ≡ Memory };
-
-    fn from(_: AllocError) -> Self {
-        NameFault::Memory
-    }
-}
-
-impl<T: Drop> From<AllocFailed<T>> for NameFault {
-    ghost from_gives = { λ _ e. e ≡ Memory };
-
-    fn from(_: AllocFailed<T>) -> Self {
-        NameFault::Memory
-    }
-}
-
-impl From<Memory> for NameFault {
-    ghost from_gives = { λ _ e. e ≡ Memory };
-
-    fn from(_: Memory) -> Self {
-        NameFault::Memory
-    }
 }
 
 // What a kind of names allows besides lower-case letters, digits, and hyphens inside.
@@ -140,18 +111,18 @@ fn name_fault_at(rule: Rule, bytes: &[u8]) -> Option<usize>
     }
 }
 
-pub(crate) fn read_name(alloc: Global, rule: Rule, text: &str) -> Result<Text, NameFault>
-    ensures { Gives (λ t. t) name_fault_of result (reads_name (rule_of rule) text.now) }
+pub(crate) fn read_name(alloc: Global, rule: Rule, text: &str) -> Result<Text, Unread<NameFault>>
+    ensures { Gives (λ t. t) fault_in result (reads_name (rule_of rule) text.now) }
 {
     match name_fault_at(rule, text.as_bytes()) {
-        Some(at) => Err(NameFault::Bad { at: at as u32 }),
+        Some(at) => Err(Unread::Fault(NameFault::Bad { at: at as u32 })),
         None => Ok(Text::from_str(alloc, text)?),
     }
 }
 
 /// A port's name: at most 200 bytes `a` to `z`, `0` to `9` and `-`, with no `-` at either end.
 /// Contracts see it as its bytes, and its order is theirs.
-#[derive(Drop)]
+#[derive(Clone, PartialEq, Eq, PartialOrd, Ord, Hash, Drop)]
 pub struct PortName {
     text: Text,
 }
@@ -165,12 +136,14 @@ impl Model for PortName {
     ghost view = { λ n. n.text };
 
     ghost invariant = { λ n. name_fault port_rule n.text ≡ None };
+
+    ghost inverse = { λ n. record { text = n } };
 }
 
 impl PortName {
     /// Reads a port's name. `Bad` comes exactly where the rule fails, with the first byte that breaks it.
-    pub fn read(alloc: Global, text: &str) -> Result<PortName, NameFault>
-        ensures { Gives (λ n. n) name_fault_of result (reads_name port_rule text.now) }
+    pub fn read(alloc: Global, text: &str) -> Result<PortName, Unread<NameFault>>
+        ensures { Gives (λ n. n) fault_in result (reads_name port_rule text.now) }
     {
         Ok(PortName {
             text: read_name(alloc, PORT, text)?,
@@ -196,67 +169,9 @@ impl fmt::Display for PortName {
     }
 }
 
-impl Clone for PortName {
-    ghost is_clone = { λ x y. y ≡ x };
-
-    fn clone(&self) -> Result<PortName, AllocError> {
-        Ok(PortName {
-            text: self.text.clone()?,
-        })
-    }
-}
-
-impl PartialEq for PortName {
-    ghost eq = { pointwise ◌==◌ };
-
-    ghost laws = { Prim.search (comparing, rules) };
-
-    fn eq(&self, other: &PortName) -> bool {
-        self.text == other.text
-    }
-}
-
-impl Eq for PortName {
-    ghost laws = { Prim.search (comparing, rules) };
-}
-
-impl Ord for PortName {
-    ghost cmp = { slice_cmp nat_cmp };
-
-    ghost total = { Prim.search (comparing, rules) };
-
-    ghost matches_partial_cmp = { Prim.search (comparing, rules) };
-
-    ghost matches_eq = { Prim.search (comparing, rules) };
-
-    fn cmp(&self, other: &PortName) -> Ordering {
-        self.text.cmp(&other.text)
-    }
-}
-
-impl PartialOrd for PortName {
-    ghost partial_cmp = { as_partial_cmp (slice_cmp nat_cmp) };
-
-    ghost laws = { partial_order_from_own_ties (Prim.search (comparing, rules)) (Prim.search (comparing, rules)) };
-
-    fn partial_cmp(&self, other: &PortName) -> Option<Ordering> {
-        Some(self.cmp(other))
-    }
-}
-
-impl Hash for PortName {
-    ghost hash_input = { λ n. fed.str n };
-
-    ghost respects_eq = { Prim.search (hashing, rules) };
-
-    fn hash<H: Hasher>(&self, state: &mut H) {
-        self.text.hash(state);
-    }
-}
-
 /// A triplet's name: at most 200 bytes `a` to `z`, `0` to `9`, `-` and `_`, with no `-` in front.
 /// Contracts see it as its bytes, and its order is theirs.
-#[derive(Drop)]
+#[derive(Clone, PartialEq, Eq, PartialOrd, Ord, Hash, Drop)]
 pub struct TripletName {
     text: Text,
 }
@@ -270,12 +185,14 @@ impl Model for TripletName {
     ghost view = { λ n. n.text };
 
     ghost invariant = { λ n. name_fault word_rule n.text ≡ None };
+
+    ghost inverse = { λ n. record { text = n } };
 }
 
 impl TripletName {
     /// Reads a triplet's name. `Bad` comes exactly where the rule fails, with the first byte that breaks it.
-    pub fn read(alloc: Global, text: &str) -> Result<TripletName, NameFault>
-        ensures { Gives (λ n. n) name_fault_of result (reads_name word_rule text.now) }
+    pub fn read(alloc: Global, text: &str) -> Result<TripletName, Unread<NameFault>>
+        ensures { Gives (λ n. n) fault_in result (reads_name word_rule text.now) }
     {
         Ok(TripletName {
             text: read_name(alloc, WORD, text)?,
@@ -298,64 +215,6 @@ impl fmt::Display for TripletName {
 
     fn fmt<W: fmt::Write>(&self, f: &mut fmt::Formatter<W>) -> fmt::Result {
         f.write_str(self.as_str())
-    }
-}
-
-impl Clone for TripletName {
-    ghost is_clone = { λ x y. y ≡ x };
-
-    fn clone(&self) -> Result<TripletName, AllocError> {
-        Ok(TripletName {
-            text: self.text.clone()?,
-        })
-    }
-}
-
-impl PartialEq for TripletName {
-    ghost eq = { pointwise ◌==◌ };
-
-    ghost laws = { Prim.search (comparing, rules) };
-
-    fn eq(&self, other: &TripletName) -> bool {
-        self.text == other.text
-    }
-}
-
-impl Eq for TripletName {
-    ghost laws = { Prim.search (comparing, rules) };
-}
-
-impl Ord for TripletName {
-    ghost cmp = { slice_cmp nat_cmp };
-
-    ghost total = { Prim.search (comparing, rules) };
-
-    ghost matches_partial_cmp = { Prim.search (comparing, rules) };
-
-    ghost matches_eq = { Prim.search (comparing, rules) };
-
-    fn cmp(&self, other: &TripletName) -> Ordering {
-        self.text.cmp(&other.text)
-    }
-}
-
-impl PartialOrd for TripletName {
-    ghost partial_cmp = { as_partial_cmp (slice_cmp nat_cmp) };
-
-    ghost laws = { partial_order_from_own_ties (Prim.search (comparing, rules)) (Prim.search (comparing, rules)) };
-
-    fn partial_cmp(&self, other: &TripletName) -> Option<Ordering> {
-        Some(self.cmp(other))
-    }
-}
-
-impl Hash for TripletName {
-    ghost hash_input = { λ n. fed.str n };
-
-    ghost respects_eq = { Prim.search (hashing, rules) };
-
-    fn hash<H: Hasher>(&self, state: &mut H) {
-        self.text.hash(state);
     }
 }
 

@@ -9,16 +9,16 @@ ghost use Rattle.std.specs.List.{position, join_with_byte};
 ghost use Rattle.std.specs.Ordering.{nat_cmp, as_partial_cmp};
 ghost use Rattle.vk_spec.specs.Paths.{Path, anchor, path_cmp, Begins};
 ghost use Rattle.vk_spec.specs.Reading.{Gives};
-ghost use Rattle.vk_base.specs.declared.paths.PathFault.TheVariants.{Memory};
 ghost use Rattle.vk_base.specs.Paths.{Lacks, IsPart, IsPath, is_part, is_rooted, ups_of, parts_of, climbed, joined, front_of, text_of_path, steps_of};
 ghost use Rattle.vk_base.specs.PathHash.{path_fed};
 ghost use Rattle.vk_base.specs.PathReading.{checked, segments, stays, climbs, with_segment, walked, start_of, path_of};
-ghost use Rattle.vk_base.specs.PathFaults.{path_fault_of};
+ghost use Rattle.vk_base.specs.Stops.{fault_in};
 
 use crate::lists::List;
 use crate::memory::Memory;
+use crate::stops::Unread;
 use crate::texts::Text;
-use std::alloc::{AllocError, AllocFailed, Global};
+use std::alloc::{AllocError, Global};
 use std::cmp::Ordering;
 use std::hash::{Hash, Hasher};
 use std::marker::Model;
@@ -32,32 +32,6 @@ pub enum PathFault {
     TooLong,
     /// A byte 0, the first, at this place counted from 0.
     Zero { at: u32 },
-    /// Want of memory.
-    Memory,
-}
-
-impl From<AllocError> for PathFault {
-    ghost from_gives = { λ _ e. e ≡ Memory };
-
-    fn from(_: AllocError) -> Self {
-        PathFault::Memory
-    }
-}
-
-impl<T: Drop> From<AllocFailed<T>> for PathFault {
-    ghost from_gives = { λ _ e. e ≡ Memory };
-
-    fn from(_: AllocFailed<T>) -> Self {
-        PathFault::Memory
-    }
-}
-
-impl From<Memory> for PathFault {
-    ghost from_gives = { λ _ e. e ≡ Memory };
-
-    fn from(_: Memory) -> Self {
-        PathFault::Memory
-    }
 }
 
 /// A path of a tree of files, rooted or with so many steps up, and then its parts.
@@ -103,8 +77,8 @@ impl TreePath {
 
     /// Reads a path: texts between `/`, of which the empty ones and `.` are dropped; `..` takes
     /// away the part before it, or is one step up, and above `/` it is nothing.
-    pub fn read(alloc: Global, text: &str) -> Result<TreePath, PathFault>
-        ensures { Gives (λ p. p) path_fault_of result (path_of text.now) }
+    pub fn read(alloc: Global, text: &str) -> Result<TreePath, Unread<PathFault>>
+        ensures { Gives (λ p. p) fault_in result (path_of text.now) }
     {
         check(text)?;
         Ok(walk(alloc, text)?)
@@ -324,19 +298,19 @@ fn zero_at(bytes: &[u8]) -> Option<usize>
     bytes.iter().position(|b| *b == 0)
 }
 
-fn check(text: &str) -> Result<(), PathFault>
-    ensures fault { Gives (λ u. u) path_fault_of result (checked text.now) }
+fn check(text: &str) -> Result<(), Unread<PathFault>>
+    ensures fault { Gives (λ u. u) fault_in result (checked text.now) }
     ensures short { OnOk result (length text.now ≤ 4096) }
     ensures whole { OnOk result (Lacks 0 text.now) }
 {
     if text.is_empty() {
-        return Err(PathFault::Empty);
+        return Err(Unread::Fault(PathFault::Empty));
     }
     if text.len() > 4096 {
-        return Err(PathFault::TooLong);
+        return Err(Unread::Fault(PathFault::TooLong));
     }
     match zero_at(text.as_bytes()) {
-        Some(at) => Err(PathFault::Zero { at: at as u32 }),
+        Some(at) => Err(Unread::Fault(PathFault::Zero { at: at as u32 })),
         None => Ok(()),
     }
 }

@@ -17,9 +17,9 @@ pages_put m = pages_of m.shelf
 abbrev pub mem_schedule : MemCatalogue → Schedule
 mem_schedule m = m.schedule
 
--- it was made over no tree
+-- it was made over no tree, and its versions stand nowhere
 abbrev pub no_origin : Origin
-no_origin = record { files = None; log = None; changes = 0 }
+no_origin = record { told = None; changes = 0; opened = []; places = λ port v. None }
 
 -- what is known of it
 abbrev pub mem_state : MemCatalogue → CatalogueState Condition

@@ -4,10 +4,9 @@ ghost use Rattle.vk_version.specs.AskViews.{ask_view};
 ghost use Rattle.vk_spec.specs.Conditions.{Condition};
 
 use crate::stops::CatStop;
-use crate::wrongs::{Given, Wrong};
 use std::rc::Rc;
 use vk_base::PortName;
-use vk_model::Manifest;
+use vk_model::{Given, Manifest, Wrong};
 use vk_version::{Ask, Version};
 
 /// What there is of each port: its given version, its versions, and their manifests, or what is

@@ -5,10 +5,9 @@ ghost use Rattle.vk_catalogue.specs.GivenManifests.{SaysAt, SaysAtGiven, at_answ
 
 use crate::catalogues::Catalogue;
 use crate::stops::CatStop;
-use crate::wrongs::Wrong;
 use std::rc::Rc;
 use vk_base::PortName;
-use vk_model::Manifest;
+use vk_model::{Manifest, Wrong};
 use vk_version::Ask;
 
 /// What a port has at its given version.

@@ -11,14 +11,10 @@ mod rows;
 mod shelves;
 mod sound_pages;
 mod stops;
-mod wrongs;
 
 pub use catalogues::Catalogue;
 pub use given_manifests::{GivenManifest, manifest_at_given};
 pub use mem_catalogues::MemCatalogue;
 pub use pages::{Page, PageRow};
 pub use stops::CatStop;
-pub use wrongs::{Field, Given, Wrong};
-
-#[cfg(test)]
-mod tests;
+pub use vk_model::{Field, Given, Wrong};

@@ -11,11 +11,10 @@ use crate::catalogues::Catalogue;
 use crate::pages::Page;
 use crate::shelves::Shelf;
 use crate::stops::CatStop;
-use crate::wrongs::{Given, Wrong};
 use std::alloc::Global;
 use std::rc::Rc;
 use vk_base::{Memory, PortName, Schedule};
-use vk_model::Manifest;
+use vk_model::{Given, Manifest, Wrong};
 use vk_version::{Ask, Version};
 
 /// A catalogue in memory that tells its pages. A port without a page is given

@@ -1,7 +1,6 @@
-use crate::wrongs::{Given, Wrong};
 use std::rc::Rc;
 use vk_base::{List, PortName};
-use vk_model::Manifest;
+use vk_model::{Given, Manifest, Wrong};
 use vk_version::Version;
 
 /// A version of a port, and its manifest, or what is wrong with that.

@@ -9,7 +9,7 @@ ghost use Rattle.vk_catalogue.specs.Shelves.{IsPageFor, page_on, pages_of};
 
 use crate::pages::{Page, PageRow};
 use crate::rows::row_for;
-use crate::wrongs::{Given, Wrong};
+use vk_model::{Given, Wrong};
 use indexmap::IndexMap;
 use std::alloc::Global;
 use std::marker::Model;

@@ -9,7 +9,7 @@ ghost use Rattle.vk_catalogue.specs.PageViews.{page_view, row_view};
 ghost use Rattle.vk_catalogue.specs.SoundPages.{FitsGiven, asks_in, can_be_of_row, distinct_after, is_row_right};
 
 use crate::pages::{Page, PageRow};
-use crate::wrongs::{Field, Given, Wrong};
+use vk_model::{Field, Given, Wrong};
 use indexmap::IndexSet;
 use std::alloc::Global;
 use std::cmp::Ordering;

@@ -3,7 +3,8 @@ use Rattle.std.proofs.Common.{◌≡◌, ◌-◌, ℕ, List, [], ◌∷◌, ◌+
 use Rattle.std.specs.Prelude.{Option, Some, None, reverse, option_to_list, true, false}
 use Rattle.std.proofs.lemmas.List.{reverse-append, map-append, append-nil, length-take}
 use Rattle.vk_spec.specs.Conditions.{Condition, negation}
-use Rattle.vk_expr.specs.Reading.{Chain, State, pending, around, ended, settled, cut_off, unexpected, unclosed}
+use Rattle.vk_expr.specs.Reading.{Chain, State, pending, around, ended, settled, cut_off}
+use Rattle.vk_expr.specs.declared.faults.ExprFault.TheVariants as fault
 use Rattle.vk_expr.specs.Reading as reading
 use Rattle.vk_expr.specs.declared.frames.Chain as rust
 use Rattle.vk_expr.specs.declared.frames.Frame.{Frame}
@@ -44,7 +45,7 @@ rests (pending ∷ fs) c t e = cc
 rests (around at chain ∷ fs) c t e = refl
 
 -- the fault of a text that ends here, by the last one
-pub cut_nothing : (n : ℕ) (all rest : List Frame) → all ≡ rest ++ [] → rest ≡ take (length all - 1) all → cut_off n (frames_of all) ≡ unexpected n
+pub cut_nothing : (n : ℕ) (all rest : List Frame) → all ≡ rest ++ [] → rest ≡ take (length all - 1) all → cut_off n (frames_of all) ≡ fault.Unexpected n
 unfolding cut_off
 cut_nothing n all rest split taken = ap (λ l. cut_off n (frames_of l)) (nothing_left all rest split taken)
 
@@ -55,7 +56,7 @@ pub unwinds_on : (all rest : List Frame) (popped : Option Frame) (c : Chain) (t 
 unwinds_on all rest popped c t u whole split taken negated same so_far = ap (λ t. settled (frames_of rest) c t) same ∙ unwinds all rest popped c t split taken negated ∙ so_far
 
 -- a parenthesis is the last one
-pub cut_around : (n at : ℕ) (outer : rust.Chain) (all rest : List Frame) (f : Frame) → all ≡ rest ++ f ∷ [] → f ≡ frame.Around at outer → cut_off n (frames_of all) ≡ unclosed at
+pub cut_around : (n at : ℕ) (outer : rust.Chain) (all rest : List Frame) (f : Frame) → all ≡ rest ++ f ∷ [] → f ≡ frame.Around at outer → cut_off n (frames_of all) ≡ fault.Open at
 unfolding cut_off
 cut_around n at outer all rest f split is = cut_last n all rest f split ∙ ap (λ f. cut_off n (frame_of f ∷ frames_of rest)) is
 

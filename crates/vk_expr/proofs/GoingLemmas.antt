@@ -6,7 +6,9 @@ use Rattle.vk_spec.specs.Reading.{◌>>=◌}
 use Rattle.vk_spec.specs.Conditions.{Condition, mark, negation}
 use Rattle.vk_expr.specs.Tokens.{Joint, both, either, Sign, Token, token, name, negates, joins, opens, closes, stray, sign_of_word, sign_of_byte, sign_begun, tokens_from, tokens_of}
 use Rattle.vk_expr.specs.Grammar.{IsExpr, Reads, blank, whole, CanGoOn}
-use Rattle.vk_expr.specs.Reading.{Fault, unexpected, mixed, deep, Chain, single, joined, Frame, pending, around, State, wanted, ended, value_of, settled, same_joint, step, steps, at_end, start}
+use Rattle.vk_expr.specs.Reading.{Chain, single, joined, Frame, pending, around, State, wanted, ended, value_of, settled, same_joint, step, steps, at_end, start}
+use Rattle.vk_expr.specs.declared.faults.ExprFault.{ExprFault}
+use Rattle.vk_expr.specs.declared.faults.ExprFault.TheVariants as fault
 use Rattle.vk_expr.specs.Standing.{CanStandAfter}
 use Rattle.vk_expr.proofs.StepLemmas.{steps-append}
 use Rattle.vk_expr.proofs.TokenLemmas.{blank_tokens}
@@ -19,7 +21,7 @@ abbrev IsProper : State → Type 0
 IsProper (wanted fs c) = Unit {0}
 IsProper (ended fs c t) = settled fs c t ≡ ended fs c t
 
-abbrev AreProper : Result State Fault → Type 0
+abbrev AreProper : Result State ExprFault → Type 0
 AreProper (Ok s) = IsProper s
 AreProper (Err f) = Unit {0}
 
@@ -29,20 +31,20 @@ settled_proper [] c t = refl
 settled_proper (pending ∷ fs) c t = settled_proper fs c (negation t)
 settled_proper (around at outer ∷ fs) c t = refl
 
-wanted_proper : (b : Bool) (fs : List Frame) (c : Chain) (f : Fault) → AreProper (cond b (Ok (wanted fs c)) (Err f))
+wanted_proper : (b : Bool) (fs : List Frame) (c : Chain) (f : ExprFault) → AreProper (cond b (Ok (wanted fs c)) (Err f))
 wanted_proper true fs c f = tt
 wanted_proper false fs c f = tt
 
 step_proper : (s : State) (t : Token) → AreProper (step s t)
 unfolding step
 step_proper (wanted fs c) (token at (name word)) = settled_proper fs c (mark word)
-step_proper (wanted fs c) (token at negates) = wanted_proper (nat_lt (length fs) 64) (pending ∷ fs) c deep
-step_proper (wanted fs c) (token at opens) = wanted_proper (nat_lt (length fs) 64) (around at c ∷ fs) single deep
+step_proper (wanted fs c) (token at negates) = wanted_proper (nat_lt (length fs) 64) (pending ∷ fs) c fault.Deep
+step_proper (wanted fs c) (token at opens) = wanted_proper (nat_lt (length fs) 64) (around at c ∷ fs) single fault.Deep
 step_proper (wanted fs c) (token at (joins joint)) = tt
 step_proper (wanted fs c) (token at closes) = tt
 step_proper (wanted fs c) (token at stray) = tt
 step_proper (ended fs single t) (token at (joins joint)) = tt
-step_proper (ended fs (joined other xs) t) (token at (joins joint)) = wanted_proper (same_joint joint other) fs (joined other (xs ++ t ∷ [])) (mixed at)
+step_proper (ended fs (joined other xs) t) (token at (joins joint)) = wanted_proper (same_joint joint other) fs (joined other (xs ++ t ∷ [])) (fault.Mixed at)
 step_proper (ended [] c t) (token at closes) = tt
 step_proper (ended (pending ∷ fs) c t) (token at closes) = tt
 step_proper (ended (around place outer ∷ fs) c t) (token at closes) = settled_proper fs outer (value_of c t)
@@ -51,7 +53,7 @@ step_proper (ended fs c t) (token at negates) = tt
 step_proper (ended fs c t) (token at opens) = tt
 step_proper (ended fs c t) (token at stray) = tt
 
-proper_next : (ts : List Token) (r : Result State Fault) → AreProper r → ((next : State) → IsProper next → AreProper (steps next ts)) → AreProper (r >>= λ next. steps next ts)
+proper_next : (ts : List Token) (r : Result State ExprFault) → AreProper r → ((next : State) → IsProper next → AreProper (steps next ts)) → AreProper (r >>= λ next. steps next ts)
 proper_next ts (Ok next) p more = more next p
 proper_next ts (Err f) p more = tt
 
@@ -133,14 +135,14 @@ can_go_on text before s r =
     }
 
 -- the tokens of an expression have no fault
-readable_by : (tokens : List Token) (t : Condition) (f : Fault) → IsExpr 0 tokens [] t → steps start tokens ≡ Err f → ⊥
+readable_by : (tokens : List Token) (t : Condition) (f : ExprFault) → IsExpr 0 tokens [] t → steps start tokens ≡ Err f → ⊥
 readable_by tokens t f e fails =
     let reads : (steps start tokens >>= at_end 0) ≡ Ok t = expr_read 0 tokens t e in
     let broken : (steps start tokens >>= at_end 0) ≡ Err f = ap (λ r. r >>= at_end 0) fails in
     cc
 
 -- the tokens of a readable text have no fault
-readable_runs : (text : List ℕ) (t : Condition) (f : Fault) → Reads text t → steps start (tokens_of text) ≡ Err f → ⊥
+readable_runs : (text : List ℕ) (t : Condition) (f : ExprFault) → Reads text t → steps start (tokens_of text) ≡ Err f → ⊥
 unfolding steps
 readable_runs _ _ f (blank text every) fails =
     let none : steps start [] ≡ Err f = subst (λ l. steps start l ≡ Err f) (blank_tokens text 0 false every) fails in
@@ -148,11 +150,11 @@ readable_runs _ _ f (blank text every) fails =
 readable_runs _ _ f (whole text t e) fails = readable_by (tokens_of text) t f e fails
 
 -- no readable text begins with tokens that have a fault
-pub cannot_go_on : (tokens : List Token) (f : Fault) → steps start tokens ≡ Err f → CanGoOn tokens → ⊥
+pub cannot_go_on : (tokens : List Token) (f : ExprFault) → steps start tokens ≡ Err f → CanGoOn tokens → ⊥
 cannot_go_on tokens f e goes = readable_runs goes.text goes.tree f goes.reads (ap (λ l. steps start l) goes.begins ∙ steps-append start tokens goes.rest ∙ ap (λ r. r >>= λ next. steps next goes.rest) e)
 
 -- one more token
-pub one_more : (before : List Token) (s : State) (t : Token) (r : Result State Fault) → steps start before ≡ Ok s → step s t ≡ r → steps start (before ++ t ∷ []) ≡ r
+pub one_more : (before : List Token) (s : State) (t : Token) (r : Result State ExprFault) → steps start before ≡ Ok s → step s t ≡ r → steps start (before ++ t ∷ []) ≡ r
 unfolding steps
 one_more before s t (Ok next) e one = rw (steps-append start before (t ∷ []), e, one) refl
 one_more before s t (Err f) e one = rw (steps-append start before (t ∷ []), e, one) refl
@@ -173,5 +175,5 @@ can_stand text before s next word sign r spelled leads =
     )
 
 -- a sign that is unexpected can't
-pub cannot_stand : (before : List Token) (s : State) (sign : Sign) → steps start before ≡ Ok s → ((n : ℕ) → step s (token n sign) ≡ Err (unexpected n)) → CanStandAfter before sign → ⊥
-cannot_stand before s sign runs fails stands = cannot_go_on (before ++ token stands.0 sign ∷ []) (unexpected stands.0) (one_more before s (token stands.0 sign) (Err (unexpected stands.0)) runs (fails stands.0)) stands.1
+pub cannot_stand : (before : List Token) (s : State) (sign : Sign) → steps start before ≡ Ok s → ((n : ℕ) → step s (token n sign) ≡ Err (fault.Unexpected n)) → CanStandAfter before sign → ⊥
+cannot_stand before s sign runs fails stands = cannot_go_on (before ++ token stands.0 sign ∷ []) (fault.Unexpected stands.0) (one_more before s (token stands.0 sign) (Err (fault.Unexpected stands.0)) runs (fails stands.0)) stands.1

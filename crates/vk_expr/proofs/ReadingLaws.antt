@@ -6,7 +6,9 @@ use Rattle.vk_spec.specs.Reading.{◌>>=◌}
 use Rattle.vk_spec.specs.Conditions.{Condition, always}
 use Rattle.vk_expr.specs.Tokens.{Token, is_blank, tokens_of}
 use Rattle.vk_expr.specs.Grammar.{IsExpr, Reads, blank, whole}
-use Rattle.vk_expr.specs.Reading.{Fault, unexpected, settled, steps, at_end, cut_off, start, reading_of}
+use Rattle.vk_expr.specs.Reading.{settled, steps, at_end, cut_off, start, reading_of}
+use Rattle.vk_expr.specs.declared.faults.ExprFault.{ExprFault}
+use Rattle.vk_expr.specs.declared.faults.ExprFault.TheVariants as fault
 use Rattle.vk_expr.proofs.TokenLemmas.{blank_tokens}
 use Rattle.vk_expr.proofs.Complete.{Led, expr_leads}
 use Rattle.vk_expr.proofs.Sound.{expr_from}
@@ -21,7 +23,7 @@ expr_read n tokens t e =
 nothing_reads : (t : Condition) → IsExpr 0 [] [] t → ⊥
 unfolding steps at_end cut_off
 nothing_reads t e =
-    let impossible : Err (unexpected 0) ≡ Ok t = expr_read 0 [] t e in
+    let impossible : Err (fault.Unexpected 0) ≡ Ok t = expr_read 0 [] t e in
     cc
 
 whole_by : (text : List ℕ) (t : Condition) (b : Bool) → list_all is_blank text ≡ b → IsExpr 0 (tokens_of text) [] t → reading_of text ≡ Ok t
@@ -52,5 +54,5 @@ is_reads text t e = is_reads_by text t (list_all is_blank text) refl e
 pub one_reading : (text : List ℕ) (s t : Condition) → Reads text s → Reads text t → s ≡ t
 one_reading text s t one other = cc (reads_is text s one, reads_is text t other)
 
-pub never_both : (text : List ℕ) (t : Condition) (f : Fault) → Reads text t → reading_of text ≡ Err f → ⊥
+pub never_both : (text : List ℕ) (t : Condition) (f : ExprFault) → Reads text t → reading_of text ≡ Err f → ⊥
 never_both text t f reads fails = cc (reads_is text t reads, fails)

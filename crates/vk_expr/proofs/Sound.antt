@@ -6,7 +6,8 @@ use Rattle.vk_spec.specs.Reading.{◌>>=◌}
 use Rattle.vk_spec.specs.Conditions.{Condition, mark, negation}
 use Rattle.vk_expr.specs.Tokens.{Joint, both, either, Token, token, name, negates, joins, opens, closes, stray}
 use Rattle.vk_expr.specs.Grammar.{IsUnary, IsExpr, IsTail, named, negated, enclosed, alone, chain, done, more, joined_by}
-use Rattle.vk_expr.specs.Reading.{deep, Chain, single, joined, Frame, pending, around, State, wanted, ended, value_of, settled, step, steps, at_end, start}
+use Rattle.vk_expr.specs.Reading.{Chain, single, joined, Frame, pending, around, State, wanted, ended, value_of, settled, step, steps, at_end, start}
+use Rattle.vk_expr.specs.declared.faults.ExprFault.TheVariants as fault
 
 -- how a level goes on after its last member so far: with so many members more
 data GoesOn : ℕ → Chain → Condition → List Token → List Token → Condition → Type 0 where
@@ -68,7 +69,7 @@ record Deepened (k : ℕ) (fs : List Frame) (f : Frame) (c : Chain) (ts : List T
   few : length fs < 64
   goes_on : (steps (wanted (f ∷ fs) c) ts >>= at_end k) ≡ Ok v
 
-deepened_by : (k : ℕ) (fs : List Frame) (f : Frame) (c : Chain) (ts : List Token) (v : Condition) (b : Bool) → nat_lt (length fs) 64 ≡ b → ((cond b (Ok (wanted (f ∷ fs) c)) (Err deep) >>= λ next. steps next ts) >>= at_end k) ≡ Ok v → Deepened k fs f c ts v
+deepened_by : (k : ℕ) (fs : List Frame) (f : Frame) (c : Chain) (ts : List Token) (v : Condition) (b : Bool) → nat_lt (length fs) 64 ≡ b → ((cond b (Ok (wanted (f ∷ fs) c)) (Err fault.Deep) >>= λ next. steps next ts) >>= at_end k) ≡ Ok v → Deepened k fs f c ts v
 deepened_by k fs f c ts v true p e = record { few = grind (arith, nat_tests); goes_on = e }
 deepened_by k fs f c ts v false p e = cc
 

@@ -3,7 +3,8 @@ use Rattle.std.proofs.Common.{◌≡◌, List, [], ◌∷◌, ◌++◌, refl, ap
 use Rattle.std.specs.Prelude.{Result, Ok, Err}
 use Rattle.vk_spec.specs.Reading.{◌>>=◌}
 use Rattle.vk_expr.specs.Tokens.{Token}
-use Rattle.vk_expr.specs.Reading.{Fault, State, step, steps}
+use Rattle.vk_expr.specs.Reading.{State, step, steps}
+use Rattle.vk_expr.specs.declared.faults.ExprFault.{ExprFault}
 
 -- steps over two lists are steps over the first, and then over the second
 pub steps-append : (s : State) (xs ys : List Token) → steps s (xs ++ ys) ≡ (steps s xs >>= λ next. steps next ys)
@@ -12,7 +13,7 @@ steps-append s [] ys = refl
 steps-append s (x ∷ xs) ys = elim (step s x) as (λ r. (r >>= λ next. steps next (xs ++ ys)) ≡ ((r >>= λ next. steps next xs) >>= λ next. steps next ys)) [ Ok next ↦ steps-append next xs ys | Err f ↦ refl ]
 
 -- steps that stop do so at a token, after steps that didn't
-pub record Stops (s : State) (tokens : List Token) (fault : Fault) : Type 0 where
+pub record Stops (s : State) (tokens : List Token) (fault : ExprFault) : Type 0 where
   pub before : List Token
   pub at : Token
   pub after : List Token
@@ -21,7 +22,7 @@ pub record Stops (s : State) (tokens : List Token) (fault : Fault) : Type 0 wher
   pub runs : steps s before ≡ Ok reached
   pub fails : step reached at ≡ Err fault
 
-stops_later : (s next : State) (x : Token) (xs : List Token) (f : Fault) → step s x ≡ Ok next → Stops next xs f → Stops s (x ∷ xs) f
+stops_later : (s next : State) (x : Token) (xs : List Token) (f : ExprFault) → step s x ≡ Ok next → Stops next xs f → Stops s (x ∷ xs) f
 unfolding steps
 stops_later s next x xs f one later = record {
   before = x ∷ later.before;
@@ -33,7 +34,7 @@ stops_later s next x xs f one later = record {
   fails = later.fails;
 }
 
-stops_now : (s : State) (x : Token) (xs : List Token) (f : Fault) → step s x ≡ Err f → Stops s (x ∷ xs) f
+stops_now : (s : State) (x : Token) (xs : List Token) (f : ExprFault) → step s x ≡ Err f → Stops s (x ∷ xs) f
 unfolding steps
 stops_now s x xs f one = record {
   before = [];
@@ -45,11 +46,11 @@ stops_now s x xs f one = record {
   fails = one;
 }
 
-stops_by : (s : State) (x : Token) (xs : List Token) (f : Fault) → ((next : State) → steps next xs ≡ Err f → Stops next xs f) → (r : Result State Fault) → step s x ≡ r → (r >>= λ next. steps next xs) ≡ Err f → Stops s (x ∷ xs) f
+stops_by : (s : State) (x : Token) (xs : List Token) (f : ExprFault) → ((next : State) → steps next xs ≡ Err f → Stops next xs f) → (r : Result State ExprFault) → step s x ≡ r → (r >>= λ next. steps next xs) ≡ Err f → Stops s (x ∷ xs) f
 stops_by s x xs f more (Ok next) one e = stops_later s next x xs f one (more next e)
 stops_by s x xs f more (Err g) one e = stops_now s x xs f (one ∙ cc)
 
-pub stops : (s : State) (tokens : List Token) (f : Fault) → steps s tokens ≡ Err f → Stops s tokens f
+pub stops : (s : State) (tokens : List Token) (f : ExprFault) → steps s tokens ≡ Err f → Stops s tokens f
 unfolding steps
 stops s [] f e = cc
 stops s (x ∷ xs) f e = stops_by s x xs f (λ next. stops next xs f) (step s x) refl e

@@ -4,5 +4,4 @@ pub mod Reading
 pub mod Standing
 pub mod Printing
 pub mod Views
-pub mod Faults
 pub mod ReaderViews

@@ -3,7 +3,8 @@ use Rattle.std.specs.Prelude.{◌≡◌, ◌++◌, ℕ, List, [], ◌∷◌, len
 use Rattle.vk_spec.specs.Conditions.{Condition}
 use Rattle.vk_expr.specs.Tokens.{Sign, Joint, both, either, Token, token, name, negates, joins, opens, closes, stray, tokens_of}
 use Rattle.vk_expr.specs.Grammar.{Reads, CanGoOn}
-use Rattle.vk_expr.specs.Reading.{Fault, unexpected, mixed, unclosed, deep}
+use Rattle.vk_expr.specs.declared.faults.ExprFault.{ExprFault}
+use Rattle.vk_expr.specs.declared.faults.ExprFault.TheVariants as fault
 
 -- a readable text begins with these tokens and then this sign, wherever it stands
 abbrev pub CanStandAfter : List Token → Sign → Type 0
@@ -37,10 +38,10 @@ IsTooDeep before closes = ⊥
 IsTooDeep before stray = ⊥
 
 -- what a token tells that can't stand after these tokens: `mixed` or `deep` where it is so, and else itself
-pub data IsToldBy : List Token → Token → Fault → Type 0 where
-  mixes : (before : List Token) (at : ℕ) (sign : Sign) → IsMixed before sign → IsToldBy before (token at sign) (mixed at)
-  too_deep : (before : List Token) (at : ℕ) (sign : Sign) → IsTooDeep before sign → IsToldBy before (token at sign) deep
-  misplaced : (before : List Token) (at : ℕ) (sign : Sign) → (IsMixed before sign → ⊥) → (IsTooDeep before sign → ⊥) → IsToldBy before (token at sign) (unexpected at)
+pub data IsToldBy : List Token → Token → ExprFault → Type 0 where
+  mixes : (before : List Token) (at : ℕ) (sign : Sign) → IsMixed before sign → IsToldBy before (token at sign) (fault.Mixed at)
+  too_deep : (before : List Token) (at : ℕ) (sign : Sign) → IsTooDeep before sign → IsToldBy before (token at sign) fault.Deep
+  misplaced : (before : List Token) (at : ℕ) (sign : Sign) → (IsMixed before sign → ⊥) → (IsTooDeep before sign → ⊥) → IsToldBy before (token at sign) (fault.Unexpected at)
 
 -- a parenthesis is closed: the innermost one
 abbrev pub without_first : List ℕ → List ℕ
@@ -62,12 +63,12 @@ open_places ps [] = ps
 open_places ps (t ∷ ts) = open_places (open_after ps t) ts
 
 -- what the end of a text, at this place, tells after these tokens: the innermost open parenthesis, or itself
-pub data IsToldByEnd : ℕ → List Token → Fault → Type 0 where
-  too_short : (end : ℕ) (tokens : List Token) → open_places [] tokens ≡ [] → IsToldByEnd end tokens (unexpected end)
-  inside : (end at : ℕ) (outer : List ℕ) (tokens : List Token) → open_places [] tokens ≡ at ∷ outer → IsToldByEnd end tokens (unclosed at)
+pub data IsToldByEnd : ℕ → List Token → ExprFault → Type 0 where
+  too_short : (end : ℕ) (tokens : List Token) → open_places [] tokens ≡ [] → IsToldByEnd end tokens (fault.Unexpected end)
+  inside : (end at : ℕ) (outer : List ℕ) (tokens : List Token) → open_places [] tokens ≡ at ∷ outer → IsToldByEnd end tokens (fault.Open at)
 
 -- the first fault of a text: at its first token such that no readable text begins with the tokens up
 -- to it; or at the end of a text that isn't readable, where a readable text begins with all its tokens
-pub data IsFirstFault : List ℕ → Fault → Type 0 where
-  at_token : (text : List ℕ) (before after : List Token) (here : Token) (fault : Fault) → tokens_of text ≡ before ++ here ∷ after → CanGoOn before → (CanGoOn (before ++ here ∷ []) → ⊥) → IsToldBy before here fault → IsFirstFault text fault
-  at_end : (text : List ℕ) (fault : Fault) → CanGoOn (tokens_of text) → ((t : Condition) → Reads text t → ⊥) → IsToldByEnd (length text) (tokens_of text) fault → IsFirstFault text fault
+pub data IsFirstFault : List ℕ → ExprFault → Type 0 where
+  at_token : (text : List ℕ) (before after : List Token) (here : Token) (fault : ExprFault) → tokens_of text ≡ before ++ here ∷ after → CanGoOn before → (CanGoOn (before ++ here ∷ []) → ⊥) → IsToldBy before here fault → IsFirstFault text fault
+  at_end : (text : List ℕ) (fault : ExprFault) → CanGoOn (tokens_of text) → ((t : Condition) → Reads text t → ⊥) → IsToldByEnd (length text) (tokens_of text) fault → IsFirstFault text fault

@@ -1,15 +1,15 @@
-ghost use Rattle.std.specs.Prelude.{◌≡◌, Ok, Some, map};
+ghost use Rattle.std.specs.Prelude.{◌≡◌, Ok, map};
 ghost use Rattle.vk_spec.specs.Reading.{Gives};
 ghost use Rattle.vk_expr.specs.Grammar.{joined_by};
 ghost use Rattle.vk_expr.specs.Reading.{value_of, cut_off};
 ghost use Rattle.vk_expr.specs.Views.{condition_of};
-ghost use Rattle.vk_expr.specs.Faults.{expr_fault_of};
+ghost use Rattle.vk_base.specs.Stops.{fault_in};
 ghost use Rattle.vk_expr.specs.ReaderViews.{joint_of, chain_of, frame_of, frames_of, is_pending, is_negated};
 
 use crate::exprs::Expr;
 use crate::faults::ExprFault;
 use crate::tokens::Joint;
-use vk_base::List;
+use vk_base::{List, Unread};
 
 /// The members of a level that ended with an operator.
 #[derive(Drop)]
@@ -36,8 +36,8 @@ fn joined(joint: Joint, members: List<Expr>) -> Expr
 }
 
 /// The value of a level with its last member.
-pub(crate) fn value(chain: Chain, last: Expr) -> Result<Expr, ExprFault>
-    ensures { Gives condition_of expr_fault_of result (Ok (value_of (chain_of chain) (condition_of last))) }
+pub(crate) fn value(chain: Chain, last: Expr) -> Result<Expr, Unread<ExprFault>>
+    ensures { Gives condition_of fault_in result (Ok (value_of (chain_of chain) (condition_of last))) }
 {
     match chain {
         Chain::Single => Ok(last),
@@ -69,7 +69,7 @@ pub(crate) fn is_negated(frames: &List<Frame>) -> bool
 
 /// The fault of a text that ends here.
 pub(crate) fn cut_off(mut frames: List<Frame>, length: u32) -> ExprFault
-    ensures { expr_fault_of result ≡ Some (cut_off length (frames_of frames)) }
+    ensures { result ≡ cut_off length (frames_of frames) }
 {
     loop {
         match frames.pop() {

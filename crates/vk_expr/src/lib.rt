@@ -20,6 +20,3 @@ pub use marks::Marks;
 pub use printing::print;
 pub use reader::read;
 pub use truths::truth;
-
-#[cfg(test)]
-mod tests;

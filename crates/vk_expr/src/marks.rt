@@ -5,7 +5,7 @@ ghost use Rattle.std.specs.Str.{bytes_eq};
 use vk_base::{List, Text};
 
 /// The marks of a platform, such as `linux` or `x64`.
-#[derive(Drop)]
+#[derive(Clone, Drop)]
 pub struct Marks {
     /// The names of the marks, in any order.
     pub names: List<Text>,

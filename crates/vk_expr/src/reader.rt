@@ -3,9 +3,9 @@ ghost use Rattle.std.specs.List.{list_all};
 ghost use Rattle.vk_spec.specs.Reading.{Gives};
 ghost use Rattle.vk_spec.specs.Conditions.{negation};
 ghost use Rattle.vk_expr.specs.Tokens.{token, tokens_of, sign_begun, is_blank};
-ghost use Rattle.vk_expr.specs.Reading.{unexpected, wanted, ended, settled, deeper, joined_on, closed_on, same_joint, joined, start, step, steps, at_end, reading_of};
+ghost use Rattle.vk_expr.specs.Reading.{wanted, ended, settled, deeper, joined_on, closed_on, same_joint, joined, start, step, steps, at_end, reading_of};
 ghost use Rattle.vk_expr.specs.Views.{condition_of};
-ghost use Rattle.vk_expr.specs.Faults.{expr_fault_of};
+ghost use Rattle.vk_base.specs.Stops.{fault_in};
 ghost use Rattle.vk_expr.specs.ReaderViews.{joint_of, sign_of, chain_of, frame_of, frames_of, state_of};
 
 use crate::exprs::Expr;
@@ -13,7 +13,7 @@ use crate::faults::ExprFault;
 use crate::frames::{Chain, Frame, cut_off, is_negated, value};
 use crate::tokens::{Joint, Sign, is_blank, is_word_byte, sign_at};
 use std::alloc::Global;
-use vk_base::List;
+use vk_base::{List, Unread};
 
 /// What the tokens so far have led to.
 #[derive(Drop)]
@@ -22,8 +22,8 @@ pub(crate) enum State {
     Ended(List<Frame>, Chain, Expr),
 }
 
-fn negation(alloc: Global, member: Expr) -> Result<Expr, ExprFault>
-    ensures { Gives condition_of expr_fault_of result (Ok (negation (condition_of member))) }
+fn negation(alloc: Global, member: Expr) -> Result<Expr, Unread<ExprFault>>
+    ensures { Gives condition_of fault_in result (Ok (negation (condition_of member))) }
 {
     Ok(Expr::Not(Box::new(alloc, member)?))
 }
@@ -34,8 +34,8 @@ fn settled(
     mut frames: List<Frame>,
     chain: Chain,
     mut value: Expr,
-) -> Result<State, ExprFault>
-    ensures { Gives state_of expr_fault_of result (Ok (settled (frames_of frames) (chain_of chain) (condition_of value))) }
+) -> Result<State, Unread<ExprFault>>
+    ensures { Gives state_of fault_in result (Ok (settled (frames_of frames) (chain_of chain) (condition_of value))) }
 {
     while is_negated(&frames) {
         frames.pop();
@@ -45,11 +45,11 @@ fn settled(
 }
 
 /// One more NOT or parenthesis.
-fn deeper(mut frames: List<Frame>, frame: Frame, chain: Chain) -> Result<State, ExprFault>
-    ensures { Gives state_of expr_fault_of result (deeper (frames_of frames) (frame_of frame) (chain_of chain)) }
+fn deeper(mut frames: List<Frame>, frame: Frame, chain: Chain) -> Result<State, Unread<ExprFault>>
+    ensures { Gives state_of fault_in result (deeper (frames_of frames) (frame_of frame) (chain_of chain)) }
 {
     if frames.len() >= 64 {
-        return Err(ExprFault::Deep);
+        return Err(Unread::Fault(ExprFault::Deep));
     }
     frames.push(frame)?;
     Ok(State::Wanted(frames, chain))
@@ -63,22 +63,27 @@ fn step_wanted(
     chain: Chain,
     at: u32,
     sign: Sign,
-) -> Result<State, ExprFault>
-    ensures { Gives state_of expr_fault_of result (step (wanted (frames_of frames) (chain_of chain)) (token at (sign_of sign))) }
+) -> Result<State, Unread<ExprFault>>
+    ensures { Gives state_of fault_in result (step (wanted (frames_of frames) (chain_of chain)) (token at (sign_of sign))) }
 {
     match sign {
         Sign::Name(word) => settled(alloc, frames, chain, Expr::Mark(word)),
         Sign::Negates => deeper(frames, Frame::Pending, chain),
         Sign::Opens => deeper(frames, Frame::Around(at, chain), Chain::Single),
-        Sign::Joins(_) => Err(ExprFault::Unexpected { at }),
-        Sign::Closes => Err(ExprFault::Unexpected { at }),
-        Sign::Stray => Err(ExprFault::Unexpected { at }),
+        Sign::Joins(_) => Err(Unread::Fault(ExprFault::Unexpected { at })),
+        Sign::Closes => Err(Unread::Fault(ExprFault::Unexpected { at })),
+        Sign::Stray => Err(Unread::Fault(ExprFault::Unexpected { at })),
     }
 }
 
 /// A chain begins with its first member.
-fn begun(alloc: Global, frames: List<Frame>, joint: Joint, first: Expr) -> Result<State, ExprFault>
-    ensures { Gives state_of expr_fault_of result (Ok (wanted (frames_of frames) (joined (joint_of joint) (condition_of first ∷ [])))) }
+fn begun(
+    alloc: Global,
+    frames: List<Frame>,
+    joint: Joint,
+    first: Expr,
+) -> Result<State, Unread<ExprFault>>
+    ensures { Gives state_of fault_in result (Ok (wanted (frames_of frames) (joined (joint_of joint) (condition_of first ∷ [])))) }
 {
     let mut members = List::new(alloc);
     members.push(first)?;
@@ -91,8 +96,8 @@ fn grown(
     joint: Joint,
     mut members: List<Expr>,
     member: Expr,
-) -> Result<State, ExprFault>
-    ensures { Gives state_of expr_fault_of result (Ok (wanted (frames_of frames) (joined (joint_of joint) (map condition_of members ++ condition_of member ∷ [])))) }
+) -> Result<State, Unread<ExprFault>>
+    ensures { Gives state_of fault_in result (Ok (wanted (frames_of frames) (joined (joint_of joint) (map condition_of members ++ condition_of member ∷ [])))) }
 {
     members.push(member)?;
     Ok(State::Wanted(frames, Chain::Joined(joint, members)))
@@ -101,16 +106,7 @@ fn grown(
 fn is_same(one: Joint, other: Joint) -> bool
     ensures { result ≡ same_joint (joint_of one) (joint_of other) }
 {
-    match one {
-        Joint::Both => match other {
-            Joint::Both => true,
-            Joint::Either => false,
-        },
-        Joint::Either => match other {
-            Joint::Both => false,
-            Joint::Either => true,
-        },
-    }
+    one == other
 }
 
 /// An operator after a unary, and after a chain.
@@ -121,13 +117,13 @@ fn joined_later(
     member: Expr,
     at: u32,
     operator: Joint,
-) -> Result<State, ExprFault>
-    ensures { Gives state_of expr_fault_of result (joined_on at (joint_of operator) (frames_of frames) (joined (joint_of joint) (map condition_of members)) (condition_of member)) }
+) -> Result<State, Unread<ExprFault>>
+    ensures { Gives state_of fault_in result (joined_on at (joint_of operator) (frames_of frames) (joined (joint_of joint) (map condition_of members)) (condition_of member)) }
 {
     if is_same(operator, joint) {
         grown(frames, joint, members, member)
     } else {
-        Err(ExprFault::Mixed { at })
+        Err(Unread::Fault(ExprFault::Mixed { at }))
     }
 }
 
@@ -139,8 +135,8 @@ fn joined_on(
     member: Expr,
     at: u32,
     joint: Joint,
-) -> Result<State, ExprFault>
-    ensures { Gives state_of expr_fault_of result (joined_on at (joint_of joint) (frames_of frames) (chain_of chain) (condition_of member)) }
+) -> Result<State, Unread<ExprFault>>
+    ensures { Gives state_of fault_in result (joined_on at (joint_of joint) (frames_of frames) (chain_of chain) (condition_of member)) }
 {
     match chain {
         Chain::Single => begun(alloc, frames, joint, member),
@@ -156,11 +152,11 @@ fn closed(
     chain: Chain,
     last: Expr,
     at: u32,
-) -> Result<State, ExprFault>
-    ensures { Gives state_of expr_fault_of result (closed_on at (frame_of innermost ∷ frames_of frames) (chain_of chain) (condition_of last)) }
+) -> Result<State, Unread<ExprFault>>
+    ensures { Gives state_of fault_in result (closed_on at (frame_of innermost ∷ frames_of frames) (chain_of chain) (condition_of last)) }
 {
     match innermost {
-        Frame::Pending => Err(ExprFault::Unexpected { at }),
+        Frame::Pending => Err(Unread::Fault(ExprFault::Unexpected { at })),
         Frame::Around(_, outer) => settled(alloc, frames, outer, value(chain, last)?),
     }
 }
@@ -172,11 +168,11 @@ fn closed_on(
     chain: Chain,
     last: Expr,
     at: u32,
-) -> Result<State, ExprFault>
-    ensures { Gives state_of expr_fault_of result (closed_on at (frames_of frames) (chain_of chain) (condition_of last)) }
+) -> Result<State, Unread<ExprFault>>
+    ensures { Gives state_of fault_in result (closed_on at (frames_of frames) (chain_of chain) (condition_of last)) }
 {
     match frames.pop() {
-        None => Err(ExprFault::Unexpected { at }),
+        None => Err(Unread::Fault(ExprFault::Unexpected { at })),
         Some(innermost) => closed(alloc, frames, innermost, chain, last, at),
     }
 }
@@ -190,22 +186,22 @@ fn step_ended(
     last: Expr,
     at: u32,
     sign: Sign,
-) -> Result<State, ExprFault>
-    ensures { Gives state_of expr_fault_of result (step (ended (frames_of frames) (chain_of chain) (condition_of last)) (token at (sign_of sign))) }
+) -> Result<State, Unread<ExprFault>>
+    ensures { Gives state_of fault_in result (step (ended (frames_of frames) (chain_of chain) (condition_of last)) (token at (sign_of sign))) }
 {
     match sign {
         Sign::Joins(joint) => joined_on(alloc, frames, chain, last, at, joint),
         Sign::Closes => closed_on(alloc, frames, chain, last, at),
-        Sign::Name(_) => Err(ExprFault::Unexpected { at }),
-        Sign::Negates => Err(ExprFault::Unexpected { at }),
-        Sign::Opens => Err(ExprFault::Unexpected { at }),
-        Sign::Stray => Err(ExprFault::Unexpected { at }),
+        Sign::Name(_) => Err(Unread::Fault(ExprFault::Unexpected { at })),
+        Sign::Negates => Err(Unread::Fault(ExprFault::Unexpected { at })),
+        Sign::Opens => Err(Unread::Fault(ExprFault::Unexpected { at })),
+        Sign::Stray => Err(Unread::Fault(ExprFault::Unexpected { at })),
     }
 }
 
 /// What a token leads to.
-fn step(alloc: Global, state: State, at: u32, sign: Sign) -> Result<State, ExprFault>
-    ensures { Gives state_of expr_fault_of result (step (state_of state) (token at (sign_of sign))) }
+fn step(alloc: Global, state: State, at: u32, sign: Sign) -> Result<State, Unread<ExprFault>>
+    ensures { Gives state_of fault_in result (step (state_of state) (token at (sign_of sign))) }
 {
     match state {
         State::Wanted(frames, chain) => step_wanted(alloc, frames, chain, at, sign),
@@ -215,8 +211,13 @@ fn step(alloc: Global, state: State, at: u32, sign: Sign) -> Result<State, ExprF
 
 /// What a token leads to, if one begins here.
 #[tactic(auto, unfolding(crate::specs::Reading::steps))]
-fn step_maybe(alloc: Global, state: State, at: u32, sign: Option<Sign>) -> Result<State, ExprFault>
-    ensures { Gives state_of expr_fault_of result (steps (state_of state) (option_to_list (option_map (token at) (option_map sign_of sign)))) }
+fn step_maybe(
+    alloc: Global,
+    state: State,
+    at: u32,
+    sign: Option<Sign>,
+) -> Result<State, Unread<ExprFault>>
+    ensures { Gives state_of fault_in result (steps (state_of state) (option_to_list (option_map (token at) (option_map sign_of sign)))) }
 {
     match sign {
         None => Ok(state),
@@ -231,19 +232,19 @@ fn step_byte(
     bytes: &[u8],
     at: usize,
     inside: bool,
-) -> Result<State, ExprFault>
+) -> Result<State, Unread<ExprFault>>
     requires short { length bytes.now < 2 ^ 32 }
     requires within { at < length bytes.now }
-    ensures { Gives state_of expr_fault_of result (steps (state_of state) (option_to_list (option_map (token at) (sign_begun inside (slice_index bytes.now at) (drop (at + 1) bytes.now))))) }
+    ensures { Gives state_of fault_in result (steps (state_of state) (option_to_list (option_map (token at) (sign_begun inside (slice_index bytes.now at) (drop (at + 1) bytes.now))))) }
 {
     let sign = sign_at(alloc, bytes, at, inside)?;
     step_maybe(alloc, state, at as u32, sign)
 }
 
 /// What all tokens of a text lead to.
-fn run(alloc: Global, bytes: &[u8]) -> Result<State, ExprFault>
+fn run(alloc: Global, bytes: &[u8]) -> Result<State, Unread<ExprFault>>
     requires short { length bytes.now < 2 ^ 32 }
-    ensures { Gives state_of expr_fault_of result (steps start (tokens_of bytes.now)) }
+    ensures { Gives state_of fault_in result (steps start (tokens_of bytes.now)) }
 {
     let mut state = State::Wanted(List::new(alloc), Chain::Single);
     let mut inside = false;
@@ -261,23 +262,23 @@ fn finish_ended(
     chain: Chain,
     last: Expr,
     length: u32,
-) -> Result<Expr, ExprFault>
-    ensures { Gives condition_of expr_fault_of result (at_end length (ended (frames_of frames) (chain_of chain) (condition_of last))) }
+) -> Result<Expr, Unread<ExprFault>>
+    ensures { Gives condition_of fault_in result (at_end length (ended (frames_of frames) (chain_of chain) (condition_of last))) }
 {
     if frames.is_empty() {
         value(chain, last)
     } else {
-        Err(cut_off(frames, length))
+        Err(Unread::Fault(cut_off(frames, length)))
     }
 }
 
 /// What the end of a text makes of what its tokens led to.
 #[tactic(auto, unfolding(crate::specs::Reading::at_end))]
-fn finish(state: State, length: u32) -> Result<Expr, ExprFault>
-    ensures { Gives condition_of expr_fault_of result (at_end length (state_of state)) }
+fn finish(state: State, length: u32) -> Result<Expr, Unread<ExprFault>>
+    ensures { Gives condition_of fault_in result (at_end length (state_of state)) }
 {
     match state {
-        State::Wanted(frames, _) => Err(cut_off(frames, length)),
+        State::Wanted(frames, _) => Err(Unread::Fault(cut_off(frames, length))),
         State::Ended(frames, chain, last) => finish_ended(frames, chain, last, length),
     }
 }
@@ -295,9 +296,9 @@ fn is_blank_text(bytes: &[u8]) -> bool
 /// a name could stand, since more than 64 would be open, and else `Unexpected`. Where the text ends too
 /// early it is `Open` at the innermost parenthesis that isn't closed, or `Unexpected` at the end.
 #[tactic(auto, unfolding(crate::specs::Reading::reading_of))]
-pub fn read(alloc: Global, text: &str) -> Result<Expr, ExprFault>
+pub fn read(alloc: Global, text: &str) -> Result<Expr, Unread<ExprFault>>
     requires short { length text.now < 2 ^ 32 }
-    ensures { Gives condition_of expr_fault_of result (reading_of text.now) }
+    ensures { Gives condition_of fault_in result (reading_of text.now) }
 {
     let bytes = text.as_bytes();
     if is_blank_text(bytes) {

@@ -1,6 +1,6 @@
 ghost use Rattle.std.specs.Prelude.{◌≡◌, ◌+◌, ◌<◌, length, not, slice_index, drop, option_map, Ok};
 ghost use Rattle.vk_spec.specs.Reading.{Gives};
-ghost use Rattle.vk_expr.specs.Faults.{expr_fault_of};
+ghost use Rattle.vk_base.specs.Stops.{fault_in};
 ghost use Rattle.std.specs.List.{position};
 ghost use Rattle.std.specs.Str.{IsAscii};
 ghost use Rattle.vk_expr.specs.Tokens.{is_blank, is_word_byte, word_of, sign_begun, sign_of_word, sign_of_byte};
@@ -9,10 +9,10 @@ ghost use Rattle.vk_expr.specs.ReaderViews.{sign_of};
 use crate::faults::ExprFault;
 use std::alloc::Global;
 use std::str;
-use vk_base::Text;
+use vk_base::{Text, Unread};
 
 /// The two ways to join members.
-#[derive(Clone, Copy)]
+#[derive(Clone, Copy, PartialEq, Eq)]
 pub(crate) enum Joint {
     Both,
     Either,
@@ -73,8 +73,8 @@ fn word_text(word: &[u8]) -> &str
 
 /// What a word is.
 #[tactic(auto, unfolding(crate::specs::Tokens::sign_of_word))]
-fn sign_of_word(alloc: Global, word: &str) -> Result<Sign, ExprFault>
-    ensures { Gives sign_of expr_fault_of result (Ok (sign_of_word word.now)) }
+fn sign_of_word(alloc: Global, word: &str) -> Result<Sign, Unread<ExprFault>>
+    ensures { Gives sign_of fault_in result (Ok (sign_of_word word.now)) }
 {
     if word == "not" {
         return Ok(Sign::Negates);
@@ -101,8 +101,8 @@ fn sign_of_byte(byte: u8) -> Sign
 }
 
 /// What the word is that some bytes begin with.
-fn sign_of_front(alloc: Global, bytes: &[u8]) -> Result<Sign, ExprFault>
-    ensures { Gives sign_of expr_fault_of result (Ok (sign_of_word (word_of bytes.now))) }
+fn sign_of_front(alloc: Global, bytes: &[u8]) -> Result<Sign, Unread<ExprFault>>
+    ensures { Gives sign_of fault_in result (Ok (sign_of_word (word_of bytes.now))) }
 {
     sign_of_word(alloc, word_text(word(bytes)))
 }
@@ -115,9 +115,9 @@ pub(crate) fn sign_at(
     bytes: &[u8],
     at: usize,
     inside: bool,
-) -> Result<Option<Sign>, ExprFault>
+) -> Result<Option<Sign>, Unread<ExprFault>>
     requires { at < length bytes.now }
-    ensures { Gives (option_map sign_of) expr_fault_of result (Ok (sign_begun inside (slice_index bytes.now at) (drop (at + 1) bytes.now))) }
+    ensures { Gives (option_map sign_of) fault_in result (Ok (sign_begun inside (slice_index bytes.now at) (drop (at + 1) bytes.now))) }
 {
     let byte = bytes[at];
     if is_word_byte(byte) {

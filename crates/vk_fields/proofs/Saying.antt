@@ -1,25 +1,34 @@
 -- A fault that is told by its word.
-use Rattle.std.proofs.Common.{◌≡◌, refl}
+use Rattle.std.proofs.Common.{◌≡◌, refl, ap, ◌∙◌, sym}
 use Rattle.std.specs.Prelude.{Option, Some, None, option_map, Result, Ok, Err}
-use Rattle.vk_spec.specs.Reading.{Fails}
-use Rattle.vk_json.specs.Documents.{Fault}
+use Rattle.vk_spec.specs.Reading.{Fails, Gives}
+use Rattle.vk_base.specs.Stops.{fault_in}
+use Rattle.vk_base.specs.declared.stops.Unread.{Unread}
+use Rattle.vk_json.specs.declared.faults.FileFault.{FileFault}
 use Rattle.vk_json.specs.declared.faults.Why.{Why}
 use Rattle.vk_json.specs.Places.{here}
-use Rattle.vk_version.specs.Schemes as version
+use Rattle.vk_version.specs.declared.faults.VersionFault.{VersionFault}
 use Rattle.vk_version.specs.Readings.{unless}
-use Rattle.vk_fields.specs.Texts.{said_here}
+use Rattle.vk_fields.specs.Saying.{said_here, IsSaid}
 
 -- the fault that a rule told is, by its word, the fault of the value
-pub said_fails : {A F : Type 0} (word : F → Why) (part : Option F) (whole : Option Fault) (said : Result A F) → Fails part said → whole ≡ option_map (λ f. here (word f)) part → Fails whole (said_here word said)
+pub said_fails : {A F : Type 0} (word : F → Why) (part : Option F) (whole : Option FileFault) (said : Result A F) → Fails part said → whole ≡ option_map (λ f. here (word f)) part → Fails whole (said_here word said)
 said_fails word None whole said fails is = rw is tt
 said_fails word (Some f) whole said fails is = rw (is, fails) refl
 
+-- what a rule gives of a text is given of the value that is the text
+pub said_gives : {X A F : Type 0} (view : X → A) (word : F → Why) (part : Result X (Unread F)) (whole : Result X (Unread FileFault)) (read : Result A F) → Gives view fault_in part read → IsSaid word part whole → Gives view fault_in whole (said_here word read)
+said_gives view word (Ok x) (Ok y) read gives is = rw (gives, is) refl
+said_gives view word (Err e) (Err f) read gives is = said_fails word (fault_in e) (fault_in f) read gives is
+said_gives view word (Ok x) (Err f) read gives is = absurd is
+said_gives view word (Err e) (Ok y) read gives is = absurd is
+
 -- what keeps a rule may be any value, and what breaks it has the same fault whatever it would have been
-pub kept_by_any : {A B : Type 0} (broken : Option version.Fault) (x value : A) (y : B) → unless broken x ≡ Ok value → unless broken y ≡ Ok y
+pub kept_by_any : {A B : Type 0} (broken : Option VersionFault) (x value : A) (y : B) → unless broken x ≡ Ok value → unless broken y ≡ Ok y
 kept_by_any None x value y kept = refl
 kept_by_any (Some f) x value y kept = let no : Err f ≡ Ok value = kept in (cc)
 
-pub broken_for_any : {A B : Type 0} (broken : Option version.Fault) (told : Option version.Fault) (x : A) (y : B) → Fails told (unless broken x) → Fails told (unless broken y)
+pub broken_for_any : {A B : Type 0} (broken : Option VersionFault) (told : Option VersionFault) (x : A) (y : B) → Fails told (unless broken x) → Fails told (unless broken y)
 broken_for_any broken None x y fails = tt
 broken_for_any (Some f) (Some g) x y fails = let is : Err f ≡ Err g = fails in (cc)
 broken_for_any None (Some g) x y fails = let no : Ok x ≡ Err g = fails in (cc)

@@ -6,12 +6,12 @@ use Rattle.std.specs.Option.{is_some}
 use Rattle.serde_json.specs.Data.{Data}
 use Rattle.serde_json.specs.Find.{get}
 use Rattle.vk_spec.specs.Reading.{◌>>=◌}
-use Rattle.vk_json.specs.Documents.{Fault}
+use Rattle.vk_json.specs.declared.faults.FileFault.{FileFault}
 use Rattle.vk_version.specs.Schemes.{Scheme, relaxed, semver, date, string}
 use Rattle.vk_fields.specs.Versions.{key_of, after_found, only_scheme, scheme_in, scheme_by}
 
 -- one key that is there or isn't
-abbrev looks : (Scheme → Bool) → Option Scheme → Scheme → Result (Option Scheme) Fault
+abbrev looks : (Scheme → Bool) → Option Scheme → Scheme → Result (Option Scheme) FileFault
 looks there found next = if there next then after_found found next else Ok found
 
 by_tests : (there : Scheme → Bool) (a b c e : Bool) → there relaxed ≡ a → there semver ≡ b → there date ≡ c → there string ≡ e

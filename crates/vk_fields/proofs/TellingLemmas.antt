@@ -1,47 +1,55 @@
 -- What readings of texts and versions give, and where what they tell stands.
 use Rattle.std.proofs.Common.{◌≡◌, ◌≢◌, ℕ, Bool, true, false, List, refl, sym, subst}
-use Rattle.std.specs.Prelude.{Option, Some, None, IsSome, Result, Ok, Err, codes}
+use Rattle.std.specs.Prelude.{Option, Some, None, IsSome, IfSome, Result, Ok, Err, codes, if◌then◌else◌}
 use Rattle.std.specs.Option.{is_some}
 use Rattle.serde_json.specs.Data.{Data}
 use Rattle.serde_json.specs.Find.{get}
 use Rattle.vk_spec.specs.Reading.{◌>>=◌, or_fault}
-use Rattle.vk_base.specs.Names.{NameWrong, bad, reserved, IsName, IsFeatureName, NameRule, port_rule, named, name_fault, reads_name, reads_feature}
+use Rattle.vk_base.specs.declared.names.NameFault.{NameFault}
+use Rattle.vk_base.specs.declared.names.NameFault.TheVariants as the
+use Rattle.vk_base.specs.Names.{IsName, IsFeatureName, NameRule, port_rule, named, name_fault, reads_name, reads_feature}
 use Rattle.vk_base.specs.PathReading.{path_of}
 use Rattle.vk_base.proofs.NameLemmas.{rule_from_no_fault}
 use Rattle.vk_base.proofs.FeatureLemmas.{feature-holds, feature-same}
-use Rattle.vk_version.specs.Schemes as version
+use Rattle.vk_version.specs.declared.faults.VersionFault.{VersionFault}
+use Rattle.vk_version.specs.declared.faults.VersionFault.TheVariants as version
 use Rattle.vk_version.specs.Schemes.{Scheme, relaxed, semver, date, string}
-use Rattle.vk_version.specs.Readings.{reads_ask, reads_version, unless, string_fault}
-use Rattle.vk_expr.specs.Reading as expression
+use Rattle.vk_version.specs.Readings.{reads_ask, reads_version}
+use Rattle.vk_expr.specs.declared.faults.ExprFault.{ExprFault}
+use Rattle.vk_expr.specs.declared.faults.ExprFault.TheVariants as expression
 use Rattle.vk_expr.specs.Reading.{reading_of}
-use Rattle.vk_json.specs.Documents.{Fault}
+use Rattle.vk_json.specs.declared.faults.FileFault.{FileFault}
 use Rattle.vk_json.specs.declared.faults.Why.{Why}
 use Rattle.vk_json.specs.declared.faults.Why.TheVariants as why
-use Rattle.vk_json.specs.Places.{here}
+use Rattle.vk_json.specs.Places.{here, at_member}
 use Rattle.vk_json.specs.Readings.{text_at, number_at, wanted}
-use Rattle.vk_json.proofs.TellingLemmas.{Says, Reads, Anything, says_then, or_says, told_here, told_at, text_says, number_says, wanted_says, optional_or_says}
+use Rattle.vk_json.proofs.TellingLemmas.{Says, Reads, Anything, says_then, or_says, told_here, told_at, text_says, number_says, wanted_says, optional_or_says, optional_there}
 use Rattle.vk_fields.specs.Wording.{name_word, path_word, version_word, expression_word}
-use Rattle.vk_fields.specs.Texts.{said_here, by_rule, port_name_at, feature_name_at, path_at, expression_at, ask_at, plain_at}
-use Rattle.vk_fields.specs.Versions.{key_of, scheme_in, scheme_by, after_found, next_scheme, port_version_at, version_text_at, version_with, version_if, version_at, version_needed_at, ask_under}
+use Rattle.vk_fields.specs.Saying.{said_here}
+use Rattle.vk_fields.specs.Texts.{WrittenAsk, by_rule, port_name_at, feature_name_at, path_at, expression_at}
+use Rattle.vk_fields.specs.Texts.{ask_at, reads_plain, plain_at, reads_written, written_at}
+use Rattle.vk_fields.specs.Versions.{key_of, scheme_in, scheme_by, scheme_needed, after_found, next_scheme}
+use Rattle.vk_fields.specs.Versions.{port_version_at, version_text_at, version_under, version_if, version_at}
+use Rattle.vk_fields.specs.Versions.{version_needed_at, ask_under, with_port_beside, written_ask_under}
+use Rattle.vk_spec.specs.Versions.{Ask}
 use Rattle.vk_fields.proofs.Schemes.{by_is_in}
 
 -- ---- no rule's fault is told as a missing member
 
-pub name_there : (fault : NameWrong) → name_word fault ≢ why.Missing
-name_there (bad at) e = (cc)
-name_there reserved e = (cc)
+pub name_there : (fault : NameFault) → name_word fault ≢ why.Missing
+name_there (the.Bad at) e = (cc)
+name_there the.Reserved e = (cc)
 
-version_there : (fault : version.Fault) → version_word fault ≢ why.Missing
-version_there version.shape e = (cc)
-version_there version.number e = (cc)
-version_there version.day e = (cc)
-version_there version.suffix e = (cc)
+version_there : (fault : VersionFault) → version_word fault ≢ why.Missing
+version_there version.Shape e = (cc)
+version_there version.Number e = (cc)
+version_there version.Day e = (cc)
 
-expression_there : (fault : expression.Fault) → expression_word fault ≢ why.Missing
-expression_there (expression.unexpected at) e = (cc)
-expression_there (expression.mixed at) e = (cc)
-expression_there (expression.unclosed at) e = (cc)
-expression_there expression.deep e = (cc)
+expression_there : (fault : ExprFault) → expression_word fault ≢ why.Missing
+expression_there (expression.Unexpected at) e = (cc)
+expression_there (expression.Mixed at) e = (cc)
+expression_there (expression.Open at) e = (cc)
+expression_there expression.Deep e = (cc)
 
 -- ---- texts
 
@@ -77,10 +85,13 @@ pub ask_says : Reads Anything ask_at
 ask_says = by_rule_says version_word reads_ask Anything version_there (λ text ask e. tt)
 
 plain_says : Reads Anything plain_at
-plain_says = by_rule_says version_word (λ text. unless (string_fault text) text) Anything version_there (λ text plain e. tt)
+plain_says = by_rule_says version_word reads_plain Anything version_there (λ text plain e. tt)
 
-version_text_says : (scheme : Scheme) (port : ℕ) → Reads Anything (version_text_at scheme port)
-version_text_says scheme port = by_rule_says version_word (λ text. reads_version scheme text port) Anything version_there (λ text v e. tt)
+written_says : Reads Anything written_at
+written_says = by_rule_says version_word reads_written Anything version_there (λ text ask e. tt)
+
+version_text_says : (scheme : Scheme) → Reads Anything (version_text_at scheme)
+version_text_says scheme = by_rule_says version_word (λ text. reads_version scheme text 0) Anything version_there (λ text v e. tt)
 
 -- ---- versions
 
@@ -110,27 +121,48 @@ module _ (d : Data) where
   port_says : Says Anything d (port_version_at d)
   port_says = optional_or_says Anything number_at number_says (codes "port-version") d 0 tt
 
-  with_says : (scheme : Scheme) (port : Result ℕ Fault) → Says Anything d port → Says Anything d (version_with scheme port d)
-  with_says scheme (Ok port) says = wanted_says Anything (version_text_at scheme port) (version_text_says scheme port) (key_of scheme) d
-  with_says scheme (Err fault) says =
-      says_then Anything Anything d (wanted (version_text_at scheme 0) (key_of scheme) d) (λ version. Err fault) (wanted_says Anything (version_text_at scheme 0) (version_text_says scheme 0) (key_of scheme) d) (λ version any. says)
+  under_says : (scheme : Scheme) → Says Anything d (version_under scheme d)
+  unfolding version_under
+  under_says scheme =
+      says_then Anything Anything d _ _ (wanted_says Anything (version_text_at scheme) (version_text_says scheme) (key_of scheme) d) (λ version any.
+      says_then Anything Anything d _ _ port_says (λ port any. tt))
 
   if_says : (scheme : Option Scheme) → Says Anything d (version_if scheme d)
   if_says None = says_then Anything Anything d (port_version_at d) (λ port. Ok None) port_says (λ port any. tt)
-  if_says (Some scheme) = says_then Anything Anything d (version_with scheme (port_version_at d) d) (λ version. Ok (Some version)) (with_says scheme (port_version_at d) port_says) (λ version any. tt)
+  if_says (Some scheme) = says_then Anything Anything d (version_under scheme d) (λ version. Ok (Some version)) (under_says scheme) (λ version any. tt)
 
   pub version_says : Says Anything d (version_at d)
   unfolding version_at
   version_says = says_then Anything Anything d (scheme_in d) (λ scheme. version_if scheme d) scheme_says (λ scheme any. if_says scheme)
 
+  pub scheme_needed_says : Says Anything d (scheme_needed d)
+  scheme_needed_says = says_then Anything Anything d (scheme_in d) (or_fault (here why.NoVersion)) scheme_says (λ found any. or_says d why.NoVersion found (λ e. (cc)))
+
   pub version_needed_says : Says Anything d (version_needed_at d)
   unfolding version_needed_at
-  version_needed_says =
-      says_then Anything Anything d (scheme_in d) (λ found. or_fault (here why.NoVersion) found >>= λ scheme. version_with scheme (port_version_at d) d) scheme_says (λ found any.
-      says_then Anything Anything d (or_fault (here why.NoVersion) found) (λ scheme. version_with scheme (port_version_at d) d) (or_says d why.NoVersion found (λ e. (cc))) (λ scheme any. with_says scheme (port_version_at d) port_says))
+  version_needed_says = says_then Anything Anything d (scheme_needed d) (λ scheme. version_under scheme d) scheme_needed_says (λ scheme any. under_says scheme)
 
   pub ask_under_says : (key : List ℕ) → Says Anything d (ask_under key d)
   unfolding ask_under
   ask_under_says key =
-      says_then Anything Anything d (wanted plain_at key d) (λ text. port_version_at d >>= λ port. Ok (record { text = text; port = port })) (wanted_says Anything plain_at plain_says key d) (λ text any.
-      says_then Anything Anything d (port_version_at d) (λ port. Ok (record { text = text; port = port })) port_says (λ port any. tt))
+      says_then Anything Anything d _ _ (wanted_says Anything plain_at plain_says key d) (λ text any.
+      says_then Anything Anything d _ _ port_says (λ port any. tt))
+
+  -- a port-version that stands in both places stands beside the text
+  twice_by : (written : WrittenAsk) (port : ℕ) (member : Option Data) → get (codes "port-version") d ≡ member → IsSome member → Says Anything d (with_port_beside written (Some port))
+  twice_by written port None e there = let no : false ≡ true = there in (cc)
+  twice_by written port (Some v) e there = twice written.numbered
+    where
+      twice : (numbered : Bool) → Says {A = Ask} Anything d (if numbered then Err (at_member (codes "port-version") why.Twice) else Ok (record { text = written.ask.text; port = port }))
+      twice true = told_at (codes "port-version") d v why.Twice e (λ same. (cc))
+      twice false = tt
+
+  beside_says : (written : WrittenAsk) (port : Option ℕ) → IfSome port (λ n. IsSome (get (codes "port-version") d)) → Says Anything d (with_port_beside written port)
+  beside_says written None there = tt
+  beside_says written (Some port) there = twice_by written port (get (codes "port-version") d) refl there
+
+  pub written_ask_says : (key : List ℕ) → Says Anything d (written_ask_under key d)
+  unfolding written_ask_under
+  written_ask_says key =
+      says_then Anything Anything d _ _ (wanted_says Anything written_at written_says key d) (λ written any.
+      says_then (λ port. IfSome port (λ n. IsSome (get (codes "port-version") d))) Anything d _ _ (optional_there Anything number_at number_says (codes "port-version") d) (λ port there. beside_says written port there))

@@ -1,3 +1,5 @@
 pub mod Wording
+pub mod Saying
 pub mod Texts
+pub mod TextViews
 pub mod Versions

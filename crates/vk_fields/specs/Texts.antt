@@ -1,24 +1,20 @@
 -- Texts that have a rule of their own.
-use Rattle.std.specs.Prelude.{ℕ, List, Result, Ok, Err}
+use Rattle.std.specs.Prelude.{ℕ, Bool, List, Result, Ok}
+use Rattle.std.specs.List.{list_any}
 use Rattle.vk_spec.specs.Reading.{◌>>=◌}
 use Rattle.vk_spec.specs.Paths.{Path}
 use Rattle.vk_spec.specs.Versions.{Ask}
 use Rattle.vk_base.specs.Names.{reads_name, reads_feature, port_rule}
 use Rattle.vk_base.specs.PathReading.{path_of}
-use Rattle.vk_version.specs.Schemes as version
+use Rattle.vk_version.specs.declared.faults.VersionFault.{VersionFault}
+use Rattle.vk_version.specs.Texts.{is_hash}
 use Rattle.vk_version.specs.Readings.{reads_ask, unless, string_fault}
 use Rattle.vk_spec.specs.Conditions.{Condition}
 use Rattle.vk_expr.specs.Reading.{reading_of}
 use Rattle.vk_json.specs.declared.faults.Why.{Why}
-use Rattle.vk_json.specs.Documents.{Fault}
-use Rattle.vk_json.specs.Places.{here}
 use Rattle.vk_json.specs.Readings.{Reading, text_at}
 use Rattle.vk_fields.specs.Wording.{name_word, path_word, version_word, expression_word}
-
--- what a rule says of the value itself, its fault by its word
-abbrev pub said_here : {A F : Type 0} → (F → Why) → Result A F → Result A Fault
-said_here word (Ok x) = Ok x
-said_here word (Err fault) = Err (here (word fault))
+use Rattle.vk_fields.specs.Saying.{said_here}
 
 -- a text, and what a rule says of it
 abbrev pub by_rule : {A F : Type 0} → (F → Why) → (List ℕ → Result A F) → Reading A
@@ -42,9 +38,23 @@ abbrev pub ask_at : Reading Ask
 ask_at = by_rule version_word reads_ask
 
 -- what a version of any text may be
-abbrev pub judged_plain : List ℕ → Result (Unit {0}) version.Fault
+abbrev pub judged_plain : List ℕ → Result (Unit {0}) VersionFault
 judged_plain text = unless (string_fault text) tt
 
 -- the text of an ask without `#`
+abbrev pub reads_plain : List ℕ → Result (List ℕ) VersionFault
+reads_plain text = unless (string_fault text) text
+
 abbrev pub plain_at : Reading (List ℕ)
-plain_at = by_rule version_word (λ text. unless (string_fault text) text)
+plain_at = by_rule version_word reads_plain
+
+-- an ask, and whether its text says the port-version
+pub record WrittenAsk : Type 0 where
+  pub ask : Ask
+  pub numbered : Bool
+
+unfoldable pub reads_written : List ℕ → Result WrittenAsk VersionFault
+reads_written text = reads_ask text >>= λ ask. Ok (record { ask = ask; numbered = list_any is_hash text })
+
+abbrev pub written_at : Reading WrittenAsk
+written_at = by_rule version_word reads_written

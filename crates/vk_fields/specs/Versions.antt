@@ -1,5 +1,5 @@
 -- A version under one of its four keys, with the port-version beside it.
-use Rattle.std.specs.Prelude.{ℕ, List, [], ◌∷◌, Option, Some, None, Result, Ok, Err, codes, if◌then◌else◌}
+use Rattle.std.specs.Prelude.{ℕ, Bool, true, false, List, [], ◌∷◌, Option, Some, None, Result, Ok, Err, codes, if◌then◌else◌}
 use Rattle.std.specs.List.{filter}
 use Rattle.std.specs.Option.{is_some}
 use Rattle.serde_json.specs.Data.{Data}
@@ -8,12 +8,12 @@ use Rattle.vk_spec.specs.Reading.{◌>>=◌, or_fault}
 use Rattle.vk_spec.specs.Versions.{Version, Ask}
 use Rattle.vk_version.specs.Schemes.{Scheme, relaxed, semver, date, string}
 use Rattle.vk_version.specs.Readings.{reads_version}
+use Rattle.vk_json.specs.declared.faults.FileFault.{FileFault}
 use Rattle.vk_json.specs.declared.faults.Why.TheVariants as why
-use Rattle.vk_json.specs.Documents.{Fault}
-use Rattle.vk_json.specs.Places.{here, member_step}
-use Rattle.vk_json.specs.Readings.{Reading, number_at, wanted, optional_or}
+use Rattle.vk_json.specs.Places.{here, at_member}
+use Rattle.vk_json.specs.Readings.{Reading, number_at, wanted, optional, optional_or}
 use Rattle.vk_fields.specs.Wording.{version_word}
-use Rattle.vk_fields.specs.Texts.{by_rule, plain_at}
+use Rattle.vk_fields.specs.Texts.{WrittenAsk, by_rule, plain_at, written_at}
 
 -- the key of a scheme
 abbrev pub key_of : Scheme → List ℕ
@@ -24,46 +24,58 @@ key_of string = codes "version-string"
 
 -- the schemes whose keys are there, in the order in which they are looked for
 abbrev pub schemes_in : Data → List Scheme
-schemes_in d = filter (λ scheme. is_some (get (key_of scheme) d)) (relaxed ∷ semver ∷ date ∷ string ∷ [])
+schemes_in d =
+    filter (λ scheme. is_some (get (key_of scheme) d)) (relaxed ∷ semver ∷ date ∷ string ∷ [])
 
 -- at most one of them: a second one is the fault, at its key
-abbrev pub only_scheme : List Scheme → Result (Option Scheme) Fault
+abbrev pub only_scheme : List Scheme → Result (Option Scheme) FileFault
 only_scheme [] = Ok None
 only_scheme (scheme ∷ []) = Ok (Some scheme)
-only_scheme (scheme ∷ second ∷ rest) = Err (member_step (key_of second), why.TwoVersions)
+only_scheme (scheme ∷ second ∷ rest) = Err (at_member (key_of second) why.TwoVersions)
 
 -- the scheme of the one version key, if there is one
 abbrev pub scheme_in : Reading (Option Scheme)
 scheme_in d = only_scheme (schemes_in d)
 
-abbrev pub after_found : Option Scheme → Scheme → Result (Option Scheme) Fault
+abbrev pub after_found : Option Scheme → Scheme → Result (Option Scheme) FileFault
 after_found None next = Ok (Some next)
-after_found (Some found) next = Err (member_step (key_of next), why.TwoVersions)
+after_found (Some found) next = Err (at_member (key_of next) why.TwoVersions)
 
 -- the same key by key: the scheme found so far, and the next one
 abbrev pub next_scheme : Option Scheme → Scheme → Reading (Option Scheme)
-next_scheme found next d = if is_some (get (key_of next) d) then after_found found next else Ok found
+next_scheme found next d =
+    if is_some (get (key_of next) d) then after_found found next else Ok found
 
 unfoldable pub scheme_by : Reading (Option Scheme)
-scheme_by d = next_scheme None relaxed d >>= λ first. next_scheme first semver d >>= λ second. next_scheme second date d >>= λ third. next_scheme third string d
+scheme_by d = do
+  first ← next_scheme None relaxed d
+  second ← next_scheme first semver d
+  third ← next_scheme second date d
+  next_scheme third string d
+
+-- the scheme of the one version key that has to be there
+abbrev pub scheme_needed : Reading Scheme
+scheme_needed d = scheme_in d >>= or_fault (here why.NoVersion)
 
 -- the port-version, 0 where there is none
 abbrev pub port_version_at : Reading ℕ
 port_version_at = optional_or 0 number_at (codes "port-version")
 
--- a version's text, to be put together with a port-version
-abbrev pub version_text_at : Scheme → ℕ → Reading Version
-version_text_at scheme port = by_rule version_word (λ text. reads_version scheme text port)
+-- a version's text, read without a port-version
+abbrev pub version_text_at : Scheme → Reading Version
+version_text_at scheme = by_rule version_word (λ text. reads_version scheme text 0)
 
--- a version with this port-version, or with this fault of it, which the text's own fault comes before
-abbrev pub version_with : Scheme → Result ℕ Fault → Reading Version
-version_with scheme (Ok port) d = wanted (version_text_at scheme port) (key_of scheme) d
-version_with scheme (Err fault) d = wanted (version_text_at scheme 0) (key_of scheme) d >>= λ version. Err fault
+-- the version under the key of a scheme, with the port-version beside it
+unfoldable pub version_under : Scheme → Reading Version
+version_under scheme d = do
+  version ← wanted (version_text_at scheme) (key_of scheme) d
+  port ← port_version_at d
+  Ok (record version { port = port })
 
 -- the port-version alone, where no version is there
 abbrev pub version_if : Option Scheme → Reading (Option Version)
 version_if None d = port_version_at d >>= λ port. Ok None
-version_if (Some scheme) d = version_with scheme (port_version_at d) d >>= λ version. Ok (Some version)
+version_if (Some scheme) d = version_under scheme d >>= λ version. Ok (Some version)
 
 -- the version that an object's keys say, if they say one
 unfoldable pub version_at : Reading (Option Version)
@@ -71,11 +83,25 @@ version_at d = scheme_in d >>= λ scheme. version_if scheme d
 
 -- the version that an object's keys have to say: one of the keys has to be there
 unfoldable pub version_needed_at : Reading Version
-version_needed_at d = scheme_in d >>= λ found. or_fault (here why.NoVersion) found >>= λ scheme. version_with scheme (port_version_at d) d
+version_needed_at d = scheme_needed d >>= λ scheme. version_under scheme d
 
--- an ask whose text stands under a key
+-- an ask whose text stands under a key, without `#`, with the port-version beside it
 unfoldable pub ask_under : List ℕ → Reading Ask
 ask_under key d = do
   text ← wanted plain_at key d
   port ← port_version_at d
   Ok (record { text = text; port = port })
+
+-- a port-version may stand beside an ask whose text says none
+abbrev pub with_port_beside : WrittenAsk → Option ℕ → Result Ask FileFault
+with_port_beside written None = Ok written.ask
+with_port_beside written (Some port) =
+    if written.numbered then Err (at_member (codes "port-version") why.Twice)
+    else Ok (record { text = written.ask.text; port = port })
+
+-- an ask whose text stands under a key, and its port-version there after `#`, or beside it
+unfoldable pub written_ask_under : List ℕ → Reading Ask
+written_ask_under key d = do
+  written ← wanted written_at key d
+  port ← optional number_at (codes "port-version") d
+  with_port_beside written port

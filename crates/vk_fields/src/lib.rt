@@ -7,9 +7,11 @@ mod texts;
 mod versions;
 mod wording;
 
-pub use texts::{AskText, ExpressionText, FeatureNameText, PathText, PlainText, PortNameText};
-pub use versions::{ask_under, key, port_version, scheme, version, version_needed};
-pub use wording::{wrong_expression, wrong_name, wrong_path, wrong_version};
-
-#[cfg(test)]
-mod tests;
+pub use texts::{
+    AskText, ExpressionText, FeatureNameText, PathText, PlainText, PortNameText, ask_of,
+    expression_of, feature_name_of, path_of, port_name_of,
+};
+pub use versions::{
+    ask_under, key, port_version, scheme, scheme_needed, version, version_needed, written_ask_under,
+};
+pub use wording::{Worded, said};

@@ -1,33 +1,83 @@
 //! Texts that have a rule of their own.
-ghost use Rattle.std.specs.Prelude.{◌≡◌, List, ℕ};
+ghost use Rattle.std.specs.Prelude.{◌≡◌, List, ℕ, Option, Some};
+ghost use Rattle.std.specs.List.{list_any};
 ghost use Rattle.serde_json.specs.View.{view};
 ghost use Rattle.vk_spec.specs.Reading.{Gives};
 ghost use Rattle.vk_spec.specs.Paths.{Path};
 ghost use Rattle.vk_spec.specs.Versions as plain;
 ghost use Rattle.vk_base.specs.FeatureViews.{feature_view};
+ghost use Rattle.vk_base.specs.Names.{reads_name, reads_feature, port_rule};
+ghost use Rattle.vk_base.specs.PathReading.{path_of};
+ghost use Rattle.vk_base.specs.Stops.{fault_in};
 ghost use Rattle.vk_version.specs.AskViews.{ask_view};
 ghost use Rattle.vk_spec.specs.Conditions.{Condition};
 ghost use Rattle.vk_expr.specs.Views.{condition_of};
-ghost use Rattle.vk_expr.specs.Faults.{expr_fault_of};
 ghost use Rattle.vk_expr.specs.Reading.{reading_of};
-ghost use Rattle.vk_version.specs.Views.{version_fault_of};
-ghost use Rattle.vk_version.specs.Readings.{unless, string_fault};
-ghost use Rattle.vk_json.specs.DocumentView.{file_fault_of};
-ghost use Rattle.vk_fields.specs.Texts.{judged_plain, port_name_at, feature_name_at, path_at, expression_at, ask_at, plain_at};
+ghost use Rattle.vk_version.specs.Texts.{is_hash};
+ghost use Rattle.vk_version.specs.Readings.{reads_ask};
+ghost use Rattle.vk_fields.specs.Texts as texts;
+ghost use Rattle.vk_fields.specs.Texts.{judged_plain, reads_plain, reads_written};
+ghost use Rattle.vk_fields.specs.Texts.{port_name_at, feature_name_at, path_at, expression_at};
+ghost use Rattle.vk_fields.specs.Texts.{ask_at, plain_at, written_at};
+ghost use Rattle.vk_fields.specs.TextViews.{written_view};
+ghost use Rattle.vk_fields.specs.Wording.{name_word, path_word, version_word, expression_word};
+ghost use Rattle.vk_fields.specs.Saying.{said_here};
 
-use crate::wording::{wrong_expression, wrong_name, wrong_path, wrong_version};
+use crate::wording::said;
 use serde_json::Value;
 use std::alloc::Global;
-use vk_base::{FeatureName, PortName, Text, TreePath};
+use vk_base::{FeatureName, Memory, PortName, Text, TreePath, Unread};
 use vk_expr::{Expr, ExprFault};
 use vk_json::{FileFault, Reader, text};
 use vk_version::{Ask, Scheme, VersionFault, read, read_ask};
 
-/// Reads a port's name. `Text` comes for any other kind of value, `Name` for a text that is no name.
+/// The port's name that a text is. The fault is `Name` where it is none.
+#[tactic(auto, using(crate::proofs::Saying::said_gives))]
+pub fn port_name_of(alloc: Global, text: &str) -> Result<PortName, Unread<FileFault>>
+    ensures { Gives (λ name. name) fault_in result (said_here name_word (reads_name port_rule text.now)) }
+{
+    said(alloc, PortName::read(alloc, text))
+}
+
+/// The feature's name that a text is, which is `Named`. The fault is `Name` where it is none, and
+/// `Reserved` for `core` and `default`.
+#[tactic(auto, using(crate::proofs::Saying::said_gives))]
+pub fn feature_name_of(alloc: Global, text: &str) -> Result<FeatureName, Unread<FileFault>>
+    ensures { Gives feature_view fault_in result (said_here name_word (reads_feature text.now)) }
+{
+    said(alloc, FeatureName::read(alloc, text))
+}
+
+/// The path that a text is. The fault is `Path` where it is none.
+#[tactic(auto, using(crate::proofs::Saying::said_gives))]
+pub fn path_of(alloc: Global, text: &str) -> Result<TreePath, Unread<FileFault>>
+    ensures { Gives (λ path. path) fault_in result (said_here path_word (path_of text.now)) }
+{
+    said(alloc, TreePath::read(alloc, text))
+}
+
+/// The platform expression that a text is. The fault is `Unexpected`, `Mixed`, `Open` or `Depth`
+/// where it is none.
+#[tactic(auto, using(crate::proofs::Saying::said_gives))]
+pub fn expression_of(alloc: Global, text: &str) -> Result<Expr, Unread<FileFault>>
+    ensures { Gives condition_of fault_in result (said_here expression_word (reading_of text.now)) }
+{
+    said(alloc, read_expression(alloc, text))
+}
+
+/// What a text asks for. The fault is `Version` where it is no ask, and `Range` where its
+/// port-version is too large.
+#[tactic(auto, using(crate::proofs::Saying::said_gives))]
+pub fn ask_of(alloc: Global, text: &str) -> Result<Ask, Unread<FileFault>>
+    ensures { Gives ask_view fault_in result (said_here version_word (reads_ask text.now)) }
+{
+    said(alloc, read_ask(alloc, text))
+}
+
+/// Reads a port's name.
 #[derive(Drop)]
 pub struct PortNameText;
 
-#[tactic(auto, using(crate::proofs::Saying::said_fails))]
 impl Reader for PortNameText {
     type Out = PortName;
 
@@ -37,20 +87,15 @@ impl Reader for PortNameText {
 
     ghost reads = { λ r. port_name_at };
 
-    fn read(&self, alloc: Global, value: &Value) -> Result<PortName, FileFault> {
-        match PortName::read(alloc, text(alloc, value)?) {
-            Ok(name) => Ok(name),
-            Err(fault) => Err(wrong_name(alloc, fault)),
-        }
+    fn read(&self, alloc: Global, value: &Value) -> Result<PortName, Unread<FileFault>> {
+        port_name_of(alloc, text(alloc, value)?)
     }
 }
 
-/// Reads a feature's name, which is `Named`. `Name` comes for a text that is no name, `Reserved` for
-/// `core` and `default`.
+/// Reads a feature's name, which is `Named`.
 #[derive(Drop)]
 pub struct FeatureNameText;
 
-#[tactic(auto, using(crate::proofs::Saying::said_fails))]
 impl Reader for FeatureNameText {
     type Out = FeatureName;
 
@@ -60,19 +105,15 @@ impl Reader for FeatureNameText {
 
     ghost reads = { λ r. feature_name_at };
 
-    fn read(&self, alloc: Global, value: &Value) -> Result<FeatureName, FileFault> {
-        match FeatureName::read(alloc, text(alloc, value)?) {
-            Ok(name) => Ok(name),
-            Err(fault) => Err(wrong_name(alloc, fault)),
-        }
+    fn read(&self, alloc: Global, value: &Value) -> Result<FeatureName, Unread<FileFault>> {
+        feature_name_of(alloc, text(alloc, value)?)
     }
 }
 
-/// Reads a path. `Path` comes for a text that is no path.
+/// Reads a path.
 #[derive(Drop)]
 pub struct PathText;
 
-#[tactic(auto, using(crate::proofs::Saying::said_fails))]
 impl Reader for PathText {
     type Out = TreePath;
 
@@ -82,20 +123,15 @@ impl Reader for PathText {
 
     ghost reads = { λ r. path_at };
 
-    fn read(&self, alloc: Global, value: &Value) -> Result<TreePath, FileFault> {
-        match TreePath::read(alloc, text(alloc, value)?) {
-            Ok(path) => Ok(path),
-            Err(fault) => Err(wrong_path(alloc, fault)),
-        }
+    fn read(&self, alloc: Global, value: &Value) -> Result<TreePath, Unread<FileFault>> {
+        path_of(alloc, text(alloc, value)?)
     }
 }
 
-/// Reads a platform expression. `Unexpected`, `Mixed`, `Open` and `Depth` come for one that has that
-/// fault.
+/// Reads a platform expression.
 #[derive(Drop)]
 pub struct ExpressionText;
 
-#[tactic(auto, using(crate::proofs::Saying::said_fails))]
 impl Reader for ExpressionText {
     type Out = Expr;
 
@@ -105,19 +141,15 @@ impl Reader for ExpressionText {
 
     ghost reads = { λ r. expression_at };
 
-    fn read(&self, alloc: Global, value: &Value) -> Result<Expr, FileFault> {
-        match read_expression(alloc, text(alloc, value)?) {
-            Ok(condition) => Ok(condition),
-            Err(fault) => Err(wrong_expression(alloc, fault)),
-        }
+    fn read(&self, alloc: Global, value: &Value) -> Result<Expr, Unread<FileFault>> {
+        expression_of(alloc, text(alloc, value)?)
     }
 }
 
-/// Reads what a minimum asks for. `Version` and `Range` come for a text that has that fault.
+/// Reads what a minimum asks for.
 #[derive(Drop)]
 pub struct AskText;
 
-#[tactic(auto, using(crate::proofs::Saying::said_fails))]
 impl Reader for AskText {
     type Out = Ask;
 
@@ -127,19 +159,16 @@ impl Reader for AskText {
 
     ghost reads = { λ r. ask_at };
 
-    fn read(&self, alloc: Global, value: &Value) -> Result<Ask, FileFault> {
-        match read_ask(alloc, text(alloc, value)?) {
-            Ok(ask) => Ok(ask),
-            Err(fault) => Err(wrong_version(alloc, fault)),
-        }
+    fn read(&self, alloc: Global, value: &Value) -> Result<Ask, Unread<FileFault>> {
+        ask_of(alloc, text(alloc, value)?)
     }
 }
 
-/// Reads the text of an ask without `#`. `Version` comes for any other text.
+/// Reads the text of an ask without `#`. The fault is `Version` where it is any other text.
 #[derive(Drop)]
 pub struct PlainText;
 
-#[tactic(auto, using(crate::proofs::Saying::said_fails))]
+#[tactic(auto, using(crate::proofs::Saying::said_gives))]
 impl Reader for PlainText {
     type Out = Text;
 
@@ -149,38 +178,78 @@ impl Reader for PlainText {
 
     ghost reads = { λ r. plain_at };
 
-    fn read(&self, alloc: Global, value: &Value) -> Result<Text, FileFault> {
-        match read_plain(alloc, text(alloc, value)?) {
-            Ok(plain) => Ok(plain),
-            Err(fault) => Err(wrong_version(alloc, fault)),
-        }
+    fn read(&self, alloc: Global, value: &Value) -> Result<Text, Unread<FileFault>> {
+        said(alloc, read_plain(alloc, text(alloc, value)?))
+    }
+}
+
+/// An ask, and how it is written.
+#[derive(Drop)]
+pub(crate) struct WrittenAsk {
+    /// What it asks for.
+    pub ask: Ask,
+    /// Whether its text says the port-version, after `#`.
+    pub numbered: bool,
+}
+
+/// Reads an ask, with or without `#`.
+#[derive(Drop)]
+pub(crate) struct WrittenAskText;
+
+#[tactic(auto, using(crate::proofs::Saying::said_gives))]
+impl Reader for WrittenAskText {
+    type Out = WrittenAsk;
+
+    ghost Plain = { texts.WrittenAsk };
+
+    ghost plain = { written_view };
+
+    ghost reads = { λ r. written_at };
+
+    fn read(&self, alloc: Global, value: &Value) -> Result<WrittenAsk, Unread<FileFault>> {
+        said(alloc, read_written(alloc, text(alloc, value)?))
     }
 }
 
 // A text of 2^32 bytes or more stands in no file that a run reads, and places in it have no number:
 // reading it would want more memory than there is.
-fn read_expression(alloc: Global, text: &str) -> Result<Expr, ExprFault>
-    ensures { Gives condition_of expr_fault_of result (reading_of text.now) }
+fn read_expression(alloc: Global, text: &str) -> Result<Expr, Unread<ExprFault>>
+    ensures { Gives condition_of fault_in result (reading_of text.now) }
 {
     if text.len() > u32::MAX as usize {
-        return Err(ExprFault::Memory);
+        return Err(Unread::Memory(Memory::without_allocation()));
     }
     vk_expr::read(alloc, text)
 }
 
 // The text of an ask is what a version of any text may be.
 #[tactic(auto, using(crate::proofs::Saying::kept_by_any, crate::proofs::Saying::broken_for_any))]
-fn judge_plain(alloc: Global, text: &str) -> Result<(), VersionFault>
-    ensures { Gives (λ done. tt) version_fault_of result (judged_plain text.now) }
+fn judge_plain(alloc: Global, text: &str) -> Result<(), Unread<VersionFault>>
+    ensures { Gives (λ done. tt) fault_in result (judged_plain text.now) }
 {
     read(alloc, Scheme::Text, text, 0)?;
     Ok(())
 }
 
 #[tactic(auto, using(crate::proofs::Saying::kept_by_any, crate::proofs::Saying::broken_for_any))]
-fn read_plain(alloc: Global, text: &str) -> Result<Text, VersionFault>
-    ensures { Gives (λ t. t) version_fault_of result (unless (string_fault text.now) text.now) }
+fn read_plain(alloc: Global, text: &str) -> Result<Text, Unread<VersionFault>>
+    ensures { Gives (λ t. t) fault_in result (reads_plain text.now) }
 {
     judge_plain(alloc, text)?;
     Ok(Text::from_str(alloc, text)?)
+}
+
+fn has_hash(text: &str) -> bool
+    ensures { result ≡ list_any is_hash text.now }
+{
+    text.as_bytes().iter().any(|b| *b == b'#')
+}
+
+#[tactic(auto, unfolding(crate::specs::Texts::reads_written))]
+fn read_written(alloc: Global, text: &str) -> Result<WrittenAsk, Unread<VersionFault>>
+    ensures { Gives written_view fault_in result (reads_written text.now) }
+{
+    let ask = read_ask(alloc, text)?;
+    let numbered = has_hash(text);
+    Ok(WrittenAsk { ask, numbered })
 }

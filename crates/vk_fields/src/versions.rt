@@ -5,18 +5,23 @@ ghost use Rattle.serde_json.specs.Find.{get};
 ghost use Rattle.serde_json.specs.View.{view};
 ghost use Rattle.vk_spec.specs.Reading.{Gives};
 ghost use Rattle.vk_spec.specs.Versions as plain;
+ghost use Rattle.vk_base.specs.Stops.{fault_in};
 ghost use Rattle.vk_version.specs.AskViews.{ask_view};
 ghost use Rattle.vk_version.specs.Views.{scheme_view};
-ghost use Rattle.vk_json.specs.DocumentView.{file_fault_of};
-ghost use Rattle.vk_fields.specs.Versions.{key_of, next_scheme, scheme_by, scheme_in, port_version_at, version_text_at, version_with, version_if, version_at, version_needed_at, ask_under};
+ghost use Rattle.vk_fields.specs.TextViews.{written_view};
+ghost use Rattle.vk_fields.specs.Versions.{key_of, next_scheme, scheme_by, scheme_in, scheme_needed};
+ghost use Rattle.vk_fields.specs.Versions.{port_version_at, version_text_at, version_under};
+ghost use Rattle.vk_fields.specs.Versions.{version_if, version_at, version_needed_at, ask_under};
+ghost use Rattle.vk_fields.specs.Versions.{with_port_beside, written_ask_under};
 
-use crate::texts::PlainText;
-use crate::wording::wrong_version;
+use crate::texts::{PlainText, WrittenAsk, WrittenAskText};
+use crate::wording::said;
 use serde_json::Value;
 use std::alloc::Global;
-use vk_base::Text;
+use vk_base::Unread;
 use vk_json::{
-    FileFault, Reader, SmallNumber, Why, member, optional_or, text, under, wanted, wrong,
+    FileFault, Reader, SmallNumber, Why, member, optional, optional_or, text, wanted, wrong,
+    wrong_member,
 };
 use vk_version::{Ask, Scheme, Version, read};
 
@@ -44,8 +49,9 @@ fn next_scheme(
     value: &Value,
     found: Option<Scheme>,
     next: Scheme,
-) -> Result<Option<Scheme>, FileFault>
-    ensures { Gives (option_map scheme_view) file_fault_of result (next_scheme (option_map scheme_view found) (scheme_view next) (view value.now)) }
+) -> Result<Option<Scheme>, Unread<FileFault>>
+    ensures { Gives (option_map scheme_view) fault_in result
+        (next_scheme (option_map scheme_view found) (scheme_view next) (view value.now)) }
 {
     if !is_there(value, next) {
         return Ok(found);
@@ -53,16 +59,13 @@ fn next_scheme(
     if found.is_none() {
         return Ok(Some(next));
     }
-    Err(FileFault::Wrong {
-        place: under(alloc, &Text::new(alloc), key(next))?,
-        why: Why::TwoVersions,
-    })
+    Err(wrong_member(alloc, key(next), Why::TwoVersions))
 }
 
 // The scheme of the one version key, if there is one.
 #[tactic(auto, unfolding(crate::specs::Versions::scheme_by))]
-fn scheme_of(alloc: Global, value: &Value) -> Result<Option<Scheme>, FileFault>
-    ensures { Gives (option_map scheme_view) file_fault_of result (scheme_by (view value.now)) }
+fn scheme_of(alloc: Global, value: &Value) -> Result<Option<Scheme>, Unread<FileFault>>
+    ensures { Gives (option_map scheme_view) fault_in result (scheme_by (view value.now)) }
 {
     let first = next_scheme(alloc, value, None, Scheme::Relaxed)?;
     let second = next_scheme(alloc, value, first, Scheme::Semver)?;
@@ -70,31 +73,39 @@ fn scheme_of(alloc: Global, value: &Value) -> Result<Option<Scheme>, FileFault>
     next_scheme(alloc, value, third, Scheme::Text)
 }
 
-/// The scheme of the one version key, `None` where there is none. `TwoVersions` comes for a second
-/// key, at that key.
+/// The scheme of the one version key, `None` where there is none. The fault is `TwoVersions` at a
+/// second key.
 #[tactic(auto, using(crate::proofs::Schemes::by_is_in))]
-pub fn scheme(alloc: Global, value: &Value) -> Result<Option<Scheme>, FileFault>
-    ensures { Gives (option_map scheme_view) file_fault_of result (scheme_in (view value.now)) }
+pub fn scheme(alloc: Global, value: &Value) -> Result<Option<Scheme>, Unread<FileFault>>
+    ensures { Gives (option_map scheme_view) fault_in result (scheme_in (view value.now)) }
 {
     scheme_of(alloc, value)
 }
 
-/// The port-version beside a version, 0 where there is none. `Number` comes for anything but a whole
-/// number from 0 to 2^32 - 1.
-pub fn port_version(alloc: Global, value: &Value) -> Result<u32, FileFault>
-    ensures { Gives (λ port. port) file_fault_of result (port_version_at (view value.now)) }
+/// The scheme of the one version key, which has to be there. The fault is `NoVersion` where there is
+/// none, and `TwoVersions` at a second key.
+pub fn scheme_needed(alloc: Global, value: &Value) -> Result<Scheme, Unread<FileFault>>
+    ensures { Gives scheme_view fault_in result (scheme_needed (view value.now)) }
+{
+    match scheme(alloc, value)? {
+        Some(scheme) => Ok(scheme),
+        None => Err(wrong(alloc, Why::NoVersion)),
+    }
+}
+
+/// The port-version beside a version, 0 where there is none. The fault is `Number` where it is
+/// anything but a whole number from 0 to 2^32 - 1.
+pub fn port_version(alloc: Global, value: &Value) -> Result<u32, Unread<FileFault>>
+    ensures { Gives (λ port. port) fault_in result (port_version_at (view value.now)) }
 {
     optional_or(alloc, value, "port-version", &SmallNumber, 0)
 }
 
-// A version's text, to be put together with a port-version.
+// Reads a version's text, without a port-version.
 #[derive(Drop)]
-struct VersionText {
-    scheme: Scheme,
-    port: u32,
-}
+struct VersionText(Scheme);
 
-#[tactic(auto, using(crate::proofs::Saying::said_fails))]
+#[tactic(auto, using(crate::proofs::Saying::said_gives))]
 impl Reader for VersionText {
     type Out = Version;
 
@@ -102,35 +113,29 @@ impl Reader for VersionText {
 
     ghost plain = { λ v. v };
 
-    ghost reads = { λ r. version_text_at (scheme_view r.scheme) r.port };
+    ghost reads = { λ r. version_text_at (scheme_view r.0) };
 
-    fn read(&self, alloc: Global, value: &Value) -> Result<Version, FileFault> {
-        match read(alloc, self.scheme, text(alloc, value)?, self.port) {
-            Ok(version) => Ok(version),
-            Err(fault) => Err(wrong_version(alloc, fault)),
-        }
+    fn read(&self, alloc: Global, value: &Value) -> Result<Version, Unread<FileFault>> {
+        said(alloc, read(alloc, self.0, text(alloc, value)?, 0))
     }
 }
 
-fn version_under(alloc: Global, value: &Value, scheme: Scheme) -> Result<Version, FileFault>
-    ensures { Gives (λ v. v) file_fault_of result (version_with (scheme_view scheme) (port_version_at (view value.now)) (view value.now)) }
+#[tactic(auto, unfolding(crate::specs::Versions::version_under))]
+fn version_under(alloc: Global, value: &Value, scheme: Scheme) -> Result<Version, Unread<FileFault>>
+    ensures { Gives (λ v. v) fault_in result (version_under (scheme_view scheme) (view value.now)) }
 {
-    match port_version(alloc, value) {
-        Ok(port) => wanted(alloc, value, key(scheme), &VersionText { scheme, port }),
-        Err(FileFault::Memory) => Err(FileFault::Memory),
-        Err(fault) => {
-            wanted(alloc, value, key(scheme), &VersionText { scheme, port: 0 })?;
-            Err(fault)
-        }
-    }
+    let version = wanted(alloc, value, key(scheme), &VersionText(scheme))?;
+    let port = port_version(alloc, value)?;
+    Ok(version.with_port(port))
 }
 
 fn version_if(
     alloc: Global,
     value: &Value,
     scheme: Option<Scheme>,
-) -> Result<Option<Version>, FileFault>
-    ensures { Gives (λ v. v) file_fault_of result (version_if (option_map scheme_view scheme) (view value.now)) }
+) -> Result<Option<Version>, Unread<FileFault>>
+    ensures { Gives (λ v. v) fault_in result
+        (version_if (option_map scheme_view scheme) (view value.now)) }
 {
     match scheme {
         Some(scheme) => Ok(Some(version_under(alloc, value, scheme)?)),
@@ -142,35 +147,62 @@ fn version_if(
 }
 
 /// The version that an object's keys say, `None` where none of the four keys is there; the
-/// port-version is read in any case. `TwoVersions` comes for a second key, at that key; else what is
-/// wrong with the text, then with the port-version.
+/// port-version is read in any case. The first fault is a second key, then what is wrong with the
+/// text, then with the port-version.
 #[tactic(auto, unfolding(crate::specs::Versions::version_at))]
-pub fn version(alloc: Global, value: &Value) -> Result<Option<Version>, FileFault>
-    ensures { Gives (λ v. v) file_fault_of result (version_at (view value.now)) }
+pub fn version(alloc: Global, value: &Value) -> Result<Option<Version>, Unread<FileFault>>
+    ensures { Gives (λ v. v) fault_in result (version_at (view value.now)) }
 {
     let scheme = scheme(alloc, value)?;
     version_if(alloc, value, scheme)
 }
 
-/// The version that an object's keys have to say. `TwoVersions` comes for a second key, at that key,
-/// `NoVersion` where there is none; else what is wrong with the text, then with the port-version.
+/// The version that an object's keys have to say; the fault is `NoVersion` where none of the four
+/// keys is there.
 #[tactic(auto, unfolding(crate::specs::Versions::version_needed_at))]
-pub fn version_needed(alloc: Global, value: &Value) -> Result<Version, FileFault>
-    ensures { Gives (λ v. v) file_fault_of result (version_needed_at (view value.now)) }
+pub fn version_needed(alloc: Global, value: &Value) -> Result<Version, Unread<FileFault>>
+    ensures { Gives (λ v. v) fault_in result (version_needed_at (view value.now)) }
 {
-    match scheme(alloc, value)? {
-        Some(scheme) => version_under(alloc, value, scheme),
-        None => Err(wrong(alloc, Why::NoVersion)),
-    }
+    let scheme = scheme_needed(alloc, value)?;
+    version_under(alloc, value, scheme)
 }
 
-/// An ask whose text stands under this key, with the port-version beside it. `Version` comes for a
-/// text with `#`, since the port-version has its own key.
+/// An ask whose text stands under this key, with the port-version beside it. The fault is `Version`
+/// for a text with `#`, since the port-version has its own key.
 #[tactic(auto, unfolding(crate::specs::Versions::ask_under))]
-pub fn ask_under(alloc: Global, value: &Value, key: &str) -> Result<Ask, FileFault>
-    ensures { Gives ask_view file_fault_of result (ask_under key.now (view value.now)) }
+pub fn ask_under(alloc: Global, value: &Value, key: &str) -> Result<Ask, Unread<FileFault>>
+    ensures { Gives ask_view fault_in result (ask_under key.now (view value.now)) }
 {
     let text = wanted(alloc, value, key, &PlainText)?;
     let port = port_version(alloc, value)?;
     Ok(Ask { text, port })
+}
+
+// The ask with the port-version that stands beside it.
+fn with_port_beside(
+    alloc: Global,
+    written: WrittenAsk,
+    port: Option<u32>,
+) -> Result<Ask, Unread<FileFault>>
+    ensures { Gives ask_view fault_in result (with_port_beside (written_view written) port) }
+{
+    match port {
+        None => Ok(written.ask),
+        Some(_) if written.numbered => Err(wrong_member(alloc, "port-version", Why::Twice)),
+        Some(port) => Ok(Ask {
+            text: written.ask.text,
+            port,
+        }),
+    }
+}
+
+/// An ask whose text stands under this key, with its port-version after `#` or beside it. The fault
+/// is `Twice` at `port-version` where it stands in both places.
+#[tactic(auto, unfolding(crate::specs::Versions::written_ask_under))]
+pub fn written_ask_under(alloc: Global, value: &Value, key: &str) -> Result<Ask, Unread<FileFault>>
+    ensures { Gives ask_view fault_in result (written_ask_under key.now (view value.now)) }
+{
+    let written = wanted(alloc, value, key, &WrittenAskText)?;
+    let port = optional(alloc, value, "port-version", &SmallNumber)?;
+    with_port_beside(alloc, written, port)
 }

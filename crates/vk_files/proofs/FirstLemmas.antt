@@ -7,9 +7,9 @@ use Rattle.std.proofs.Math.ListN.{drop_of_length-le}
 use Rattle.vk_spec.specs.Files.{Files}
 use Rattle.vk_spec.specs.Reading.{Fails}
 use Rattle.vk_files.specs.Kept.{IsOf, Held, ReadOnce}
-use Rattle.vk_files.specs.StopViews.{refusal_in}
+use Rattle.vk_files.specs.StopViews.{fault_seen}
 use Rattle.vk_files.specs.Readings.{ReadsAs}
-use Rattle.vk_files.specs.declared.stops.Stop.{Stop}
+use Rattle.vk_base.specs.declared.stops.Stop.{Stop}
 use Rattle.vk_files.proofs.OnceLemmas.{nothing_read, once_then}
 use Rattle.vk_spec.proofs.OptionLemmas.{of_each, of_both}
 use Rattle.vk_files.proofs.ReadMore.{known_before}
@@ -69,8 +69,8 @@ module _ {X A : Type 0} (view : X → A) where
       → NoneYet view test i xs a b → ReadsAs {X = Bool} refusal (λ b. b) (Err s) (λ f. Ok (test f (view x))) b c → ReadsAs {X = Option R} refusal (option_map seen) (Err s) (λ f. Ok (find (test f) (map view xs))) a c
   first_stopped {P = P} refusal seen s test i xs x a b c so_far then = record {
     once = once_then so_far.once then.once;
-    content = of_both a.tree.told so_far.content (known_before (λ f. Fails (refusal_in refusal s) (said f)) so_far.once then.content)
-        (λ t sofar fails old. never (refusal_in refusal s) (test t.files (view x)) (find (test t.files) (map view xs)) (fails old));
+    content = of_both a.tree.told so_far.content (known_before (λ f. Fails (fault_seen refusal s) (said f)) so_far.once then.content)
+        (λ t sofar fails old. never (fault_seen refusal s) (test t.files (view x)) (find (test t.files) (map view xs)) (fails old));
   }
     where
       said : Files → Result Bool P

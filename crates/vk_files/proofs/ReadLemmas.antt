@@ -7,24 +7,24 @@ use Rattle.vk_spec.specs.Reading.{◌>>=◌, Gives, Fails}
 use Rattle.vk_spec.specs.States.{Told}
 use Rattle.vk_spec.proofs.StateLemmas.{told_before}
 use Rattle.vk_spec.proofs.ReadingLemmas.{fails_on, gives_then}
-use Rattle.vk_json.specs.Documents.{Fault}
+use Rattle.vk_json.specs.declared.faults.FileFault.{FileFault}
+use Rattle.vk_base.specs.Stops.{stop_fault_in, has_failed}
+use Rattle.vk_base.specs.declared.stops.Stop.TheVariants as stop
 use Rattle.vk_files.specs.Kept.{Seen, Kept, seen_at, paths_of, IsOf, IsSeen, Held, ReadOnce}
-use Rattle.vk_files.specs.StopViews.{refusal_in, has_tree_failed, stop_after, has_look_failed}
+use Rattle.vk_files.specs.StopViews.{fault_seen}
 use Rattle.vk_files.specs.Views.{kept_at, same_path}
 use Rattle.vk_files.specs.Readings.{Bad, IsFaultOf, told_at, ReadsAs}
-use Rattle.vk_files.specs.declared.stops.Stop.{Stop}
+use Rattle.vk_base.specs.declared.stops.Stop.{Stop}
 use Rattle.vk_files.proofs.OnceLemmas.{nothing_read, once_then}
 use Rattle.vk_files.proofs.NoteLemmas.{right_more, right_found}
 use Rattle.vk_spec.proofs.OptionLemmas.{of_each}
 use Rattle.vk_files.proofs.CacheLemmas.{path_is}
-use Rattle.vk_files.specs.declared.stops.LookStop.{LookStop}
-use Rattle.vk_files.specs.declared.stops.LookStop.TheVariants as look
 
-bad_is : (path : Path) (f : Fault) (bad : Bad) → bad.path ≡ path → f ≡ (bad.place, bad.why) → record { path = path; place = f.0; why = f.1 } ≡ bad
+bad_is : (path : Path) (f : FileFault) (bad : Bad) → bad.path ≡ path → f ≡ record { place = bad.place; why = bad.why } → record { path = path; place = f.place; why = f.why } ≡ bad
 bad_is path f bad one two = rw two (rw (← one) refl)
 
 -- a fault that is told is told with its file
-pub told_fails : {A : Type 0} (path : Path) (read : Result A Fault) (fault : Option Fault) (bad : Option Bad) → IfSome bad (IsFaultOf path fault) → Fails fault read → Fails bad (told_at path read)
+pub told_fails : {A : Type 0} (path : Path) (read : Result A FileFault) (fault : Option FileFault) (bad : Option Bad) → IfSome bad (IsFaultOf path fault) → Fails fault read → Fails bad (told_at path read)
 told_fails path read fault None is fails = tt
 told_fails path read None (Some bad) is fails = (cc)
 told_fails path read (Some f) (Some bad) is fails = rw fails (ap Err (bad_is path f bad is.0 (cc)))
@@ -38,7 +38,7 @@ still_right {a = a} {b = b} r = by a.tree.told r.right
     by (Some t) right = λ old. subst (IsOf t.files) (sym r.kept) (right_more (IsSeen t.files) a.kept r.more old right)
 
 -- what needs no tree
-pub reads_pure : {X Y F P : Type 0} (refusal : F → P) (view : X → Y) (answer : Result X (Stop F)) (meaning : Files → Result Y P) (h : Held) → has_tree_failed answer ≡ false → ((f : Files) → Gives view (refusal_in refusal) answer (meaning f)) → ReadsAs refusal view answer meaning h h
+pub reads_pure : {X Y F P : Type 0} (refusal : F → P) (view : X → Y) (answer : Result X (Stop F)) (meaning : Files → Result Y P) (h : Held) → has_failed answer ≡ false → ((f : Files) → Gives view (fault_seen refusal) answer (meaning f)) → ReadsAs refusal view answer meaning h h
 reads_pure refusal view answer meaning h calm gives = record {
   once = rw calm (nothing_read h);
   content = of_each h.tree.told (λ t _. gives t.files);
@@ -50,13 +50,13 @@ pub reads_then : {X Y Z W F P : Type 0} {refusal : F → P} {view : X → Y} {ne
 reads_then {refusal = refusal} {view = view} {next_view = next_view} {x = x} {answer = answer} {meaning = meaning} {a = a} {b = b} next first then = record {
   once = once_then first.once then.once;
   content = three a.tree.told (still_right first.once) first.content
-      (told_before (λ f. IsOf f b.kept → Gives next_view (refusal_in refusal) answer (next (view x) f)) (record { asked = paths_of first.once.more; looks = first.once.looks }) then.content);
+      (told_before (λ f. IsOf f b.kept → Gives next_view (fault_seen refusal) answer (next (view x) f)) (record { asked = paths_of first.once.more; looks = first.once.looks }) then.content);
 }
   where
     three : (told : Option Told) → IfSome told (λ t. IsOf t.files a.kept → IsOf t.files b.kept) → IfSome told (λ t. IsOf t.files a.kept → meaning t.files ≡ Ok (view x))
-        → IfSome told (λ t. IsOf t.files b.kept → Gives next_view (refusal_in refusal) answer (next (view x) t.files)) → IfSome told (λ t. IsOf t.files a.kept → Gives next_view (refusal_in refusal) answer (meaning t.files >>= λ y. next y t.files))
+        → IfSome told (λ t. IsOf t.files b.kept → Gives next_view (fault_seen refusal) answer (next (view x) t.files)) → IfSome told (λ t. IsOf t.files a.kept → Gives next_view (fault_seen refusal) answer (meaning t.files >>= λ y. next y t.files))
     three None right is gives = tt
-    three (Some t) right is gives = λ old. gives_then view (refusal_in refusal) next_view x answer (meaning t.files) (λ y. next y t.files) (is old) (gives (right old))
+    three (Some t) right is gives = λ old. gives_then view (fault_seen refusal) next_view x answer (meaning t.files) (λ y. next y t.files) (is old) (gives (right old))
 
 -- reading stopped, so nothing more was read
 pub reads_stopped : {X Y Z W F P : Type 0} {refusal : F → P} {view : X → Y} {s : Stop F} {meaning : Files → Result Y P} {a b : Held} (next_view : Z → W) (next : Y → Files → Result W P)
@@ -66,26 +66,30 @@ reads_stopped {refusal = refusal} {s = s} {meaning = meaning} {a = a} next_view 
   content = all a.tree.told one.content;
 }
   where
-    all : (told : Option Told) → IfSome told (λ t. IsOf t.files a.kept → Fails (refusal_in refusal s) (meaning t.files)) → IfSome told (λ t. IsOf t.files a.kept → Fails (refusal_in refusal s) (meaning t.files >>= λ y. next y t.files))
+    all : (told : Option Told) → IfSome told (λ t. IsOf t.files a.kept → Fails (fault_seen refusal s) (meaning t.files)) → IfSome told (λ t. IsOf t.files a.kept → Fails (fault_seen refusal s) (meaning t.files >>= λ y. next y t.files))
     all None fails = tt
-    all (Some t) fails = λ old. fails_on (refusal_in refusal s) (meaning t.files) (λ y. next y t.files) (fails old)
+    all (Some t) fails = λ old. fails_on (fault_seen refusal s) (meaning t.files) (λ y. next y t.files) (fails old)
+
+no_fault : {F P : Type 0} (refusal : F → P) (s : Stop F) → stop_fault_in s ≡ None → fault_seen refusal s ≡ None
+no_fault refusal (stop.Fault fault) none = (cc)
+no_fault refusal stop.Failed none = refl
+no_fault refusal (stop.Memory m) none = refl
 
 -- a path that wasn't looked at tells nothing
-pub not_looked : {X Y F P : Type 0} (refusal : F → P) (view : X → Y) (meaning : Files → Result Y P) (s : LookStop) (a b : Held) → ReadOnce (has_look_failed {X = Unit {0}} (Err s)) a b → ReadsAs {X = X} refusal view (Err (stop_after s)) meaning a b
-not_looked refusal view meaning look.TreeFailed a b once = record { once = once; content = of_each a.tree.told (λ t _. tt) }
-not_looked refusal view meaning look.Memory a b once = record { once = once; content = of_each a.tree.told (λ t _. tt) }
+pub not_looked : {X Y F P : Type 0} (refusal : F → P) (view : X → Y) (meaning : Files → Result Y P) (s : Stop F) (a b : Held) → stop_fault_in s ≡ None → ReadOnce (has_failed {A = X} (Err s)) a b → ReadsAs {X = X} refusal view (Err s) meaning a b
+not_looked refusal view meaning s a b none once = record { once = once; content = of_each a.tree.told (λ t _. rw (no_fault refusal s none) tt) }
 
 seen_there : (path : Path) (seen : Seen) (files : Files) (kept : Kept) → IsOf files kept → kept_at path kept ≡ Some seen → seen ≡ seen_at path files
 seen_there path seen files kept right found = right_found (IsSeen files) same_path path_is kept path seen right found
 
 -- a path was looked at, and the answer goes by what was seen there
 pub reads_seen : {X Y F P : Type 0} (refusal : F → P) (view : X → Y) (answer : Result X (Stop F)) (meaning : Seen → Result Y P) (path : Path) (seen : Seen) (a b : Held)
-    → ReadOnce false a b → kept_at path b.kept ≡ Some seen → has_tree_failed answer ≡ false → Gives view (refusal_in refusal) answer (meaning seen) → ReadsAs refusal view answer (λ f. meaning (seen_at path f)) a b
+    → ReadOnce false a b → kept_at path b.kept ≡ Some seen → has_failed answer ≡ false → Gives view (fault_seen refusal) answer (meaning seen) → ReadsAs refusal view answer (λ f. meaning (seen_at path f)) a b
 reads_seen refusal view answer meaning path seen a b once found calm gives = record {
   once = rw calm once;
   content = by a.tree.told (still_right once);
 }
   where
-    by : (told : Option Told) → IfSome told (λ t. IsOf t.files a.kept → IsOf t.files b.kept) → IfSome told (λ t. IsOf t.files a.kept → Gives view (refusal_in refusal) answer (meaning (seen_at path t.files)))
+    by : (told : Option Told) → IfSome told (λ t. IsOf t.files a.kept → IsOf t.files b.kept) → IfSome told (λ t. IsOf t.files a.kept → Gives view (fault_seen refusal) answer (meaning (seen_at path t.files)))
     by None right = tt
-    by (Some t) right = λ old. subst (λ x. Gives view (refusal_in refusal) answer (meaning x)) (seen_there path seen t.files b.kept (right old) found) gives
+    by (Some t) right = λ old. subst (λ x. Gives view (fault_seen refusal) answer (meaning x)) (seen_there path seen t.files b.kept (right old) found) gives

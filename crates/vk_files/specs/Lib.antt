@@ -1,5 +1,6 @@
 pub mod Notes
 pub mod Kept
+pub mod ReadFaults
 pub mod Views
 pub mod StopViews
 pub mod Readings

@@ -3,14 +3,15 @@ use Rattle.std.specs.Prelude.{◌≡◌, ℕ, Bool, true, false, List, Option, S
 use Rattle.vk_spec.specs.Paths.{Path}
 use Rattle.vk_spec.specs.Files.{Files}
 use Rattle.vk_spec.specs.Reading.{Gives}
-use Rattle.vk_json.specs.Documents.{Fault}
+use Rattle.vk_json.specs.declared.faults.FileFault.{FileFault}
+use Rattle.vk_base.specs.Stops.{has_failed}
 use Rattle.vk_json.specs.Places.{here}
 use Rattle.vk_json.specs.declared.faults.Why.{Why}
 use Rattle.vk_json.specs.declared.faults.Why.TheVariants as why
 use Rattle.vk_files.specs.Kept.{Seen, absent, too_large, holds, seen_at, IsOf, Held, ReadOnce}
-use Rattle.vk_files.specs.StopViews.{refusal_in, has_tree_failed}
-use Rattle.vk_files.specs.declared.stops.Stop.{Stop}
-use Rattle.vk_files.specs.declared.stops.BadFile.{BadFile}
+use Rattle.vk_files.specs.StopViews.{fault_seen}
+use Rattle.vk_base.specs.declared.stops.Stop.{Stop}
+use Rattle.vk_files.specs.declared.bad_files.BadFile.{BadFile}
 
 -- a file that isn't as it has to be: its path, the place in it, and why
 pub record Bad : Type 0 where
@@ -22,13 +23,13 @@ abbrev pub bad_view : BadFile → Bad
 bad_view bad = record { path = bad.path; place = bad.place; why = bad.why }
 
 -- a fault, told with its file
-abbrev pub told_at : {A : Type 0} → Path → Result A Fault → Result A Bad
+abbrev pub told_at : {A : Type 0} → Path → Result A FileFault → Result A Bad
 told_at path (Ok x) = Ok x
-told_at path (Err fault) = Err (record { path = path; place = fault.0; why = fault.1 })
+told_at path (Err fault) = Err (record { path = path; place = fault.place; why = fault.why })
 
 -- this is that fault of that file, where there is one to tell
-abbrev pub IsFaultOf : Path → Option Fault → Bad → Type 0
-IsFaultOf path fault bad = (bad.path ≡ path) × (fault ≡ Some (bad.place, bad.why))
+abbrev pub IsFaultOf : Path → Option FileFault → Bad → Type 0
+IsFaultOf path fault bad = (bad.path ≡ path) × (fault ≡ Some (record { place = bad.place; why = bad.why }))
 
 -- how a file stands: it isn't there, it is too long, or it can be read
 pub data Standing : Type 0 where
@@ -37,13 +38,13 @@ pub data Standing : Type 0 where
   readable : Standing
 
 -- what the file means that was seen
-abbrev pub seen_file : {A : Type 0} → (List ℕ → Result A Fault) → Seen → Result A Fault
+abbrev pub seen_file : {A : Type 0} → (List ℕ → Result A FileFault) → Seen → Result A FileFault
 seen_file reading absent = Err (here why.Absent)
 seen_file reading too_large = Err (here why.Large)
 seen_file reading (holds bytes) = reading bytes
 
 -- what the file at a path means: it has to be there, and no longer than the longest that is read
-abbrev pub file_at : {A : Type 0} → (List ℕ → Result A Fault) → Path → Files → Result A Bad
+abbrev pub file_at : {A : Type 0} → (List ℕ → Result A FileFault) → Path → Files → Result A Bad
 file_at reading path files = told_at path (seen_file reading (seen_at path files))
 
 abbrev pub standing_by : Seen → Standing
@@ -65,10 +66,10 @@ is_at files path = is_there (standing_at path files)
 
 -- nothing but reading was done, and what was found is kept; and where the files are told and what was kept is theirs, the answer is what they give
 pub record ReadsAs {X Y F P : Type 0} (refusal : F → P) (view : X → Y) (answer : Result X (Stop F)) (meaning : Files → Result Y P) (before after : Held) : Type 0 where
-  pub once : ReadOnce (has_tree_failed answer) before after
-  pub content : IfSome before.tree.told (λ t. IsOf t.files before.kept → Gives view (refusal_in refusal) answer (meaning t.files))
+  pub once : ReadOnce (has_failed answer) before after
+  pub content : IfSome before.tree.told (λ t. IsOf t.files before.kept → Gives view (fault_seen refusal) answer (meaning t.files))
 
 -- the same of a reader that keeps notes besides: where the notes were right, they are right after it, and the answer is what the files give
 pub record ReadsNoting {X Y F P : Type 0} (refusal : F → P) (view : X → Y) (answer : Result X (Stop F)) (meaning : Files → Result Y P) (Before After : Files → Type 0) (before after : Held) : Type 0 where
-  pub once : ReadOnce (has_tree_failed answer) before after
-  pub content : IfSome before.tree.told (λ t. IsOf t.files before.kept → Before t.files → After t.files × Gives view (refusal_in refusal) answer (meaning t.files))
+  pub once : ReadOnce (has_failed answer) before after
+  pub content : IfSome before.tree.told (λ t. IsOf t.files before.kept → Before t.files → After t.files × Gives view (fault_seen refusal) answer (meaning t.files))

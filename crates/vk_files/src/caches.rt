@@ -1,19 +1,22 @@
-ghost use Rattle.std.specs.Prelude.{◌≡◌, ◌<◌, ◌++◌, ◌∷◌, [], ℕ, List, Option, None, IsSome, OnOk, IfOk, length, option_map};
+//! What was read of a tree, by path.
+ghost use Rattle.std.specs.Prelude.{◌≡◌, ◌<◌, ◌++◌, ◌∷◌, [], ℕ, List, Option, None, IsSome, OnOk, IfOk, IfErr, length, option_map};
 ghost use Rattle.std.specs.Option.{option_copied};
 ghost use Rattle.indexmap.specs.IndexMap.{spare};
 ghost use Rattle.vk_spec.specs.Lists.{NoRepeats};
 ghost use Rattle.vk_spec.specs.Paths.{Path};
-ghost use Rattle.vk_spec.specs.Calls.{ReadsFile, NoLonger, noted};
+ghost use Rattle.vk_spec.specs.Standing.{Disk};
+ghost use Rattle.vk_spec.specs.Calls.{Says, NoLonger, read_of, noted};
 ghost use Rattle.vk_tree.specs.Answers.{read_answer, read_failed};
 ghost use Rattle.vk_files.specs.Kept.{ReadOnce, most_bytes, paths_of, seen_in};
 ghost use Rattle.vk_files.specs.Views.{held, kept_of, kept_at, seen_view};
-ghost use Rattle.vk_files.specs.StopViews.{has_look_failed, noted_by};
+ghost use Rattle.vk_base.specs.Stops.{has_failed, stop_fault_in};
+ghost use Rattle.vk_files.specs.StopViews.{noted_by};
+ghost use Rattle.vk_files.specs.ReadFaults.{seen_by};
 
 use crate::found::{FileBytes, Found};
-use crate::stops::LookStop;
 use indexmap::IndexMap;
 use std::alloc::Global;
-use vk_base::{List, TreePath};
+use vk_base::{List, Stop, TreePath};
 use vk_tree::{ReadFault, Tree};
 
 /// The longest file that is read, in bytes.
@@ -25,19 +28,30 @@ pub struct FileCache {
     found: IndexMap<TreePath, Found>,
 }
 
+// What a read that is refused found.
+fn found_by(fault: ReadFault) -> Found
+    ensures { seen_view result ≡ seen_by fault }
+{
+    match fault {
+        ReadFault::Missing => Found::Absent,
+        ReadFault::TooLarge => Found::TooLarge,
+    }
+}
+
 // What a call of the tree found.
-fn found_in(read: Result<List<u8>, ReadFault>) -> Result<Found, LookStop>
+#[tactic(auto, using(crate::proofs::OnceLemmas::seen_by_fault))]
+fn found_in<F>(read: Result<List<u8>, Stop<ReadFault>>) -> Result<Found, Stop<F>>
     requires { NoLonger most_bytes (read_answer read) }
-    ensures seen { (o : Option (List ℕ)) → ReadsFile o most_bytes (read_answer read) → IfOk result (λ found. seen_view found ≡ seen_in o) }
-    ensures failed { has_look_failed result ≡ read_failed read }
+    ensures seen { (path : Path) (d : Disk) → Says (read_of path most_bytes) (read_answer read) d → IfOk result (λ found. seen_view found ≡ seen_in (d path)) }
+    ensures no_fault { IfErr result (λ e. stop_fault_in e ≡ None) }
+    ensures failed { has_failed result ≡ read_failed read }
     ensures noted { (path : Path) → noted path (read_answer read) ≡ noted_by path result }
 {
     match read {
         Ok(bytes) => Ok(Found::Bytes(FileBytes { bytes })),
-        Err(ReadFault::Missing) => Ok(Found::Absent),
-        Err(ReadFault::TooLarge) => Ok(Found::TooLarge),
-        Err(ReadFault::Failed) => Err(LookStop::TreeFailed),
-        Err(ReadFault::Memory) => Err(LookStop::Memory),
+        Err(Stop::Fault(fault)) => Ok(found_by(fault)),
+        Err(Stop::Failed) => Err(Stop::Failed),
+        Err(Stop::Memory(memory)) => Err(Stop::Memory(memory)),
     }
 }
 
@@ -76,11 +90,12 @@ impl FileCache {
 
     // Asks the tree for a path that it wasn't asked for yet. The room for what stands there is taken
     // first, so that nothing that was read is forgotten.
-    #[tactic(auto, using(crate::proofs::OnceLemmas::still_read, crate::proofs::OnceLemmas::found_read, crate::proofs::OnceLemmas::seen_told, crate::proofs::CacheLemmas::last_kept))]
-    fn ask<T: Tree>(&mut self, tree: &mut T, path: &TreePath) -> Result<(), LookStop>
+    #[tactic(auto, using(crate::proofs::OnceLemmas::still_read, crate::proofs::OnceLemmas::found_read, crate::proofs::OnceLemmas::nothing_found, crate::proofs::OnceLemmas::seen_told, crate::proofs::CacheLemmas::last_kept))]
+    fn ask<T: Tree, F>(&mut self, tree: &mut T, path: &TreePath) -> Result<(), Stop<F>>
         requires { kept_at path.now (kept_of self.old) ≡ None }
-        ensures once { ReadOnce (has_look_failed result) (held self.old (T.state tree.old)) (held self.new (T.state tree.new)) }
+        ensures once { ReadOnce (has_failed result) (held self.old (T.state tree.old)) (held self.new (T.state tree.new)) }
         ensures there { OnOk result (IsSome (kept_at path.now (kept_of self.new))) }
+        ensures no_fault { IfErr result (λ e. stop_fault_in e ≡ None) }
     {
         let key = path.clone()?;
         self.found.reserve(1)?;
@@ -89,10 +104,12 @@ impl FileCache {
         Ok(())
     }
 
-    /// Looks at a path, for which the tree is asked unless it was before.
-    pub fn look<T: Tree>(&mut self, tree: &mut T, path: &TreePath) -> Result<(), LookStop>
-        ensures once { ReadOnce (has_look_failed result) (held self.old (T.state tree.old)) (held self.new (T.state tree.new)) }
+    /// Looks at a path, for which the tree is asked unless it was before. It finds no fault, of
+    /// whatever type the caller's faults are.
+    pub fn look<T: Tree, F>(&mut self, tree: &mut T, path: &TreePath) -> Result<(), Stop<F>>
+        ensures once { ReadOnce (has_failed result) (held self.old (T.state tree.old)) (held self.new (T.state tree.new)) }
         ensures there { OnOk result (IsSome (kept_at path.now (kept_of self.new))) }
+        ensures no_fault { IfErr result (λ e. stop_fault_in e ≡ None) }
     {
         if self.found.contains_key(path) {
             return Ok(());

@@ -2,12 +2,12 @@
 //! means. It promises upwards that an answer is what the files say, and that no path is read twice.
 #![tactic(auto)]
 
+mod bad_files;
 mod caches;
 mod found;
 mod readers;
-mod stops;
 
+pub use bad_files::BadFile;
 pub use caches::{FileCache, MOST_BYTES};
 pub use found::{FileBytes, Found};
 pub use readers::{FileReader, Standing, file_standing, read_file};
-pub use stops::{BadFile, LookStop, Stop};

@@ -1,17 +1,18 @@
+//! Readers of files, and how a file stands.
 ghost use Rattle.std.specs.Prelude.{◌≡◌, ◌<◌, ◌^◌, List, ℕ, Ok, Result, IfSome, length, false};
 ghost use Rattle.vk_spec.specs.Reading.{Gives};
-ghost use Rattle.vk_json.specs.Documents.{Fault};
-ghost use Rattle.vk_json.specs.DocumentView.{file_fault_of};
+ghost use Rattle.vk_base.specs.Stops.{fault_in, has_failed, is_failure};
+ghost use Rattle.vk_json.specs.declared.faults.FileFault as faults;
 ghost use Rattle.vk_files.specs.Views.{held, seen_view};
-ghost use Rattle.vk_files.specs.StopViews.{refusal_in, is_tree_failed, has_tree_failed};
+ghost use Rattle.vk_files.specs.StopViews.{fault_seen};
 ghost use Rattle.vk_files.specs.Readings.{ReadsAs, IsFaultOf, told_at, bad_view, file_at, seen_file, standing_at, standing_by, is_there};
 ghost use Rattle.vk_files.specs.StandingViews.{standing_view};
 
+use crate::bad_files::BadFile;
 use crate::caches::FileCache;
 use crate::found::Found;
-use crate::stops::{BadFile, Stop};
 use std::alloc::Global;
-use vk_base::TreePath;
+use vk_base::{Stop, TreePath, Unread};
 use vk_json::{FileFault, Why, wrong};
 use vk_tree::Tree;
 
@@ -24,12 +25,12 @@ pub trait FileReader {
 
     ghost plain: { Self.Out → Plain };
 
-    ghost reads: { Self → List ℕ → Result Plain Fault };
+    ghost reads: { Self → List ℕ → Result Plain faults.FileFault };
 
     /// What the bytes mean, or their first fault.
-    fn read(&self, alloc: Global, bytes: &[u8]) -> Result<Self::Out, FileFault>
+    fn read(&self, alloc: Global, bytes: &[u8]) -> Result<Self::Out, Unread<FileFault>>
         requires { length bytes.now < 2 ^ 32 }
-        ensures { Gives plain file_fault_of result (reads self.now bytes.now) };
+        ensures { Gives plain fault_in result (reads self.now bytes.now) };
 }
 
 /// How a file stands.
@@ -56,22 +57,27 @@ impl Standing {
 }
 
 // The fault of a file, with the file.
-fn bad_file(path: &TreePath, fault: FileFault) -> Stop<BadFile>
-    ensures told { IfSome (refusal_in bad_view result) (IsFaultOf path.now (file_fault_of fault)) }
-    ensures calm { is_tree_failed result ≡ false }
+fn bad_file(path: &TreePath, fault: Unread<FileFault>) -> Stop<BadFile>
+    ensures told { IfSome (fault_seen bad_view result) (IsFaultOf path.now (fault_in fault)) }
+    ensures tree_ok { is_failure result ≡ false }
 {
-    let FileFault::Wrong { place, why } = fault else {
-        return Stop::Memory;
+    let FileFault { place, why } = match fault {
+        Unread::Fault(fault) => fault,
+        Unread::Memory(memory) => return Stop::Memory(memory),
     };
     match path.clone() {
-        Ok(path) => Stop::Refused(BadFile { path, place, why }),
-        Err(_) => Stop::Memory,
+        Ok(path) => Stop::Fault(BadFile { path, place, why }),
+        Err(lack) => Stop::from(lack),
     }
 }
 
 // What is found at a path, by a reader.
-fn read_found<R: FileReader>(alloc: Global, found: &Found, reader: &R) -> Result<R::Out, FileFault>
-    ensures { Gives R.plain file_fault_of result (seen_file (R.reads reader.now) (seen_view found.now)) }
+fn read_found<R: FileReader>(
+    alloc: Global,
+    found: &Found,
+    reader: &R,
+) -> Result<R::Out, Unread<FileFault>>
+    ensures { Gives R.plain fault_in result (seen_file (R.reads reader.now) (seen_view found.now)) }
 {
     match found {
         Found::Absent => Err(wrong(alloc, Why::Absent)),
@@ -84,10 +90,10 @@ fn read_found<R: FileReader>(alloc: Global, found: &Found, reader: &R) -> Result
 #[tactic(auto, using(crate::proofs::ReadLemmas::told_fails))]
 fn told<R: FileReader>(
     path: &TreePath,
-    answer: Result<R::Out, FileFault>,
+    answer: Result<R::Out, Unread<FileFault>>,
 ) -> Result<R::Out, Stop<BadFile>>
-    ensures told { (read : Result R.Plain Fault) → Gives R.plain file_fault_of answer read → Gives R.plain (refusal_in bad_view) result (told_at path.now read) }
-    ensures calm { has_tree_failed result ≡ false }
+    ensures told { (read : Result R.Plain faults.FileFault) → Gives R.plain fault_in answer read → Gives R.plain (fault_seen bad_view) result (told_at path.now read) }
+    ensures tree_ok { has_failed result ≡ false }
 {
     match answer {
         Ok(read) => Ok(read),
@@ -95,7 +101,7 @@ fn told<R: FileReader>(
     }
 }
 
-/// What the file at a path means to a reader. `Refused` has the place and the word of the first
+/// What the file at a path means to a reader. `Fault` has the place and the word of the first
 /// fault: the file is absent or too long, or what the reader says of its bytes.
 pub fn read_file<T: Tree, R: FileReader>(
     alloc: Global,
@@ -106,7 +112,7 @@ pub fn read_file<T: Tree, R: FileReader>(
 ) -> Result<R::Out, Stop<BadFile>>
     ensures { ReadsAs bad_view R.plain result (file_at (R.reads reader.now) path.now) (held files.old (T.state tree.old)) (held files.new (T.state tree.new)) }
 {
-    files.look(tree, path)?;
+    files.look::<T, BadFile>(tree, path)?;
     told::<R>(path, read_found(alloc, files.get(path).unwrap(), reader))
 }
 
@@ -120,7 +126,7 @@ fn standing_of(found: &Found) -> Standing
     }
 }
 
-/// How the file at a path stands. It refuses nothing.
+/// How the file at a path stands. It finds no fault.
 pub fn file_standing<T: Tree>(
     files: &mut FileCache,
     tree: &mut T,
@@ -128,6 +134,6 @@ pub fn file_standing<T: Tree>(
 ) -> Result<Standing, Stop<BadFile>>
     ensures { ReadsAs bad_view standing_view result (λ f. Ok (standing_at path.now f)) (held files.old (T.state tree.old)) (held files.new (T.state tree.new)) }
 {
-    files.look(tree, path)?;
+    files.look::<T, BadFile>(tree, path)?;
     Ok(standing_of(files.get(path).unwrap()))
 }

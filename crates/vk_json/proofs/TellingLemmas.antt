@@ -14,11 +14,11 @@ use Rattle.serde_json.specs.Data as json
 use Rattle.serde_json.specs.Find.{get, get_member, as_object}
 use Rattle.vk_spec.specs.Reading.{◌>>=◌, or_fault, read_each, read_after}
 use Rattle.vk_spec.proofs.ListLemmas.{contains_first, contains_later}
-use Rattle.vk_json.specs.Documents.{Fault}
+use Rattle.vk_json.specs.declared.faults.FileFault.{FileFault}
 use Rattle.vk_json.specs.declared.faults.Why.{Why}
 use Rattle.vk_json.specs.declared.faults.Why.TheVariants as why
 use Rattle.vk_json.specs.Looks.{list_of}
-use Rattle.vk_json.specs.Places.{here, moved, inside, member_step, item_step}
+use Rattle.vk_json.specs.Places.{here, moved, at_member, inside, member_step, item_step}
 use Rattle.vk_json.specs.Readings.{Reading, MemberReading, text_at, bool_at, number_at, members_at, object_at, if_there, wanted, optional, read_or, optional_or, text_or_object, item_at, each_item, pairs_of, member_at, each_member}
 use Rattle.vk_json.specs.Standing.{itself, by_member, by_item, StandsIn, at_value, at_key}
 
@@ -53,32 +53,31 @@ contains_at (y ∷ xs) (suc k) x e = contains_later y x xs (contains_at xs k x e
 
 -- ---- a fault of a part stands in the whole
 
-stands_member : (ms : Members) (key : List ℕ) (d : Data) (fault : Fault) → Contains (pairs_of ms) (key, d) → StandsIn d fault → StandsIn (json.object ms) (moved (member_step key) fault)
+stands_member : (ms : Members) (key : List ℕ) (d : Data) (fault : FileFault) → Contains (pairs_of ms) (key, d) → StandsIn d fault → StandsIn (json.object ms) (moved (member_step key) fault)
 stands_member ms key d _ has (at_value _ found place what other leads) = at_value (json.object ms) found (member_step key ++ place) what other (by_member ms key place d found has leads)
 stands_member ms key d _ has (at_key _ found place k leads none) =
-    subst (λ p. StandsIn (json.object ms) (p, why.Missing)) (append_assoc (member_step key) place (member_step k))
+    subst (λ p. StandsIn (json.object ms) (record { place = p; why = why.Missing })) (append_assoc (member_step key) place (member_step k))
     (at_key (json.object ms) found (member_step key ++ place) k (by_member ms key place d found has leads) none)
 
-stands_item : (ds : Items) (n : ℕ) (d : Data) (fault : Fault) → slice_get (list_of ds) n ≡ Some d → StandsIn d fault → StandsIn (json.array ds) (moved (item_step n) fault)
+stands_item : (ds : Items) (n : ℕ) (d : Data) (fault : FileFault) → slice_get (list_of ds) n ≡ Some d → StandsIn d fault → StandsIn (json.array ds) (moved (item_step n) fault)
 stands_item ds n d _ has (at_value _ found place what other leads) = at_value (json.array ds) found (item_step n ++ place) what other (by_item ds n place d found has leads)
 stands_item ds n d _ has (at_key _ found place k leads none) =
-    subst (λ p. StandsIn (json.array ds) (p, why.Missing)) (append_assoc (item_step n) place (member_step k))
+    subst (λ p. StandsIn (json.array ds) (record { place = p; why = why.Missing })) (append_assoc (item_step n) place (member_step k))
     (at_key (json.array ds) found (item_step n ++ place) k (by_item ds n place d found has leads) none)
 
 pub told_here : (d : Data) (what : Why) → what ≢ why.Missing → StandsIn d (here what)
 told_here d what other = at_value d d [] what other (itself d)
 
 -- at a member that is there
-pub told_at : (key : List ℕ) (d v : Data) (what : Why) → get key d ≡ Some v → what ≢ why.Missing → StandsIn d (member_step key, what)
+pub told_at : (key : List ℕ) (d v : Data) (what : Why) → get key d ≡ Some v → what ≢ why.Missing → StandsIn d (at_member key what)
 told_at key d v what found other =
     let has = get_has key d v found in
-    rw has.1
-    (subst (λ p. StandsIn (json.object has.0) (p, what)) (append-nil (member_step key)) (stands_member has.0 key v (here what) has.2 (told_here v what other)))
+    rw has.1 (stands_member has.0 key v (here what) has.2 (told_here v what other))
 
 -- ---- readings
 
 -- a value that was read has P, and a fault stands in d
-abbrev pub Says : {A : Type 0} → (A → Type 0) → Data → Result A Fault → Type 0
+abbrev pub Says : {A : Type 0} → (A → Type 0) → Data → Result A FileFault → Type 0
 Says P d r = MatchResult r P (StandsIn d)
 
 -- whatever is read
@@ -89,11 +88,11 @@ Reads P f = (d : Data) → Says P d (f d)
 abbrev pub Anything : {A : Type 0} → A → Type 0
 Anything x = Unit {0}
 
-pub says_then : {A B : Type 0} (P : A → Type 0) (R : B → Type 0) (d : Data) (r : Result A Fault) (f : A → Result B Fault) → Says P d r → ((x : A) → P x → Says R d (f x)) → Says R d (r >>= f)
+pub says_then : {A B : Type 0} (P : A → Type 0) (R : B → Type 0) (d : Data) (r : Result A FileFault) (f : A → Result B FileFault) → Says P d r → ((x : A) → P x → Says R d (f x)) → Says R d (r >>= f)
 says_then P R d (Ok x) f says next = next x says
 says_then P R d (Err e) f says next = says
 
-pub says_weaker : {A : Type 0} (P R : A → Type 0) (d : Data) (r : Result A Fault) → Says P d r → ((x : A) → P x → R x) → Says R d r
+pub says_weaker : {A : Type 0} (P R : A → Type 0) (d : Data) (r : Result A FileFault) → Says P d r → ((x : A) → P x → R x) → Says R d r
 says_weaker P R d (Ok x) says weaker = weaker x says
 says_weaker P R d (Err e) says weaker = says
 
@@ -113,19 +112,19 @@ number_says d = or_says d why.Number _ (λ e. (cc))
 pub object_says : Reads Anything object_at
 object_says d = says_then Anything Anything d (members_at d) (λ ms. Ok tt) (or_says d why.Object (as_object d) (λ e. (cc))) (λ ms any. tt)
 
-says_member : {A : Type 0} (P : A → Type 0) (ms : Members) (key : List ℕ) (v : Data) (r : Result A Fault) → Contains (pairs_of ms) (key, v) → Says P v r → Says P (json.object ms) (inside (member_step key) r)
+says_member : {A : Type 0} (P : A → Type 0) (ms : Members) (key : List ℕ) (v : Data) (r : Result A FileFault) → Contains (pairs_of ms) (key, v) → Says P v r → Says P (json.object ms) (inside (member_step key) r)
 says_member P ms key v (Ok x) has says = says
 says_member P ms key v (Err e) has says = stands_member ms key v e has says
 
 -- what is said of a member's reading is said of it from outside
-pub says_under : {A : Type 0} (P : A → Type 0) (key : List ℕ) (d v : Data) (r : Result A Fault) → get key d ≡ Some v → Says P v r → Says P d (inside (member_step key) r)
+pub says_under : {A : Type 0} (P : A → Type 0) (key : List ℕ) (d v : Data) (r : Result A FileFault) → get key d ≡ Some v → Says P v r → Says P d (inside (member_step key) r)
 says_under P key d v r found says =
     let has = get_has key d v found in
     rw has.1 (says_member P has.0 key v r has.2 says)
 
 module _ {A : Type 0} (P : A → Type 0) (f : Reading A) (reads : Reads P f) (key : List ℕ) (d : Data) where
   wanted_by : (o : Option Data) → get key d ≡ o → Says (λ x. P x × IsSome (get key d)) d (inside (member_step key) (or_fault (here why.Missing) o >>= f))
-  wanted_by None e = subst (λ p. StandsIn d (p, why.Missing)) (sym (append-nil (member_step key))) (at_key d d [] key (itself d) e)
+  wanted_by None e = subst (λ p. StandsIn d (record { place = p; why = why.Missing })) (sym (append-nil (member_step key))) (at_key d d [] key (itself d) e)
   wanted_by (Some v) e = says_under (λ x. P x × IsSome (get key d)) key d v (f v) e (says_weaker P (λ x. P x × IsSome (get key d)) v (f v) (reads v) (λ x p. (p, rw e refl)))
 
   -- a member that is wanted is there
@@ -136,13 +135,27 @@ module _ {A : Type 0} (P : A → Type 0) (f : Reading A) (reads : Reads P f) (ke
   pub wanted_says : Says P d (wanted f key d)
   wanted_says = says_weaker (λ x. P x × IsSome (get key d)) P d (wanted f key d) wanted_there (λ x p. p.0)
 
-  optional_by : (o : Option Data) → get key d ≡ o → Says (λ o. IfSome o P) d (inside (member_step key) (if_there f o))
+  -- an optional value that was read has P, and its member is there
+  abbrev WasThere : Option A → Type 0
+  WasThere o = IfSome o (λ x. P x × IsSome (get key d))
+
+  optional_by : (o : Option Data) → get key d ≡ o → Says WasThere d (inside (member_step key) (if_there f o))
   optional_by None e = tt
-  optional_by (Some v) e = says_under (λ o. IfSome o P) key d v (f v >>= λ x. Ok (Some x)) e (says_then P (λ o. IfSome o P) v (f v) (λ x. Ok (Some x)) (reads v) (λ x p. p))
+  optional_by (Some v) e = says_under WasThere key d v (f v >>= λ x. Ok (Some x)) e (says_then P WasThere v (f v) (λ x. Ok (Some x)) (reads v) (λ x p. (p, rw e refl)))
+
+  pub optional_was_there : Says WasThere d (optional f key d)
+  unfolding optional
+  optional_was_there = optional_by (get key d) refl
+
+  weaker_if : {Q R : A → Type 0} (o : Option A) → ((x : A) → Q x → R x) → IfSome o Q → IfSome o R
+  weaker_if None weaker q = tt
+  weaker_if (Some x) weaker q = weaker x q
 
   pub optional_says : Says (λ o. IfSome o P) d (optional f key d)
-  unfolding optional
-  optional_says = optional_by (get key d) refl
+  optional_says = says_weaker WasThere (λ o. IfSome o P) d (optional f key d) optional_was_there (λ o there. weaker_if o (λ x both. both.0) there)
+
+  pub optional_there : Says (λ o. IfSome o (λ x. IsSome (get key d))) d (optional f key d)
+  optional_there = says_weaker WasThere (λ o. IfSome o (λ x. IsSome (get key d))) d (optional f key d) optional_was_there (λ o there. weaker_if o (λ x both. both.1) there)
 
   optional_or_by : (default : A) → P default → (o : Option Data) → get key d ≡ o → Says P d (inside (member_step key) (read_or default f o))
   optional_or_by default p None e = p
@@ -160,7 +173,7 @@ text_or_object_says P text object of_text of_object (json.string s) = of_text (j
 text_or_object_says P text object of_text of_object (json.array ds) = told_here (json.array ds) why.Item (λ e. (cc))
 text_or_object_says P text object of_text of_object (json.object ms) = of_object (json.object ms)
 
-each_says : {X A : Type 0} (P : A → Type 0) (d : Data) (f : ℕ → X → Result A Fault) (n : ℕ) (xs : List X) → ((k : ℕ) (x : X) → slice_get xs k ≡ Some x → Says P d (f (k + n) x)) → Says (All P) d (read_each f n xs)
+each_says : {X A : Type 0} (P : A → Type 0) (d : Data) (f : ℕ → X → Result A FileFault) (n : ℕ) (xs : List X) → ((k : ℕ) (x : X) → slice_get xs k ≡ Some x → Says P d (f (k + n) x)) → Says (All P) d (read_each f n xs)
 unfolding read_each
 each_says P d f n [] each = All-nil P
 each_says P d f n (x ∷ xs) each =
@@ -170,7 +183,7 @@ each_says P d f n (x ∷ xs) each =
     (each_says P d f (n + 1) xs (λ k z e. let at_k : suc k + n ≡ k + (n + 1) = omega arith in subst (λ m. Says P d (f m z)) at_k (each (suc k) z e)))
     (λ ys ps. All-cons P y ys p ps))
 
-says_item : {A : Type 0} (P : A → Type 0) (ds : Items) (n : ℕ) (v : Data) (r : Result A Fault) → slice_get (list_of ds) n ≡ Some v → Says P v r → Says P (json.array ds) (inside (item_step n) r)
+says_item : {A : Type 0} (P : A → Type 0) (ds : Items) (n : ℕ) (v : Data) (r : Result A FileFault) → slice_get (list_of ds) n ≡ Some v → Says P v r → Says P (json.array ds) (inside (item_step n) r)
 says_item P ds n v (Ok x) has says = says
 says_item P ds n v (Err e) has says = stands_item ds n v e has says
 
@@ -212,10 +225,10 @@ pub list_after_says : {A : Type 0} (Good : List A → Type 0) (f : List A → Re
 list_after_says Good f reads good ds = after_says Good f ds [] 0 (list_of ds) (λ k v e. let at_k : k ≡ k + 0 = omega arith in subst (λ m. slice_get (list_of ds) m ≡ Some v) at_k e) reads good
 
 -- what is said of the fault that was told, and of the value that was given
-pub told_stands : {A : Type 0} (P : A → Type 0) (d : Data) (r : Result A Fault) (fault : Fault) → Says P d r → r ≡ Err fault → StandsIn d fault
+pub told_stands : {A : Type 0} (P : A → Type 0) (d : Data) (r : Result A FileFault) (fault : FileFault) → Says P d r → r ≡ Err fault → StandsIn d fault
 told_stands P d (Ok x) fault says e = (cc)
 told_stands P d (Err told) fault says e = let same : told ≡ fault = cc in subst (StandsIn d) same says
 
-pub given_has : {A : Type 0} (P : A → Type 0) (d : Data) (r : Result A Fault) (x : A) → Says P d r → r ≡ Ok x → P x
+pub given_has : {A : Type 0} (P : A → Type 0) (d : Data) (r : Result A FileFault) (x : A) → Says P d r → r ≡ Ok x → P x
 given_has P d (Ok y) x says e = let same : y ≡ x = cc in subst P same says
 given_has P d (Err told) x says e = (cc)

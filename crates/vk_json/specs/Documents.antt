@@ -1,15 +1,12 @@
 -- What bytes mean as JSON: what `serde_json` reads, after at most one byte order mark.
-use Rattle.std.specs.Prelude.{◌==◌, ◌&&◌, ℕ, List, [], ◌∷◌, Option, None, Result, if◌then◌else◌}
+use Rattle.std.specs.Prelude.{◌==◌, ◌&&◌, ℕ, List, ◌∷◌, Option, None, Result, if◌then◌else◌}
 use Rattle.std.specs.Str.{is_utf8}
 use Rattle.serde_json.specs.Data.{Data}
 use Rattle.serde_json.specs.Read.{read}
 use Rattle.vk_spec.specs.Reading.{or_fault}
-use Rattle.vk_json.specs.declared.faults.Why.{Why}
+use Rattle.vk_json.specs.declared.faults.FileFault.{FileFault}
 use Rattle.vk_json.specs.declared.faults.Why.TheVariants as why
-
--- a place in a document, and what is wrong there
-abbrev pub Fault : Type 0
-Fault = List ℕ × Why
+use Rattle.vk_json.specs.Places.{here}
 
 -- the bytes after a byte order mark, if they begin with one
 abbrev pub without_mark : List ℕ → List ℕ
@@ -21,5 +18,5 @@ abbrev pub value_of : List ℕ → Option Data
 value_of bytes = if is_utf8 bytes then read bytes else None
 
 -- the document that bytes are, or its one fault: the whole is no JSON
-unfoldable pub json_of : List ℕ → Result Data Fault
-json_of bytes = or_fault ([], why.Json) (value_of (without_mark bytes))
+unfoldable pub json_of : List ℕ → Result Data FileFault
+json_of bytes = or_fault (here why.Json) (value_of (without_mark bytes))

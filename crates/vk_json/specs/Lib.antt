@@ -1,7 +1,7 @@
+pub mod Places
 pub mod Documents
 pub mod DocumentView
 pub mod Looks
-pub mod Places
 pub mod Readings
 pub mod FaultViews
 pub mod Digits

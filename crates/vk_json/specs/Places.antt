@@ -6,7 +6,7 @@ use Rattle.std.specs.Char.{encode_utf8}
 use Rattle.vk_spec.specs.Paths.{Path}
 use Rattle.vk_base.specs.Tokens.{token_of}
 use Rattle.vk_base.specs.Printed.{path_text}
-use Rattle.vk_json.specs.Documents.{Fault}
+use Rattle.vk_json.specs.declared.faults.FileFault.{FileFault}
 use Rattle.vk_json.specs.declared.faults.Why.{Why}
 
 -- a key's character in a pointer: `~` is `~0`, and `/` is `~1`
@@ -26,15 +26,19 @@ abbrev pub item_step : ℕ → List ℕ
 item_step n = codes "/" ++ decimal n
 
 -- wrong is the value itself
-abbrev pub here : Why → Fault
-here why = ([], why)
+abbrev pub here : Why → FileFault
+here why = record { place = []; why = why }
 
 -- a fault of a part, told from outside: the step to the part goes before its place
-abbrev pub moved : List ℕ → Fault → Fault
-moved step fault = (step ++ fault.0, fault.1)
+abbrev pub moved : List ℕ → FileFault → FileFault
+moved step fault = record { place = step ++ fault.place; why = fault.why }
+
+-- wrong is the member with this key
+abbrev pub at_member : List ℕ → Why → FileFault
+at_member key why = moved (member_step key) (here why)
 
 -- what reading a part gives, told from outside
-abbrev pub inside : {A : Type 0} → List ℕ → Result A Fault → Result A Fault
+abbrev pub inside : {A : Type 0} → List ℕ → Result A FileFault → Result A FileFault
 inside step (Ok x) = Ok x
 inside step (Err fault) = Err (moved step fault)
 

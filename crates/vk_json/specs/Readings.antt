@@ -4,14 +4,14 @@ use Rattle.serde_json.specs.Data.{Data, Members, no_members, member}
 use Rattle.serde_json.specs.Data as json
 use Rattle.serde_json.specs.Find.{get, as_str, as_bool, as_object}
 use Rattle.vk_spec.specs.Reading.{◌>>=◌, or_fault, read_each}
-use Rattle.vk_json.specs.Documents.{Fault}
+use Rattle.vk_json.specs.declared.faults.FileFault.{FileFault}
 use Rattle.vk_json.specs.Looks.{items_of, number_of}
 use Rattle.vk_json.specs.Places.{here, inside, member_step, item_step}
 use Rattle.vk_json.specs.declared.faults.Why.TheVariants as why
 
 -- how a value is read
 abbrev pub Reading : Type 0 → Type 0
-Reading A = Data → Result A Fault
+Reading A = Data → Result A FileFault
 
 -- a text
 abbrev pub text_at : Reading (List ℕ)
@@ -34,7 +34,7 @@ abbrev pub object_at : Reading (Unit {0})
 object_at d = members_at d >>= λ ms. Ok tt
 
 -- a value that may be missing
-abbrev pub if_there : {A : Type 0} → Reading A → Option Data → Result (Option A) Fault
+abbrev pub if_there : {A : Type 0} → Reading A → Option Data → Result (Option A) FileFault
 if_there f None = Ok None
 if_there f (Some d) = f d >>= λ x. Ok (Some x)
 
@@ -47,7 +47,7 @@ unfoldable pub optional : {A : Type 0} → Reading A → List ℕ → Reading (O
 optional f key d = inside (member_step key) (if_there f (get key d))
 
 -- a value, or what stands for one that is missing
-abbrev pub read_or : {A : Type 0} → A → Reading A → Option Data → Result A Fault
+abbrev pub read_or : {A : Type 0} → A → Reading A → Option Data → Result A FileFault
 read_or default f None = Ok default
 read_or default f (Some d) = f d
 
@@ -83,10 +83,10 @@ pairs_of (member k d ms) = (k, d) ∷ pairs_of ms
 
 -- how a member is read, by its key and its value
 abbrev pub MemberReading : Type 0 → Type 0
-MemberReading A = List ℕ → Data → Result A Fault
+MemberReading A = List ℕ → Data → Result A FileFault
 
 -- a member, with its key as the place
-abbrev pub member_at : {A : Type 0} → MemberReading A → Member → Result A Fault
+abbrev pub member_at : {A : Type 0} → MemberReading A → Member → Result A FileFault
 member_at f m = inside (member_step m.0) (f m.0 m.1)
 
 -- an object, member by member in byte order of keys

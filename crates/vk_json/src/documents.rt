@@ -3,12 +3,14 @@ ghost use Rattle.serde_json.specs.View.{view};
 ghost use Rattle.serde_json.specs.Errors.{IsMemory};
 ghost use Rattle.vk_spec.specs.Reading.{Gives};
 ghost use Rattle.vk_json.specs.Documents.{json_of, without_mark};
-ghost use Rattle.vk_json.specs.DocumentView.{doc_data, file_fault_of};
+ghost use Rattle.vk_base.specs.Stops.{fault_in};
+ghost use Rattle.vk_json.specs.DocumentView.{doc_data};
 
 use crate::faults::{FileFault, Why};
+use crate::places::wrong;
 use serde_json::Value;
 use std::alloc::Global;
-use vk_base::Text;
+use vk_base::{Memory, Unread};
 
 /// A JSON document that was read.
 #[derive(Drop)]
@@ -17,26 +19,23 @@ pub struct Doc {
 }
 
 impl Doc {
-    /// Reads a document; one leading byte order mark is passed over. `Wrong` with the place of the
-    /// whole and `Json` exactly where `serde_json` has no reading of the bytes (RFC 8259).
-    pub fn read(alloc: Global, bytes: &[u8]) -> Result<Doc, FileFault>
-        ensures { Gives doc_data file_fault_of result (json_of bytes.now) }
+    /// Reads a document; one leading byte order mark is passed over. The fault is `Json` at the
+    /// whole, exactly where `serde_json` has no reading of the bytes (RFC 8259).
+    pub fn read(alloc: Global, bytes: &[u8]) -> Result<Doc, Unread<FileFault>>
+        ensures { Gives doc_data fault_in result (json_of bytes.now) }
     {
         match Value::from_slice(alloc, without_mark(bytes)) {
             Ok(value) => Ok(Doc { value }),
             Err(e) => {
                 if e.is_memory() {
-                    return Err(FileFault::Memory);
+                    return Err(Unread::Memory(Memory::without_allocation()));
                 }
-                Err(FileFault::Wrong {
-                    place: Text::new(alloc),
-                    why: Why::Json,
-                })
+                Err(wrong(alloc, Why::Json))
             }
         }
     }
 
-    /// The value that was read, lent.
+    /// The value that was read.
     pub fn value(&self) -> &Value
         ensures { view result.now ≡ doc_data self.now }
     {

@@ -1,70 +1,71 @@
-ghost use Rattle.std.specs.Prelude.{◌≡◌};
-ghost use Rattle.vk_json.specs.declared.faults.FileFault.TheVariants as fault;
+use vk_base::Text;
 
-use std::alloc::{AllocError, AllocFailed};
-use vk_base::{Memory, Text};
-
-/// What is wrong with a file, or at a place in it. A number is a byte offset, or a line.
+/// What is wrong with a file, or at a place in it.
 #[derive(Clone, Copy, Debug, PartialEq, Eq)]
 pub enum Why {
+    /// The file isn't there.
     Absent,
+    /// The file is longer than its limit.
     Large,
+    /// The bytes are no JSON.
     Json,
+    /// The value is no object.
     Object,
+    /// The value is no list.
     List,
+    /// The value is no text.
     Text,
+    /// The value is neither `true` nor `false`.
     Bool,
+    /// The value is no whole number from 0 to 2^32 - 1.
     Number,
+    /// The item of a list is neither a text nor an object.
     Item,
+    /// A key that has to be there isn't.
     Missing,
+    /// The text is no name.
     Name,
+    /// The text is `core` or `default`, which name no feature of a port.
     Reserved,
+    /// A second version key.
     TwoVersions,
+    /// None of the version keys.
     NoVersion,
+    /// The text is no version.
     Version,
+    /// A number in the version is too large.
     Range,
+    /// The calendar lacks the day.
     Day,
-    Suffix,
+    /// In a platform expression, what may not stand at this byte.
     Unexpected(u32),
+    /// In a platform expression, the other operator at this byte.
     Mixed(u32),
+    /// In a platform expression, a parenthesis at this byte that isn't closed.
     Open(u32),
+    /// A platform expression with too many levels.
     Depth,
+    /// The text is no path, or none that may stand there.
     Path,
+    /// The text is no kind of registry.
     Kind,
+    /// The text is no pattern of ports.
     Pattern,
+    /// What stands there stood before.
     Twice,
+    /// More than there may be.
     Many,
+    /// A line that can't be read, counted from 1.
     Line(u32),
+    /// The bytes are no UTF-8.
     Utf8,
 }
 
-/// Why a file isn't read: the place, a JSON Pointer (RFC 6901), and what is wrong there.
+/// What is wrong with a file, and where.
 #[derive(Drop)]
-pub enum FileFault {
-    Wrong { place: Text, why: Why },
-    Memory,
-}
-
-impl From<AllocError> for FileFault {
-    ghost from_gives = { λ _ e. e ≡ fault.Memory };
-
-    fn from(_: AllocError) -> Self {
-        FileFault::Memory
-    }
-}
-
-impl<T: Drop> From<AllocFailed<T>> for FileFault {
-    ghost from_gives = { λ _ e. e ≡ fault.Memory };
-
-    fn from(_: AllocFailed<T>) -> Self {
-        FileFault::Memory
-    }
-}
-
-impl From<Memory> for FileFault {
-    ghost from_gives = { λ _ e. e ≡ fault.Memory };
-
-    fn from(_: Memory) -> Self {
-        FileFault::Memory
-    }
+pub struct FileFault {
+    /// The place, a JSON Pointer (RFC 6901).
+    pub place: Text,
+    /// What is wrong there.
+    pub why: Why,
 }

@@ -8,16 +8,12 @@ mod faults;
 mod getters;
 mod places;
 mod readers;
-#[cfg(test)]
-mod tests;
-#[cfg(test)]
-mod word_tests;
 mod words;
 
 pub use documents::Doc;
 pub use faults::{FileFault, Why};
 pub use getters::{as_bool, as_number, as_text, items, keys, member};
-pub use places::{at, in_item, in_member, place_text, under, wrong};
+pub use places::{at, in_item, in_member, place_text, under, wrong, wrong_member};
 pub use readers::{
     AnyBoolean, AnyText, ListOf, MemberReader, ObjectOf, Reader, SmallNumber, boolean, each_item,
     each_member, number, object, optional, optional_or, text, wanted,

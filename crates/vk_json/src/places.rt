@@ -1,12 +1,13 @@
 //! Places in a document are JSON Pointers (RFC 6901).
 ghost use Rattle.std.specs.Prelude.{◌≡◌, ◌++◌, IfOk, Some, OnOk, codes, string_bytes};
-ghost use Rattle.vk_json.specs.Places.{escaped_char, escaped, member_step, item_step, here, place_text};
-ghost use Rattle.vk_json.specs.DocumentView.{file_fault_of};
-ghost use Rattle.vk_json.specs.FaultViews.{IsMoved};
+ghost use Rattle.vk_json.specs.Places.{escaped_char, escaped, member_step, item_step};
+ghost use Rattle.vk_json.specs.Places.{here, moved, at_member, place_text};
+ghost use Rattle.vk_base.specs.Stops.{fault_in};
+ghost use Rattle.vk_json.specs.FaultViews.{Tells, IsMoved};
 
 use crate::faults::{FileFault, Why};
 use std::alloc::Global;
-use vk_base::{Memory, Text, token};
+use vk_base::{Memory, Text, Unread, token};
 
 // Puts a character of a key: `~` is `~0` and `/` is `~1`.
 fn push_escaped_char(place: &mut String, c: char) -> Result<(), Memory>
@@ -58,51 +59,61 @@ pub fn place_text(alloc: Global, place: &Text) -> Result<Text, Memory>
 }
 
 /// The fault that the value itself is wrong.
-pub fn wrong(alloc: Global, why: Why) -> FileFault
-    ensures { file_fault_of result ≡ Some (here why) }
+pub fn wrong(alloc: Global, why: Why) -> Unread<FileFault>
+    ensures { fault_in result ≡ Some (here why) }
 {
-    FileFault::Wrong {
+    Unread::Fault(FileFault {
         place: Text::new(alloc),
         why,
+    })
+}
+
+// A part's fault, told from outside: the step to the part goes before its place.
+fn moved_fault(mut step: Text, fault: &FileFault) -> Result<FileFault, Memory>
+    ensures { IfOk result (λ f. f ≡ moved step fault.now) }
+{
+    step.push_str(fault.place.as_str())?;
+    Ok(FileFault {
+        place: step,
+        why: fault.why,
+    })
+}
+
+fn moved(step: Text, unread: Unread<FileFault>) -> Unread<FileFault>
+    ensures { IsMoved step unread result }
+{
+    match unread {
+        Unread::Fault(fault) => match moved_fault(step, &fault) {
+            Ok(fault) => Unread::Fault(fault),
+            Err(memory) => Unread::Memory(memory),
+        },
+        Unread::Memory(memory) => Unread::Memory(memory),
     }
 }
 
-// The step to a part, and then the place in it.
-fn joined(mut step: Text, place: &Text) -> Result<Text, Memory>
-    ensures { IfOk result (λ p. p ≡ step ++ place.now) }
-{
-    step.push_str(place.as_str())?;
-    Ok(step)
-}
-
-fn moved(step: Text, fault: FileFault) -> FileFault
-    ensures { IsMoved step fault result }
-{
-    let FileFault::Wrong { place, why } = fault else {
-        return FileFault::Memory;
-    };
-    match joined(step, &place) {
-        Ok(place) => FileFault::Wrong { place, why },
-        Err(_) => FileFault::Memory,
-    }
-}
-
-/// A member's fault, told from the object.
-pub fn in_member(alloc: Global, key: &str, fault: FileFault) -> FileFault
-    ensures { IsMoved (member_step key.now) fault result }
+/// What a member's reading answered in place of a value, told from the object.
+pub fn in_member(alloc: Global, key: &str, unread: Unread<FileFault>) -> Unread<FileFault>
+    ensures { IsMoved (member_step key.now) unread result }
 {
     match under(alloc, &Text::new(alloc), key) {
-        Ok(step) => moved(step, fault),
-        Err(_) => FileFault::Memory,
+        Ok(step) => moved(step, unread),
+        Err(memory) => Unread::Memory(memory),
     }
 }
 
-/// An item's fault, told from the list.
-pub fn in_item(alloc: Global, n: usize, fault: FileFault) -> FileFault
-    ensures { IsMoved (item_step n) fault result }
+/// What an item's reading answered in place of a value, told from the list.
+pub fn in_item(alloc: Global, n: usize, unread: Unread<FileFault>) -> Unread<FileFault>
+    ensures { IsMoved (item_step n) unread result }
 {
     match at(alloc, &Text::new(alloc), n) {
-        Ok(step) => moved(step, fault),
-        Err(_) => FileFault::Memory,
+        Ok(step) => moved(step, unread),
+        Err(memory) => Unread::Memory(memory),
     }
+}
+
+/// The fault that the member with this key is wrong.
+pub fn wrong_member(alloc: Global, key: &str, why: Why) -> Unread<FileFault>
+    ensures { Tells (fault_in result) (Some (at_member key.now why)) }
+{
+    in_member(alloc, key, wrong(alloc, why))
 }

@@ -4,17 +4,17 @@ ghost use Rattle.std.specs.Prelude.{◌≡◌, ℕ, Bool, List, Result, map, opt
 ghost use Rattle.serde_json.specs.Data.{Data};
 ghost use Rattle.serde_json.specs.View.{view, members_view};
 ghost use Rattle.vk_spec.specs.Reading.{Gives, read_each};
-ghost use Rattle.vk_json.specs.Documents.{Fault};
-ghost use Rattle.vk_json.specs.DocumentView.{file_fault_of};
+ghost use Rattle.vk_json.specs.declared.faults.FileFault.{FileFault};
+ghost use Rattle.vk_base.specs.Stops.{fault_in};
 ghost use Rattle.vk_json.specs.Places.{inside, member_step, item_step};
 ghost use Rattle.vk_json.specs.Readings.{text_at, bool_at, number_at, wanted, optional, optional_or, item_at, each_item, member_at, each_member, pairs_of, object_at};
 
 use crate::faults::{FileFault, Why};
 use crate::getters::{as_bool, as_number, as_text, items, member};
-use crate::places::{in_item, in_member, wrong};
+use crate::places::{in_item, in_member, wrong, wrong_member};
 use serde_json::{Map, Value};
 use std::alloc::Global;
-use vk_base::{List, Text};
+use vk_base::{List, Text, Unread};
 
 /// A way to read a value.
 pub trait Reader {
@@ -25,16 +25,16 @@ pub trait Reader {
 
     ghost plain: { Self.Out → Plain };
 
-    ghost reads: { Self → Data → Result Plain Fault };
+    ghost reads: { Self → Data → Result Plain FileFault };
 
     /// What the value means, or its first fault.
-    fn read(&self, alloc: Global, value: &Value) -> Result<Self::Out, FileFault>
-        ensures { Gives plain file_fault_of result (reads self.now (view value.now)) };
+    fn read(&self, alloc: Global, value: &Value) -> Result<Self::Out, Unread<FileFault>>
+        ensures { Gives plain fault_in result (reads self.now (view value.now)) };
 }
 
 /// A text.
-pub fn text(alloc: Global, value: &Value) -> Result<&str, FileFault>
-    ensures { Gives (λ t. t.now) file_fault_of result (text_at (view value.now)) }
+pub fn text(alloc: Global, value: &Value) -> Result<&str, Unread<FileFault>>
+    ensures { Gives (λ t. t.now) fault_in result (text_at (view value.now)) }
 {
     as_text(value).ok_or(wrong(alloc, Why::Text))
 }
@@ -44,8 +44,8 @@ fn read_in_member<R: Reader>(
     key: &str,
     value: &Value,
     reader: &R,
-) -> Result<R::Out, FileFault>
-    ensures { Gives R.plain file_fault_of result (inside (member_step key.now) (R.reads reader.now (view value.now))) }
+) -> Result<R::Out, Unread<FileFault>>
+    ensures { Gives R.plain fault_in result (inside (member_step key.now) (R.reads reader.now (view value.now))) }
 {
     match reader.read(alloc, value) {
         Ok(read) => Ok(read),
@@ -54,15 +54,15 @@ fn read_in_member<R: Reader>(
 }
 
 /// A truth value.
-pub fn boolean(alloc: Global, value: &Value) -> Result<bool, FileFault>
-    ensures { Gives (λ b. b) file_fault_of result (bool_at (view value.now)) }
+pub fn boolean(alloc: Global, value: &Value) -> Result<bool, Unread<FileFault>>
+    ensures { Gives (λ b. b) fault_in result (bool_at (view value.now)) }
 {
     as_bool(value).ok_or(wrong(alloc, Why::Bool))
 }
 
 /// A whole number from 0 to 2^32 - 1.
-pub fn number(alloc: Global, value: &Value) -> Result<u32, FileFault>
-    ensures { Gives (λ n. n) file_fault_of result (number_at (view value.now)) }
+pub fn number(alloc: Global, value: &Value) -> Result<u32, Unread<FileFault>>
+    ensures { Gives (λ n. n) fault_in result (number_at (view value.now)) }
 {
     as_number(value).ok_or(wrong(alloc, Why::Number))
 }
@@ -75,12 +75,12 @@ pub fn wanted<R: Reader>(
     value: &Value,
     key: &str,
     reader: &R,
-) -> Result<R::Out, FileFault>
-    ensures { Gives R.plain file_fault_of result (wanted (R.reads reader.now) key.now (view value.now)) }
+) -> Result<R::Out, Unread<FileFault>>
+    ensures { Gives R.plain fault_in result (wanted (R.reads reader.now) key.now (view value.now)) }
 {
     match member(value, key) {
         Some(found) => read_in_member(alloc, key, found, reader),
-        None => Err(in_member(alloc, key, wrong(alloc, Why::Missing))),
+        None => Err(wrong_member(alloc, key, Why::Missing)),
     }
 }
 
@@ -91,8 +91,8 @@ pub fn optional<R: Reader>(
     value: &Value,
     key: &str,
     reader: &R,
-) -> Result<Option<R::Out>, FileFault>
-    ensures { Gives (option_map R.plain) file_fault_of result (optional (R.reads reader.now) key.now (view value.now)) }
+) -> Result<Option<R::Out>, Unread<FileFault>>
+    ensures { Gives (option_map R.plain) fault_in result (optional (R.reads reader.now) key.now (view value.now)) }
 {
     match member(value, key) {
         Some(found) => Ok(Some(read_in_member(alloc, key, found, reader)?)),
@@ -108,8 +108,8 @@ pub fn optional_or<R: Reader>(
     key: &str,
     reader: &R,
     default: R::Out,
-) -> Result<R::Out, FileFault>
-    ensures { Gives R.plain file_fault_of result (optional_or (R.plain default) (R.reads reader.now) key.now (view value.now)) }
+) -> Result<R::Out, Unread<FileFault>>
+    ensures { Gives R.plain fault_in result (optional_or (R.plain default) (R.reads reader.now) key.now (view value.now)) }
 {
     match member(value, key) {
         Some(found) => read_in_member(alloc, key, found, reader),
@@ -122,8 +122,8 @@ fn read_item<R: Reader>(
     n: usize,
     value: &Value,
     reader: &R,
-) -> Result<R::Out, FileFault>
-    ensures { Gives R.plain file_fault_of result (item_at (R.reads reader.now) n (view value.now)) }
+) -> Result<R::Out, Unread<FileFault>>
+    ensures { Gives R.plain fault_in result (item_at (R.reads reader.now) n (view value.now)) }
 {
     match reader.read(alloc, value) {
         Ok(read) => Ok(read),
@@ -135,8 +135,8 @@ fn read_items<R: Reader>(
     alloc: Global,
     values: &[Value],
     reader: &R,
-) -> Result<List<R::Out>, FileFault>
-    ensures { Gives (map R.plain) file_fault_of result (read_each (item_at (R.reads reader.now)) 0 (map view values.now)) }
+) -> Result<List<R::Out>, Unread<FileFault>>
+    ensures { Gives (map R.plain) fault_in result (read_each (item_at (R.reads reader.now)) 0 (map view values.now)) }
 {
     let mut read = List::new(alloc);
     for (n, value) in values.iter().enumerate() {
@@ -152,8 +152,8 @@ pub fn each_item<R: Reader>(
     alloc: Global,
     value: &Value,
     reader: &R,
-) -> Result<List<R::Out>, FileFault>
-    ensures { Gives (map R.plain) file_fault_of result (each_item (R.reads reader.now) (view value.now)) }
+) -> Result<List<R::Out>, Unread<FileFault>>
+    ensures { Gives (map R.plain) fault_in result (each_item (R.reads reader.now) (view value.now)) }
 {
     match items(value) {
         Some(values) => read_items(alloc, values, reader),
@@ -170,11 +170,11 @@ pub trait MemberReader {
 
     ghost plain: { Self.Out → Plain };
 
-    ghost reads: { Self → List ℕ → Data → Result Plain Fault };
+    ghost reads: { Self → List ℕ → Data → Result Plain FileFault };
 
     /// What the member means, or its first fault, told from the member's value.
-    fn read(&self, alloc: Global, key: &str, value: &Value) -> Result<Self::Out, FileFault>
-        ensures { Gives plain file_fault_of result (reads self.now key.now (view value.now)) };
+    fn read(&self, alloc: Global, key: &str, value: &Value) -> Result<Self::Out, Unread<FileFault>>
+        ensures { Gives plain fault_in result (reads self.now key.now (view value.now)) };
 }
 
 fn read_member<R: MemberReader>(
@@ -182,8 +182,8 @@ fn read_member<R: MemberReader>(
     key: &str,
     value: &Value,
     reader: &R,
-) -> Result<R::Out, FileFault>
-    ensures { Gives R.plain file_fault_of result (member_at (R.reads reader.now) (key.now, view value.now)) }
+) -> Result<R::Out, Unread<FileFault>>
+    ensures { Gives R.plain fault_in result (member_at (R.reads reader.now) (key.now, view value.now)) }
 {
     match reader.read(alloc, key, value) {
         Ok(read) => Ok(read),
@@ -195,8 +195,8 @@ fn read_members<R: MemberReader>(
     alloc: Global,
     object: &Map<String, Value>,
     reader: &R,
-) -> Result<List<R::Out>, FileFault>
-    ensures { Gives (map R.plain) file_fault_of result (read_each (λ _. member_at (R.reads reader.now)) 0 (pairs_of (members_view object.now.entries))) }
+) -> Result<List<R::Out>, Unread<FileFault>>
+    ensures { Gives (map R.plain) fault_in result (read_each (λ _. member_at (R.reads reader.now)) 0 (pairs_of (members_view object.now.entries))) }
 {
     let mut read = List::new(alloc);
     for (key, value) in object.iter() {
@@ -213,8 +213,8 @@ pub fn each_member<R: MemberReader>(
     alloc: Global,
     value: &Value,
     reader: &R,
-) -> Result<List<R::Out>, FileFault>
-    ensures { Gives (map R.plain) file_fault_of result (each_member (R.reads reader.now) (view value.now)) }
+) -> Result<List<R::Out>, Unread<FileFault>>
+    ensures { Gives (map R.plain) fault_in result (each_member (R.reads reader.now) (view value.now)) }
 {
     match value.as_object() {
         Some(object) => read_members(alloc, object, reader),
@@ -223,8 +223,8 @@ pub fn each_member<R: MemberReader>(
 }
 
 /// Nothing but that the value is an object.
-pub fn object(alloc: Global, value: &Value) -> Result<(), FileFault>
-    ensures { Gives (λ done. tt) file_fault_of result (object_at (view value.now)) }
+pub fn object(alloc: Global, value: &Value) -> Result<(), Unread<FileFault>>
+    ensures { Gives (λ done. tt) fault_in result (object_at (view value.now)) }
 {
     if value.is_object() {
         return Ok(());
@@ -245,7 +245,7 @@ impl Reader for AnyText {
 
     ghost reads = { λ r. text_at };
 
-    fn read(&self, alloc: Global, value: &Value) -> Result<Text, FileFault> {
+    fn read(&self, alloc: Global, value: &Value) -> Result<Text, Unread<FileFault>> {
         Ok(Text::from_str(alloc, text(alloc, value)?)?)
     }
 }
@@ -263,7 +263,7 @@ impl Reader for AnyBoolean {
 
     ghost reads = { λ r. bool_at };
 
-    fn read(&self, alloc: Global, value: &Value) -> Result<bool, FileFault> {
+    fn read(&self, alloc: Global, value: &Value) -> Result<bool, Unread<FileFault>> {
         boolean(alloc, value)
     }
 }
@@ -281,7 +281,7 @@ impl Reader for SmallNumber {
 
     ghost reads = { λ r. number_at };
 
-    fn read(&self, alloc: Global, value: &Value) -> Result<u32, FileFault> {
+    fn read(&self, alloc: Global, value: &Value) -> Result<u32, Unread<FileFault>> {
         number(alloc, value)
     }
 }
@@ -299,7 +299,7 @@ impl<R: Reader> Reader for ListOf<R> {
 
     ghost reads = { λ r. each_item (R.reads r.0) };
 
-    fn read(&self, alloc: Global, value: &Value) -> Result<List<R::Out>, FileFault> {
+    fn read(&self, alloc: Global, value: &Value) -> Result<List<R::Out>, Unread<FileFault>> {
         each_item(alloc, value, &self.0)
     }
 }
@@ -317,7 +317,7 @@ impl<R: MemberReader> Reader for ObjectOf<R> {
 
     ghost reads = { λ r. each_member (R.reads r.0) };
 
-    fn read(&self, alloc: Global, value: &Value) -> Result<List<R::Out>, FileFault> {
+    fn read(&self, alloc: Global, value: &Value) -> Result<List<R::Out>, Unread<FileFault>> {
         each_member(alloc, value, &self.0)
     }
 }

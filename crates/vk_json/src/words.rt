@@ -10,7 +10,7 @@ use std::alloc::Global;
 use vk_base::{Memory, Text};
 
 // All that tell no number.
-const PLAIN: [Why; 25] = [
+const PLAIN: [Why; 24] = [
     Why::Absent,
     Why::Large,
     Why::Json,
@@ -28,7 +28,6 @@ const PLAIN: [Why; 25] = [
     Why::Version,
     Why::Range,
     Why::Day,
-    Why::Suffix,
     Why::Depth,
     Why::Path,
     Why::Kind,
@@ -84,7 +83,6 @@ impl Why {
             Why::Version => ("version", None),
             Why::Range => ("range", None),
             Why::Day => ("day", None),
-            Why::Suffix => ("suffix", None),
             Why::Unexpected(at) => ("unexpected", Some(at)),
             Why::Mixed(at) => ("mixed", Some(at)),
             Why::Open(at) => ("open", Some(at)),

@@ -1,10 +1,11 @@
+//! The host's files as a tree.
 ghost use Rattle.std.specs.Prelude.{None, false};
 
 use std::alloc::Global;
 use std::io::{ErrorKind, Read};
 use std::rt::Files;
 use std::{fs, io};
-use vk_base::{List, TreePath};
+use vk_base::{List, Memory, Stop, TreePath};
 use vk_tree::{ReadFault, Tree};
 
 /// The host's files. It tells nothing of them, and counts each error.
@@ -68,24 +69,24 @@ impl<R: Files + Alloc<A = Global>> FileTree<R> {
 impl<R: Files + Alloc<A = Global>> Tree for FileTree<R> {
     ghost state = { λ t. record { told = None; changes = 0; faults = t.faults; calls = t.calls; sure = false } };
 
-    fn read(&mut self, path: &TreePath, limit: u64) -> Result<List<u8>, ReadFault> {
+    fn read(&mut self, path: &TreePath, limit: u64) -> Result<List<u8>, Stop<ReadFault>> {
         self.calls = self.calls.saturating_add(1);
         let text = path.text(self.alloc)?;
         match find(&self.rt, text.as_str(), limit) {
-            Ok(Found::Absent) => Err(ReadFault::Missing),
-            Ok(Found::Long) => Err(ReadFault::TooLarge),
+            Ok(Found::Absent) => Err(Stop::Fault(ReadFault::Missing)),
+            Ok(Found::Long) => Err(Stop::Fault(ReadFault::TooLarge)),
             Ok(Found::Bytes(bytes)) => {
                 if bytes.len() as u64 > limit {
-                    return Err(ReadFault::TooLarge);
+                    return Err(Stop::Fault(ReadFault::TooLarge));
                 }
                 Ok(List::from_vec(bytes))
             }
             Err(e) => {
                 if e.kind() == ErrorKind::OutOfMemory {
-                    return Err(ReadFault::Memory);
+                    return Err(Stop::Memory(Memory::without_allocation()));
                 }
                 self.faults = self.faults.saturating_add(1);
-                Err(ReadFault::Failed)
+                Err(Stop::Failed)
             }
         }
     }

@@ -1,3 +1,4 @@
+//! The standard streams as sinks.
 ghost use Rattle.std.specs.Prelude.{None};
 
 use std::io::Write;
@@ -9,17 +10,22 @@ use vk_tree::{Sink, SinkFailed};
 pub struct OutSink<W> {
     stream: W,
     faults: u64,
+    failures: u64,
 }
 
 impl<W: Write> OutSink<W> {
-    /// A sink whose count is 0.
+    /// A sink whose counts are 0.
     pub fn new(stream: W) -> OutSink<W> {
-        OutSink { stream, faults: 0 }
+        OutSink {
+            stream,
+            faults: 0,
+            failures: 0,
+        }
     }
 }
 
 impl<W: Write> Sink for OutSink<W> {
-    ghost state = { λ s. record { taken = None; faults = s.faults; room = 0 } };
+    ghost state = { λ s. record { taken = None; faults = s.faults; failures = s.failures; room = 0 } };
 
     fn put(&mut self, piece: &[u8]) -> Result<usize, SinkFailed> {
         match self.stream.write(piece) {
@@ -31,6 +37,7 @@ impl<W: Write> Sink for OutSink<W> {
             }
             Err(_) => {
                 self.faults = self.faults.saturating_add(1);
+                self.failures = self.failures.saturating_add(1);
                 Err(SinkFailed)
             }
         }

@@ -5,7 +5,8 @@ use Rattle.serde_json.specs.Data.{Data}
 use Rattle.vk_spec.specs.Reading.{◌>>=◌, or_fault}
 use Rattle.vk_spec.specs.Manifests.{Manifest}
 use Rattle.vk_spec.specs.Conditions.{Condition}
-use Rattle.vk_json.specs.Documents.{Fault, json_of, value_of, without_mark}
+use Rattle.vk_json.specs.Documents.{json_of, value_of, without_mark}
+use Rattle.vk_json.specs.declared.faults.FileFault.{FileFault}
 use Rattle.vk_json.specs.declared.faults.Why.TheVariants as why
 use Rattle.vk_json.specs.Places.{here}
 use Rattle.vk_json.specs.Standing.{StandsIn}
@@ -13,19 +14,19 @@ use Rattle.vk_json.proofs.TellingLemmas.{told_stands, given_has}
 use Rattle.vk_manifest.specs.Manifests.{manifest_at, manifest_of}
 use Rattle.vk_manifest.proofs.TellingLemmas.{IsRead, manifest_says}
 
-pub fault_stands : (bytes : List ℕ) (root : Bool) (d : Data) (fault : Fault) → json_of bytes ≡ Ok d → manifest_of bytes root ≡ Err fault → StandsIn d fault
+pub fault_stands : (bytes : List ℕ) (root : Bool) (d : Data) (fault : FileFault) → json_of bytes ≡ Ok d → manifest_of bytes root ≡ Err fault → StandsIn d fault
 fault_stands bytes root d fault is told =
     told_stands (IsRead root) d (manifest_at root d) fault (manifest_says root d) (sym (ap (λ r. r >>= manifest_at root) is) ∙ told)
 
-whole : (o : Option Data) (fault : Fault) → or_fault (here why.Json) o ≡ Err fault → fault ≡ here why.Json
+whole : (o : Option Data) (fault : FileFault) → or_fault (here why.Json) o ≡ Err fault → fault ≡ here why.Json
 whole None fault e = (cc)
 whole (Some d) fault e = (cc)
 
-pub no_document : (bytes : List ℕ) (root : Bool) (fault : Fault) → json_of bytes ≡ Err fault → (manifest_of bytes root ≡ Err fault) × (fault ≡ here why.Json)
+pub no_document : (bytes : List ℕ) (root : Bool) (fault : FileFault) → json_of bytes ≡ Err fault → (manifest_of bytes root ≡ Err fault) × (fault ≡ here why.Json)
 unfolding json_of
 no_document bytes root fault e = (ap (λ r. r >>= manifest_at root) e, whole (value_of (without_mark bytes)) fault e)
 
-read_by : (root : Bool) (r : Result Data Fault) (m : Manifest Condition) → (r >>= manifest_at root) ≡ Ok m → IsRead root m
+read_by : (root : Bool) (r : Result Data FileFault) (m : Manifest Condition) → (r >>= manifest_at root) ≡ Ok m → IsRead root m
 read_by root (Ok d) m e = given_has (IsRead root) d (manifest_at root d) m (manifest_says root d) e
 read_by root (Err fault) m e = (cc)
 

@@ -7,15 +7,13 @@ use Rattle.vk_version.specs.Schemes.{Scheme, relaxed, semver, date, string}
 use Rattle.vk_spec.specs.Conditions.{always}
 use Rattle.vk_json.specs.Readings.{bool_at, each_item, each_member}
 use Rattle.vk_json.proofs.SameLemmas.{on_same, then_same, wanted_same, optional_same, optional_or_same}
-use Rattle.vk_json.specs.declared.faults.Why.TheVariants as why
-use Rattle.vk_json.specs.Places.{here, inside, member_step}
-use Rattle.vk_spec.specs.Reading.{or_fault}
 use Rattle.vk_base.specs.Names.{reads_feature}
 use Rattle.vk_fields.specs.Wording.{name_word}
-use Rattle.vk_fields.specs.Texts.{said_here, port_name_at, feature_name_at, expression_at, ask_at}
+use Rattle.vk_fields.specs.Saying.{said_here}
+use Rattle.vk_fields.specs.Texts.{port_name_at, feature_name_at, expression_at, ask_at}
 use Rattle.vk_fields.specs.Versions.{key_of}
-use Rattle.vk_fields.proofs.SameLemmas.{scheme_same, version_same, version_needed_same, ask_same}
-use Rattle.vk_manifest.specs.Manifests.{use_at, use_of_object, dependency_at, dependency_of_object, feature_at, new_name, override_from, overrides_at, name_in, version_in, overrides_if, manifest_at}
+use Rattle.vk_fields.proofs.SameLemmas.{scheme_needed_same, version_same, version_needed_same, written_ask_same}
+use Rattle.vk_manifest.specs.Manifests.{use_at, use_of_object, dependency_at, dependency_with, dependency_of_object, feature_at, new_name_at, override_ask_at, override_from, overrides_at, name_in, version_in, overrides_if, manifest_at}
 use Rattle.vk_manifest.specs.Keys.{manifest_keys, dependency_keys, use_keys, feature_keys, override_keys, AgreeOn}
 
 module _ (ms ns : Members) where
@@ -26,7 +24,7 @@ module _ (ms ns : Members) where
       then_same (optional_or_same expression_at (codes "platform") (object ms) (object ns) (agree 1 [] (omega arith)) always) (λ platform. refl))
 
   pub dependency_same : AgreeOn dependency_keys (object ms) (object ns) → dependency_at (object ms) ≡ dependency_at (object ns)
-  unfolding dependency_of_object
+  unfolding dependency_of_object dependency_with
   dependency_same agree =
       then_same (wanted_same port_name_at (codes "name") (object ms) (object ns) (agree 0 [] (omega arith))) (λ name.
       then_same (optional_or_same bool_at (codes "default-features") (object ms) (object ns) (agree 1 [] (omega arith)) true) (λ defaults.
@@ -48,14 +46,21 @@ module _ (ms ns : Members) where
   override_versions agree date = agree 3 [] (omega arith)
   override_versions agree string = agree 4 [] (omega arith)
 
+  new_name_same : (names : List (List ℕ)) → get (codes "name") (object ms) ≡ get (codes "name") (object ns) → new_name_at names (object ms) ≡ new_name_at names (object ns)
+  unfolding new_name_at
+  new_name_same names same = then_same (wanted_same port_name_at (codes "name") (object ms) (object ns) same) (λ name. refl)
+
+  override_ask_same : AgreeOn override_keys (object ms) (object ns) → override_ask_at (object ms) ≡ override_ask_at (object ns)
+  unfolding override_ask_at
+  override_ask_same agree =
+      then_same (scheme_needed_same (object ms) (object ns) (override_versions agree))
+      (written_ask_same (object ms) (object ns) (override_versions agree) (agree 5 [] (omega arith)))
+
   pub override_same : (names : List (List ℕ)) → AgreeOn override_keys (object ms) (object ns) → override_from names (object ms) ≡ override_from names (object ns)
   unfolding override_from
   override_same names agree =
-      then_same (wanted_same port_name_at (codes "name") (object ms) (object ns) (agree 0 [] (omega arith))) (λ name.
-      on_same (inside (member_step (codes "name")) (new_name names name)) (λ new.
-      then_same (scheme_same (object ms) (object ns) (override_versions agree)) (λ found.
-      on_same (or_fault (here why.NoVersion) found) (λ scheme.
-      then_same (ask_same (object ms) (object ns) (override_versions agree) (agree 5 [] (omega arith)) scheme) (λ ask. refl)))))
+      then_same (new_name_same names (agree 0 [] (omega arith))) (λ name.
+      then_same (override_ask_same agree) (λ ask. refl))
 
   manifest_versions : AgreeOn manifest_keys (object ms) (object ns) → (scheme : Scheme) → get (key_of scheme) (object ms) ≡ get (key_of scheme) (object ns)
   manifest_versions agree relaxed = agree 1 [] (omega arith)

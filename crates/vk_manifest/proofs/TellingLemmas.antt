@@ -16,14 +16,14 @@ use Rattle.vk_base.specs.Names.{IsName, IsFeatureName, port_rule, reads_feature}
 use Rattle.vk_base.proofs.NameLemmas.{neither}
 use Rattle.vk_spec.specs.Conditions.{Condition, always}
 use Rattle.vk_json.specs.declared.faults.Why.TheVariants as why
-use Rattle.vk_json.specs.Places.{here, inside, member_step}
+use Rattle.vk_json.specs.Places.{at_member}
 use Rattle.vk_json.specs.Readings.{bool_at, optional, each_item, each_member}
-use Rattle.vk_json.proofs.TellingLemmas.{Says, Reads, Anything, says_then, says_weaker, says_under, or_says, told_here, bool_says, object_says, wanted_says, wanted_there, optional_says, optional_or_says, text_or_object_says, each_item_says, each_member_says, list_after_says}
+use Rattle.vk_json.proofs.TellingLemmas.{Says, Reads, Anything, says_then, says_weaker, told_here, told_at, bool_says, object_says, wanted_says, wanted_there, optional_says, optional_or_says, text_or_object_says, each_item_says, each_member_says, list_after_says}
 use Rattle.vk_fields.specs.Wording.{name_word}
 use Rattle.vk_fields.specs.Texts.{port_name_at, feature_name_at, expression_at, ask_at}
-use Rattle.vk_fields.specs.Versions.{key_of}
-use Rattle.vk_fields.proofs.TellingLemmas.{name_there, said_says, feature_keeps, port_name_says, feature_name_says, expression_says, ask_says, scheme_says, version_says, version_needed_says, ask_under_says}
-use Rattle.vk_manifest.specs.Manifests.{condition_under, use_of_text, use_of_object, use_at, uses_under, dependency_of_text, dependency_of_object, dependency_at, dependencies_in, feature_at, features_in, new_name, override_from, names_of, overrides_at, overrides_in, name_in, version_in, overrides_if, manifest_at}
+use Rattle.vk_fields.specs.Versions.{key_of, scheme_needed, written_ask_under}
+use Rattle.vk_fields.proofs.TellingLemmas.{name_there, said_says, feature_keeps, port_name_says, feature_name_says, expression_says, ask_says, scheme_needed_says, version_says, version_needed_says, written_ask_says}
+use Rattle.vk_manifest.specs.Manifests.{condition_under, use_of_text, use_of_object, use_at, uses_under, dependency_of_text, dependency_with, dependency_of_object, dependency_at, dependencies_in, feature_at, features_in, new_name, new_name_at, override_ask_at, override_from, names_of, overrides_at, overrides_in, name_in, version_in, overrides_if, manifest_at}
 use Rattle.vk_manifest.specs.Names.{IsNamedUse, IsNamedDependency, IsNamedFeature, IsNamedOverride, IsNamed, IsPort}
 
 condition_says : (key : List ℕ) → Reads Anything (condition_under key)
@@ -53,16 +53,20 @@ dependency_of_text_says : Reads IsNamedDependency dependency_of_text
 unfolding dependency_of_text
 dependency_of_text_says d = says_then (IsName port_rule) IsNamedDependency d _ _ (port_name_says d) (λ name is. record { port = is; uses = All-nil IsNamedUse })
 
-dependency_of_object_says : Reads IsNamedDependency dependency_of_object
-unfolding dependency_of_object
-dependency_of_object_says d =
-    says_then (IsName port_rule) IsNamedDependency d _ _ (wanted_says (IsName port_rule) port_name_at port_name_says (codes "name") d) (λ name is.
+dependency_with_says : (name : List ℕ) → IsName port_rule name → Reads IsNamedDependency (dependency_with name)
+unfolding dependency_with
+dependency_with_says name is d =
     says_then Anything IsNamedDependency d _ _ (optional_or_says Anything bool_at bool_says (codes "default-features") d true tt) (λ defaults any.
     says_then (All IsNamedUse) IsNamedDependency d _ _ (uses_says (codes "features") d) (λ features are.
     says_then Anything IsNamedDependency d _ _ (optional_or_says Anything bool_at bool_says (codes "host") d false tt) (λ host any.
     says_then Anything IsNamedDependency d _ _ (condition_says (codes "platform") d) (λ platform any.
     says_then (λ o. IfSome o Anything) IsNamedDependency d (optional ask_at (codes "version>=") d) (λ minimum. Ok (record { name = name; defaults = defaults; features = features; host = host; platform = platform; minimum = minimum })) (optional_says Anything ask_at ask_says (codes "version>=") d) (λ minimum any.
-    record { port = is; uses = are }))))))
+    record { port = is; uses = are })))))
+
+dependency_of_object_says : Reads IsNamedDependency dependency_of_object
+unfolding dependency_of_object
+dependency_of_object_says d =
+    says_then (IsName port_rule) IsNamedDependency d _ _ (wanted_says (IsName port_rule) port_name_at port_name_says (codes "name") d) (λ name is. dependency_with_says name is d)
 
 dependency_says : Reads IsNamedDependency dependency_at
 dependency_says = text_or_object_says IsNamedDependency dependency_of_text dependency_of_object dependency_of_text_says dependency_of_object_says
@@ -95,12 +99,12 @@ none_has name (n ∷ ns) none has =
     ]
 
 new_by : (names : List (List ℕ)) (name : List ℕ) (d v : Data) (b : Bool) → list_any (bytes_eq name) names ≡ b → get (codes "name") d ≡ Some v
-    → Says {A = Unit {0}} (λ new. Contains names name → ⊥) d (inside (member_step (codes "name")) (if b then Err (here why.Twice) else Ok tt))
-new_by names name d v true old found = says_under {A = Unit {0}} (λ new. Contains names name → ⊥) (codes "name") d v (Err (here why.Twice)) found (told_here v why.Twice (λ e. (cc)))
+    → Says {A = Unit {0}} (λ new. Contains names name → ⊥) d (if b then Err (at_member (codes "name") why.Twice) else Ok tt)
+new_by names name d v true old found = told_at (codes "name") d v why.Twice found (λ e. (cc))
 new_by names name d v false new found = none_has name names new
 
 new_says : (names : List (List ℕ)) (name : List ℕ) (d : Data) (o : Option Data) → get (codes "name") d ≡ o → IsSome o
-    → Says {A = Unit {0}} (λ new. Contains names name → ⊥) d (inside (member_step (codes "name")) (new_name names name))
+    → Says {A = Unit {0}} (λ new. Contains names name → ⊥) d (new_name names name)
 new_says names name d (Some v) found there = new_by names name d v (list_any (bytes_eq name) names) refl found
 new_says names name d None found there = let no : false ≡ true = there in (cc)
 
@@ -108,15 +112,26 @@ new_says names name d None found there = let no : false ≡ true = there in (cc)
 abbrev IsNew : List (List ℕ) → Override → Type 0
 IsNew names o = IsNamedOverride o × (Contains names o.name → ⊥)
 
+-- a port's name that none of these is
+abbrev IsNewName : List (List ℕ) → List ℕ → Type 0
+IsNewName names name = IsName port_rule name × (Contains names name → ⊥)
+
+new_name_says : (names : List (List ℕ)) → Reads (IsNewName names) (new_name_at names)
+unfolding new_name_at
+new_name_says names d =
+    says_then (λ name. IsName port_rule name × IsSome (get (codes "name") d)) (IsNewName names) d _ _ (wanted_there (IsName port_rule) port_name_at port_name_says (codes "name") d) (λ name is.
+    says_then (λ new. Contains names name → ⊥) (IsNewName names) d _ _ (new_says names name d (get (codes "name") d) refl is.1) (λ new other. (is.0, other)))
+
+override_ask_says : Reads Anything override_ask_at
+unfolding override_ask_at
+override_ask_says d = says_then Anything Anything d (scheme_needed d) (λ scheme. written_ask_under (key_of scheme) d) (scheme_needed_says d) (λ scheme any. written_ask_says d (key_of scheme))
+
 override_says : (names : List (List ℕ)) → Reads (IsNew names) (override_from names)
 unfolding override_from
 override_says names d =
     says_then Anything (IsNew names) d _ _ (object_says d) (λ object any.
-    says_then (λ name. IsName port_rule name × IsSome (get (codes "name") d)) (IsNew names) d _ _ (wanted_there (IsName port_rule) port_name_at port_name_says (codes "name") d) (λ name is.
-    says_then (λ new. Contains names name → ⊥) (IsNew names) d _ _ (new_says names name d (get (codes "name") d) refl is.1) (λ new other.
-    says_then Anything (IsNew names) d _ _ (scheme_says d) (λ found any.
-    says_then Anything (IsNew names) d _ _ (or_says d why.NoVersion found (λ e. (cc))) (λ scheme any.
-    says_then Anything (IsNew names) d _ _ (ask_under_says d (key_of scheme)) (λ ask any. (is.0, other)))))))
+    says_then (IsNewName names) (IsNew names) d _ _ (new_name_says names d) (λ name is.
+    says_then Anything (IsNew names) d _ _ (override_ask_says d) (λ ask any. is)))
 
 -- overrides with names, each with one of its own
 abbrev AreNew : List Override → Type 0

@@ -3,18 +3,23 @@ use Rattle.std.specs.Prelude.{ℕ, Bool, true, false, List, [], Option, Some, No
 use Rattle.std.specs.List.{list_any}
 use Rattle.std.specs.Str.{bytes_eq}
 use Rattle.vk_spec.specs.Reading.{◌>>=◌, or_fault, read_after}
-use Rattle.vk_spec.specs.Versions.{Version}
+use Rattle.vk_spec.specs.Versions.{Version, Ask}
 use Rattle.vk_spec.specs.Manifests.{FeatureUse, Dependency, Feature, Override, Manifest}
 use Rattle.vk_base.specs.Names.{reads_feature}
 use Rattle.vk_spec.specs.Conditions.{Condition, always}
-use Rattle.vk_json.specs.Documents.{Fault, json_of}
+use Rattle.vk_json.specs.Documents.{json_of}
+use Rattle.vk_json.specs.declared.faults.FileFault.{FileFault}
 use Rattle.vk_json.specs.declared.faults.Why.TheVariants as why
 use Rattle.vk_json.specs.Looks.{items_of}
-use Rattle.vk_json.specs.Places.{here, inside, member_step, item_step}
-use Rattle.vk_json.specs.Readings.{Reading, MemberReading, bool_at, object_at, wanted, optional, optional_or, text_or_object, each_item, each_member}
+use Rattle.vk_json.specs.Places.{here, at_member, inside, item_step}
+use Rattle.vk_json.specs.Readings.{Reading, MemberReading, bool_at, object_at}
+use Rattle.vk_json.specs.Readings.{wanted, optional, optional_or, text_or_object, each_item}
+use Rattle.vk_json.specs.Readings.{each_member}
 use Rattle.vk_fields.specs.Wording.{name_word}
-use Rattle.vk_fields.specs.Texts.{said_here, port_name_at, feature_name_at, expression_at, ask_at}
-use Rattle.vk_fields.specs.Versions.{key_of, scheme_in, version_at, version_needed_at, ask_under}
+use Rattle.vk_fields.specs.Saying.{said_here}
+use Rattle.vk_fields.specs.Texts.{port_name_at, feature_name_at, expression_at, ask_at}
+use Rattle.vk_fields.specs.Versions.{key_of, scheme_needed, version_at, version_needed_at}
+use Rattle.vk_fields.specs.Versions.{written_ask_under}
 
 -- a condition under a key; where it is missing, it always holds
 abbrev pub condition_under : List ℕ → Reading Condition
@@ -40,20 +45,39 @@ uses_under = optional_or [] (each_item use_at)
 
 -- a port's name alone: the port with its default features, everywhere
 abbrev pub plainly : List ℕ → Dependency Condition
-plainly name = record { name = name; defaults = true; features = []; host = false; platform = always; minimum = None }
+plainly name = record {
+  name = name;
+  defaults = true;
+  features = [];
+  host = false;
+  platform = always;
+  minimum = None;
+}
 
 unfoldable pub dependency_of_text : Reading (Dependency Condition)
 dependency_of_text d = port_name_at d >>= λ name. Ok (plainly name)
 
-unfoldable pub dependency_of_object : Reading (Dependency Condition)
-dependency_of_object d = do
-  name ← wanted port_name_at (codes "name") d
+-- the port of this name, and what an object says besides
+unfoldable pub dependency_with : List ℕ → Reading (Dependency Condition)
+dependency_with name d = do
   defaults ← optional_or true bool_at (codes "default-features") d
   features ← uses_under (codes "features") d
   host ← optional_or false bool_at (codes "host") d
   platform ← condition_under (codes "platform") d
   minimum ← optional ask_at (codes "version>=") d
-  Ok (record { name = name; defaults = defaults; features = features; host = host; platform = platform; minimum = minimum })
+  Ok (record {
+    name = name;
+    defaults = defaults;
+    features = features;
+    host = host;
+    platform = platform;
+    minimum = minimum;
+  })
+
+unfoldable pub dependency_of_object : Reading (Dependency Condition)
+dependency_of_object d = do
+  name ← wanted port_name_at (codes "name") d
+  dependency_with name d
 
 abbrev pub dependency_at : Reading (Dependency Condition)
 dependency_at = text_or_object dependency_of_text dependency_of_object
@@ -79,18 +103,27 @@ abbrev pub features_in : Reading (List (Feature Condition))
 features_in = optional_or [] (each_member feature_at) (codes "features")
 
 -- a name that is none of these
-abbrev pub new_name : List (List ℕ) → List ℕ → Result (Unit {0}) Fault
-new_name names name = if list_any (bytes_eq name) names then Err (here why.Twice) else Ok tt
+abbrev pub new_name : List (List ℕ) → List ℕ → Result (Unit {0}) FileFault
+new_name names name =
+    if list_any (bytes_eq name) names then Err (at_member (codes "name") why.Twice) else Ok tt
 
--- an override whose name is none of these; under which of the keys its version stands doesn't matter
+-- the name of an override that is none of these
+unfoldable pub new_name_at : List (List ℕ) → Reading (List ℕ)
+new_name_at names d = do
+  name ← wanted port_name_at (codes "name") d
+  new ← new_name names name
+  Ok name
+
+-- the ask of an override; under which of the keys its version stands doesn't matter
+unfoldable pub override_ask_at : Reading Ask
+override_ask_at d = scheme_needed d >>= λ scheme. written_ask_under (key_of scheme) d
+
+-- an override whose name is none of these
 unfoldable pub override_from : List (List ℕ) → Reading Override
 override_from names d = do
   object ← object_at d
-  name ← wanted port_name_at (codes "name") d
-  new ← inside (member_step (codes "name")) (new_name names name)
-  found ← scheme_in d
-  scheme ← or_fault (here why.NoVersion) found
-  ask ← ask_under (key_of scheme) d
+  name ← new_name_at names d
+  ask ← override_ask_at d
   Ok (record { name = name; ask = ask })
 
 abbrev pub names_of : List Override → List (List ℕ)
@@ -120,6 +153,18 @@ abbrev pub overrides_if : Bool → Reading (List Override)
 overrides_if true d = overrides_in d
 overrides_if false d = Ok []
 
+-- what a manifest has of which nothing is said
+abbrev pub blank : Manifest Condition
+blank = record {
+  name = None;
+  version = None;
+  supports = always;
+  dependencies = [];
+  default_features = [];
+  features = [];
+  overrides = [];
+}
+
 -- a manifest, of the root or of a port; members with other keys mean nothing
 unfoldable pub manifest_at : Bool → Reading (Manifest Condition)
 manifest_at root d = do
@@ -131,8 +176,16 @@ manifest_at root d = do
   defaults ← uses_under (codes "default-features") d
   features ← features_in d
   overrides ← overrides_if root d
-  Ok (record { name = name; version = version; supports = supports; dependencies = dependencies; default_features = defaults; features = features; overrides = overrides })
+  Ok (record {
+    name = name;
+    version = version;
+    supports = supports;
+    dependencies = dependencies;
+    default_features = defaults;
+    features = features;
+    overrides = overrides;
+  })
 
 -- the manifest that bytes are, or their first fault
-abbrev pub manifest_of : List ℕ → Bool → Result (Manifest Condition) Fault
+abbrev pub manifest_of : List ℕ → Bool → Result (Manifest Condition) FileFault
 manifest_of bytes root = json_of bytes >>= manifest_at root

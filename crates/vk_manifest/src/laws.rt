@@ -2,7 +2,8 @@ ghost use Rattle.std.specs.Prelude.{◌≡◌, ℕ, Bool, false, List, Ok, Err};
 ghost use Rattle.serde_json.specs.Data.{Data, Members, object};
 ghost use Rattle.vk_spec.specs.Manifests.{Manifest};
 ghost use Rattle.vk_spec.specs.Conditions.{Condition};
-ghost use Rattle.vk_json.specs.Documents.{Fault, json_of};
+ghost use Rattle.vk_json.specs.Documents.{json_of};
+ghost use Rattle.vk_json.specs.declared.faults.FileFault.{FileFault};
 ghost use Rattle.vk_json.specs.declared.faults.Why.TheVariants as why;
 ghost use Rattle.vk_json.specs.Places.{here};
 ghost use Rattle.vk_json.specs.Standing.{StandsIn};
@@ -23,8 +24,8 @@ pub fn unknown_members()
 /// Every fault of a document is told at a value that is there, but for a member that is missing, which
 /// is told at its key. Bytes that are no document have one fault, at the whole.
 pub fn fault_places()
-    ensures document { (bytes : List ℕ) (root : Bool) (d : Data) (fault : Fault) → json_of bytes ≡ Ok d → manifest_of bytes root ≡ Err fault → StandsIn d fault }
-    ensures no_document { (bytes : List ℕ) (root : Bool) (fault : Fault) → json_of bytes ≡ Err fault → (manifest_of bytes root ≡ Err fault) × (fault ≡ here why.Json) }
+    ensures document { (bytes : List ℕ) (root : Bool) (d : Data) (fault : FileFault) → json_of bytes ≡ Ok d → manifest_of bytes root ≡ Err fault → StandsIn d fault }
+    ensures no_document { (bytes : List ℕ) (root : Bool) (fault : FileFault) → json_of bytes ≡ Err fault → (manifest_of bytes root ≡ Err fault) × (fault ≡ here why.Json) }
 {}
 
 /// What every manifest that reads has: names that keep their rules, and no port overridden twice. A

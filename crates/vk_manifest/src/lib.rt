@@ -10,6 +10,3 @@ mod overrides;
 
 pub use laws::{fault_places, manifest_names, unknown_members};
 pub use manifests::{read_manifest, read_manifest_in};
-
-#[cfg(test)]
-mod tests;

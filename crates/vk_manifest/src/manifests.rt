@@ -2,24 +2,26 @@
 ghost use Rattle.std.specs.Prelude.{◌≡◌, ◌<◌, ◌^◌, Bool, length, map};
 ghost use Rattle.serde_json.specs.View.{view};
 ghost use Rattle.vk_spec.specs.Reading.{Gives};
-ghost use Rattle.vk_json.specs.DocumentView.{file_fault_of};
+ghost use Rattle.vk_base.specs.Stops.{fault_in};
 ghost use Rattle.vk_model.specs.Views.{manifest_view, override_view};
-ghost use Rattle.vk_manifest.specs.Manifests.{name_in, version_in, overrides_if, manifest_at, manifest_of};
+ghost use Rattle.vk_manifest.specs.Manifests.{name_in, version_in, overrides_if};
+ghost use Rattle.vk_manifest.specs.Manifests.{blank, manifest_at, manifest_of};
 
 use crate::dependencies::{condition, dependencies, feature_uses};
 use crate::features::features;
 use crate::overrides::overrides;
 use serde_json::Value;
 use std::alloc::Global;
-use vk_base::{List, PortName};
+use vk_base::{List, PortName, Unread};
+use vk_expr::Expr;
 use vk_fields::{PortNameText, version, version_needed};
 use vk_json::{Doc, FileFault, object, optional, wanted};
 use vk_model::{Manifest, Override};
 use vk_version::Version;
 
 #[tactic(auto, unfolding(crate::specs::Manifests::name_in))]
-fn name(alloc: Global, value: &Value, root: bool) -> Result<Option<PortName>, FileFault>
-    ensures { Gives (λ name. name) file_fault_of result (name_in root (view value.now)) }
+fn name(alloc: Global, value: &Value, root: bool) -> Result<Option<PortName>, Unread<FileFault>>
+    ensures { Gives (λ name. name) fault_in result (name_in root (view value.now)) }
 {
     if root {
         return optional(alloc, value, "name", &PortNameText);
@@ -28,8 +30,12 @@ fn name(alloc: Global, value: &Value, root: bool) -> Result<Option<PortName>, Fi
 }
 
 #[tactic(auto, unfolding(crate::specs::Manifests::version_in))]
-fn version_of(alloc: Global, value: &Value, root: bool) -> Result<Option<Version>, FileFault>
-    ensures { Gives (λ v. v) file_fault_of result (version_in root (view value.now)) }
+fn version_of(
+    alloc: Global,
+    value: &Value,
+    root: bool,
+) -> Result<Option<Version>, Unread<FileFault>>
+    ensures { Gives (λ v. v) fault_in result (version_in root (view value.now)) }
 {
     if root {
         return version(alloc, value);
@@ -37,8 +43,12 @@ fn version_of(alloc: Global, value: &Value, root: bool) -> Result<Option<Version
     Ok(Some(version_needed(alloc, value)?))
 }
 
-fn overrides_if(alloc: Global, value: &Value, root: bool) -> Result<List<Override>, FileFault>
-    ensures { Gives (map override_view) file_fault_of result (overrides_if root (view value.now)) }
+fn overrides_if(
+    alloc: Global,
+    value: &Value,
+    root: bool,
+) -> Result<List<Override>, Unread<FileFault>>
+    ensures { Gives (map override_view) fault_in result (overrides_if root (view value.now)) }
 {
     if root {
         return overrides(alloc, value);
@@ -46,37 +56,63 @@ fn overrides_if(alloc: Global, value: &Value, root: bool) -> Result<List<Overrid
     Ok(List::new(alloc))
 }
 
-/// The manifest that a value is: the root's, or a port's, which needs a name and a version. Only a
-/// root's overrides are read. Keys that a manifest hasn't are passed over.
-#[tactic(auto, unfolding(crate::specs::Manifests::manifest_at))]
-pub fn read_manifest_in(alloc: Global, value: &Value, root: bool) -> Result<Manifest, FileFault>
-    ensures { Gives manifest_view file_fault_of result (manifest_at root (view value.now)) }
+// What is put in where a key is missing.
+fn blank(alloc: Global) -> Manifest
+    ensures { manifest_view result ≡ blank }
 {
-    object(alloc, value)?;
-    let name = name(alloc, value, root)?;
-    let version = version_of(alloc, value, root)?;
-    let supports = condition(alloc, value, "supports")?;
-    let dependencies = dependencies(alloc, value)?;
-    let default_features = feature_uses(alloc, value, "default-features")?;
-    let features = features(alloc, value)?;
-    let overrides = overrides_if(alloc, value, root)?;
-    Ok(Manifest {
-        name,
-        version,
-        supports,
-        dependencies,
-        default_features,
-        features,
-        overrides,
-    })
+    Manifest {
+        name: None,
+        version: None,
+        supports: Expr::Always,
+        dependencies: List::new(alloc),
+        default_features: List::new(alloc),
+        features: List::new(alloc),
+        overrides: List::new(alloc),
+    }
 }
 
-/// The manifest that bytes are, of the root or of a port. `Wrong` has the place (a JSON Pointer, RFC
-/// 6901) and the word of the first fault in the order of reading: the object, its name, its version,
-/// `supports`, `dependencies`, `default-features`, `features`, and a root's `overrides`.
-pub fn read_manifest(alloc: Global, bytes: &[u8], root: bool) -> Result<Manifest, FileFault>
+// Puts all that a value says into a manifest.
+#[tactic(auto, unfolding(crate::specs::Manifests::manifest_at))]
+fn fill(
+    alloc: Global,
+    value: &Value,
+    root: bool,
+    manifest: &mut Manifest,
+) -> Result<(), Unread<FileFault>>
+    ensures { Gives (λ done. manifest_view manifest.new) fault_in result
+        (manifest_at root (view value.now)) }
+{
+    object(alloc, value)?;
+    manifest.name = name(alloc, value, root)?;
+    manifest.version = version_of(alloc, value, root)?;
+    manifest.supports = condition(alloc, value, "supports")?;
+    manifest.dependencies = dependencies(alloc, value)?;
+    manifest.default_features = feature_uses(alloc, value, "default-features")?;
+    manifest.features = features(alloc, value)?;
+    manifest.overrides = overrides_if(alloc, value, root)?;
+    Ok(())
+}
+
+/// The manifest that a value is: the root's, or a port's, which needs a name and a version. Only a
+/// root's overrides are read. Keys that a manifest hasn't are passed over.
+pub fn read_manifest_in(
+    alloc: Global,
+    value: &Value,
+    root: bool,
+) -> Result<Manifest, Unread<FileFault>>
+    ensures { Gives manifest_view fault_in result (manifest_at root (view value.now)) }
+{
+    let mut manifest = blank(alloc);
+    fill(alloc, value, root, &mut manifest)?;
+    Ok(manifest)
+}
+
+/// The manifest that bytes are, of the root or of a port. The fault is the first one in the order of
+/// reading, with its place (a JSON Pointer, RFC 6901) and its word: the object, its name, its
+/// version, `supports`, `dependencies`, `default-features`, `features`, and a root's `overrides`.
+pub fn read_manifest(alloc: Global, bytes: &[u8], root: bool) -> Result<Manifest, Unread<FileFault>>
     requires { length bytes.now < 2 ^ 32 }
-    ensures { Gives manifest_view file_fault_of result (manifest_of bytes.now root) }
+    ensures { Gives manifest_view fault_in result (manifest_of bytes.now root) }
 {
     let document = Doc::read(alloc, bytes)?;
     read_manifest_in(alloc, document.value(), root)

@@ -3,7 +3,6 @@ use Rattle.std.specs.Prelude.{map}
 use Rattle.vk_spec.specs.Settings as plain
 use Rattle.vk_base.specs.FeatureViews.{feature_view}
 use Rattle.vk_base.specs.declared.instances.Instance.{Instance}
-use Rattle.vk_triplet.specs.TripletViews.{triplet_view}
 use Rattle.vk_triplet.specs.Meanings.{meaning_of}
 use Rattle.vk_model.specs.Views.{manifest_view}
 use Rattle.vk_model.specs.declared.settings.Setting.{Setting}
@@ -14,8 +13,8 @@ instance_view i = record { port = i.port; triplet = i.triplet }
 abbrev pub setting_view : Setting → plain.Setting
 setting_view s = record {
   root = manifest_view s.root;
-  target = meaning_of (triplet_view s.target);
-  host = meaning_of (triplet_view s.host);
+  target = meaning_of s.target;
+  host = meaning_of s.host;
   features = map feature_view s.features;
   defaults = s.defaults;
   off = map instance_view s.off;

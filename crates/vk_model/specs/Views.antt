@@ -15,13 +15,32 @@ abbrev pub use_view : FeatureUse → plain.FeatureUse Condition
 use_view u = record { name = feature_view u.name; platform = condition_of u.platform }
 
 abbrev pub dependency_view : Dependency → plain.Dependency Condition
-dependency_view d = record { name = d.name; defaults = d.defaults; features = map use_view d.features; host = d.host; platform = condition_of d.platform; minimum = option_map ask_view d.minimum }
+dependency_view d = record {
+  name = d.name;
+  defaults = d.defaults;
+  features = map use_view d.features;
+  host = d.host;
+  platform = condition_of d.platform;
+  minimum = option_map ask_view d.minimum;
+}
 
-abbrev pub feature_data : Feature → plain.Feature Condition
-feature_data f = record { name = feature_view f.name; dependencies = map dependency_view f.dependencies; supports = condition_of f.supports }
+abbrev pub port_feature_view : Feature → plain.Feature Condition
+port_feature_view f = record {
+  name = feature_view f.name;
+  dependencies = map dependency_view f.dependencies;
+  supports = condition_of f.supports;
+}
 
 abbrev pub override_view : Override → plain.Override
 override_view o = record { name = o.name; ask = ask_view o.ask }
 
 abbrev pub manifest_view : Manifest → plain.Manifest Condition
-manifest_view m = record { name = m.name; version = m.version; supports = condition_of m.supports; dependencies = map dependency_view m.dependencies; default_features = map use_view m.default_features; features = map feature_data m.features; overrides = map override_view m.overrides }
+manifest_view m = record {
+  name = m.name;
+  version = m.version;
+  supports = condition_of m.supports;
+  dependencies = map dependency_view m.dependencies;
+  default_features = map use_view m.default_features;
+  features = map port_feature_view m.features;
+  overrides = map override_view m.overrides;
+}

@@ -23,7 +23,7 @@ use Rattle.vk_opening.specs.Configurations.{has_configuration, config_by, config
 use Rattle.vk_opening.specs.TripletFiles.{Triplets, triplet_in, triplet_file, triplet_at, triplets_at}
 use Rattle.vk_opening.specs.Overlays.{overlay_by, overlay_at, overlays_at}
 use Rattle.vk_opening.specs.Openings.{Opening, triplets_of, overlays_of, opened_of}
-use Rattle.vk_opening.proofs.OpenLemmas.{after_root, after_config, after_triplets, after_overlays}
+use Rattle.vk_opening.specs.Openings.{after_root, after_config, after_triplets, after_overlays}
 
 -- two configurations
 

@@ -1,11 +1,10 @@
 -- What was read of a project is what is answered.
-use Rattle.std.proofs.Common.{◌≡◌, List, [], refl, sym, subst, ◌∙◌}
+use Rattle.std.proofs.Common.{◌≡◌, List, [], map, refl, ap, sym, subst, ◌∙◌}
 use Rattle.std.specs.Prelude.{IfSome, Result, Ok, Err}
-use Rattle.vk_spec.specs.Reading.{◌>>=◌}
 use Rattle.vk_spec.specs.Files.{Files}
 use Rattle.vk_spec.specs.Lists.{NoRepeats}
 use Rattle.vk_spec.specs.States.{State, OnlyRead}
-use Rattle.vk_files.specs.Kept.{Kept, paths_of, IsOf}
+use Rattle.vk_files.specs.Kept.{Kept, paths_of, IsOf, Held}
 use Rattle.vk_files.specs.Views.{kept_of}
 use Rattle.vk_files.specs.Readings.{ReadsAs}
 use Rattle.vk_files.specs.declared.caches.FileCache.{FileCache}
@@ -13,17 +12,11 @@ use Rattle.vk_files.specs.declared.stops.Stop.{Stop}
 use Rattle.vk_files.specs.declared.stops.Stop.TheVariants as stop
 use Rattle.vk_model.specs.declared.projects.Project.{Project}
 use Rattle.vk_config.specs.Configs.{Config}
-use Rattle.vk_spec.specs.Earlies as early
-use Rattle.vk_opening.specs.Starts.{Overlay}
-use Rattle.vk_opening.specs.Roots.{Root}
-use Rattle.vk_opening.specs.Configurations.{config_in}
-use Rattle.vk_opening.specs.TripletFiles.{Triplets}
-use Rattle.vk_opening.specs.Openings as plain
-use Rattle.vk_opening.specs.Openings.{opening_with, triplets_of, overlays_of, opened_of}
+use Rattle.vk_opening.specs.Openings.{opening_with, opened_of}
 use Rattle.vk_model.specs.EarlyViews.{early_view}
-use Rattle.vk_opening.specs.OpeningViews.{opening_view, answer_of}
+use Rattle.vk_opening.specs.OpeningViews.{opening_found, opening_view, answer_of}
 use Rattle.vk_opening.specs.Opened.{Opens, has_failed}
-use Rattle.vk_opening.specs.Views.{opened_files}
+use Rattle.vk_opening.specs.Views.{root_view, triplets_view, overlay_view, opened_files}
 use Rattle.vk_model.specs.declared.settings.Setting.{Setting}
 use Rattle.vk_opening.specs.declared.starts.Start.{Start}
 use Rattle.vk_opening.specs.declared.opens.Opened.{Opened}
@@ -31,20 +24,30 @@ use Rattle.vk_opening.specs.declared.opens.Opened.TheVariants as opened
 use Rattle.vk_opening.specs.declared.opens.OpenStop.{OpenStop}
 use Rattle.vk_model.specs.declared.earlies.Early.{Early}
 use Rattle.vk_opening.specs.declared.opens.Opening.{Opening}
+use Rattle.vk_opening.specs.declared.opens.Found.{Found}
+use Rattle.vk_opening.specs.declared.roots.Root.{Root}
 use Rattle.vk_spec.proofs.OptionLemmas.{of_both}
 
--- what is read after each step
-abbrev pub after_overlays : Project → Root → Config → Triplets → List Overlay → Files → Result plain.Opening early.Early
-after_overlays project root config triplets overlays files = Ok (opening_with project root config triplets overlays)
+-- what was found is put together
+pub found_is : (project : Project) (root : Root) (config : Config) (found : Found)
+    → found.own.folder ≡ project.folder → found.own.overrides ≡ root.manifest.overrides
+    → found.own.features ≡ project.features
+    → opening_with project (root_view root) config (triplets_view found.triplets) (map overlay_view found.overlays)
+        ≡ opening_found project (root_view root) config found
+found_is project root config found folder overrides features = rw (folder, overrides, features) refl
 
-abbrev pub after_triplets : Project → Root → Config → Triplets → Files → Result plain.Opening early.Early
-after_triplets project root config triplets files = overlays_of project config files >>= λ overlays. after_overlays project root config triplets overlays files
+-- a stop is the same under any view
+pub reads_err : {X Y Z F P : Type 0} {refusal : F → P} {view : X → Y} {s : Stop F} {meaning : Files → Result Y P} {a b : Held}
+    (next_view : Z → Y) → ReadsAs {X = X} refusal view (Err s) meaning a b → ReadsAs {X = Z} refusal next_view (Err s) meaning a b
+reads_err next_view one = record { once = one.once; content = one.content }
 
-abbrev pub after_config : Project → Root → Config → Files → Result plain.Opening early.Early
-after_config project root config files = triplets_of project config files >>= λ triplets. after_triplets project root config triplets files
-
-abbrev pub after_root : Project → Root → Files → Result plain.Opening early.Early
-after_root project root files = config_in project.folder root.document files >>= λ config. after_config project root config files
+-- the last step of reading, which needs no file
+pub reads_last : {X Y Z F P : Type 0} {refusal : F → P} {view : X → Y} {x : X} {meaning : Files → Result Y P} {a b : Held}
+    (next_view : Z → Y) (z : Z) → next_view z ≡ view x → ReadsAs refusal view (Ok x) meaning a b → ReadsAs refusal next_view (Ok z) meaning a b
+reads_last {meaning = meaning} {a = a} next_view z same one = record {
+  once = one.once;
+  content = of_both a.tree.told one.content one.content (λ t is _ old. is old ∙ ap Ok (sym same));
+}
 
 -- the answer that goes with what was read
 pub opens_with : (project : Project) (read : Result Opening (Stop Early)) (files : FileCache) (before after : State) (kept : Kept) → kept ≡ [] → NoRepeats (paths_of (kept_of files))

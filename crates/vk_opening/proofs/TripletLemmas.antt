@@ -14,6 +14,8 @@ use Rattle.vk_triplet.specs.TripletReadings as plain
 use Rattle.vk_spec.specs.Earlies.{Early}
 use Rattle.vk_opening.specs.TripletFiles.{Triplets, triplet_at, triplets_at}
 use Rattle.vk_opening.specs.Views.{triplets_view}
+use Rattle.vk_opening.specs.declared.triplet_files.Triplets as made
+use Rattle.vk_model.specs.declared.earlies.Early as declared
 use Rattle.vk_model.specs.EarlyViews.{early_view}
 use Rattle.vk_spec.proofs.OptionLemmas.{of_both}
 
@@ -29,13 +31,20 @@ abbrev pub after_first : List ℕ → List Path → plain.Triplet → Files → 
 after_first host folders first files = triplet_at host folders files >>= λ second. after_second first second files
 
 -- a triplet that was read is also that of the same name
-pub read_for_both : (target host : List ℕ) (folders : List Path) (first second : Triplet) (a b : Held) → target ≡ host → second ≡ first
-    → ReadsAs early_view triplet_view (Ok first) (triplet_at target folders) a b → ReadsAs early_view triplets_view (Ok (record { target = first; host = second })) (triplets_at target host folders) a b
+pub read_twice : (name : List ℕ) (folders : List Path) (first second : Triplet) (a b : Held) → second ≡ first
+    → ReadsAs early_view triplet_view (Ok first) (triplet_at name folders) a b
+    → ReadsAs early_view triplets_view (Ok (record { target = first; host = second })) (triplets_at name name folders) a b
 unfolding triplets_at
-read_for_both target host folders first second a b one same read = record {
+read_twice name folders first second a b same read = record {
   once = read.once;
   content = of_both a.tree.told read.content read.content (λ t is _ old. both t.files (is old));
 }
   where
-    both : (files : Files) → triplet_at target folders files ≡ Ok (triplet_view first) → triplets_at target host folders files ≡ Ok (triplets_view (record { target = first; host = second }))
-    both files is = rw (← one, is, same) refl
+    both : (files : Files) → triplet_at name folders files ≡ Ok (triplet_view first) → triplets_at name name folders files ≡ Ok (triplets_view (record { target = first; host = second }))
+    both files is = rw (is, same) refl
+
+-- what is read for one name is read for two that are one
+pub one_name : {answer : Result made.Triplets (Stop declared.Early)} {a b : Held} (target host : List ℕ) (folders : List Path) → target ≡ host
+    → ReadsAs early_view triplets_view answer (triplets_at target target folders) a b → ReadsAs early_view triplets_view answer (triplets_at target host folders) a b
+one_name {answer = answer} {a = a} {b = b} target host folders same read =
+    subst (λ name. ReadsAs early_view triplets_view answer (triplets_at target name folders) a b) same read

@@ -1,14 +1,22 @@
 -- What was read of a project, as plain data, and the answer that it makes.
-use Rattle.std.specs.Prelude.{map, Result, Ok, Err}
+use Rattle.std.specs.Prelude.{[], map, Result, Ok, Err}
 use Rattle.vk_model.specs.Views.{override_view}
 use Rattle.vk_model.specs.SettingViews.{setting_view}
 use Rattle.vk_config.specs.Views.{config_view}
 use Rattle.vk_files.specs.declared.caches.FileCache.{FileCache}
 use Rattle.vk_files.specs.declared.stops.Stop.{Stop}
 use Rattle.vk_files.specs.declared.stops.Stop.TheVariants as stop
+use Rattle.vk_base.specs.FeatureViews.{feature_view}
+use Rattle.vk_config.specs.Configs.{Config}
+use Rattle.vk_triplet.specs.TripletViews.{triplet_view}
+use Rattle.vk_triplet.specs.Meanings.{meaning_of}
+use Rattle.vk_model.specs.declared.projects.Project.{Project}
+use Rattle.vk_opening.specs.Roots.{Root}
 use Rattle.vk_opening.specs.Openings as plain
 use Rattle.vk_opening.specs.Views.{overlay_view}
 use Rattle.vk_model.specs.declared.earlies.Early.{Early}
+use Rattle.vk_opening.specs.declared.opens.Found.{Found}
+use Rattle.vk_opening.specs.declared.opens.Rest.{Rest}
 use Rattle.vk_opening.specs.declared.opens.Opening.{Opening}
 use Rattle.vk_opening.specs.declared.opens.Opened.{Opened}
 use Rattle.vk_opening.specs.declared.opens.Opened.TheVariants as opened
@@ -17,6 +25,30 @@ use Rattle.vk_opening.specs.declared.opens.OpenStop.TheVariants as open_stop
 
 abbrev pub opening_view : Opening → plain.Opening
 opening_view o = record { setting = setting_view o.setting; start = record { folder = o.folder; config = config_view o.config; overlays = map overlay_view o.overlays; overrides = map override_view o.overrides } }
+
+-- the opening that is made of what was found, beside a root and a configuration
+abbrev pub opening_found : Project → Root → Config → Found → plain.Opening
+opening_found project root config found = record {
+  setting = record {
+    root = root.manifest;
+    target = meaning_of (triplet_view found.triplets.target);
+    host = meaning_of (triplet_view found.triplets.host);
+    features = map feature_view found.own.features;
+    defaults = project.defaults;
+    off = [];
+    max_facts = project.max_facts;
+  };
+  start = record {
+    folder = found.own.folder;
+    config = config;
+    overlays = map overlay_view found.overlays;
+    overrides = map override_view found.own.overrides;
+  };
+}
+
+-- and of all that was read after the root
+abbrev pub opening_rest : Project → Root → Rest → plain.Opening
+opening_rest project root rest = opening_found project root (config_view rest.config) rest.found
 
 -- with the files that were read
 abbrev pub ready : Opening → FileCache → Opened

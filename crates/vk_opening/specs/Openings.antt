@@ -47,3 +47,19 @@ opened_of project files = do
   triplets ← triplets_of project config files
   overlays ← overlays_of project config files
   Ok (opening_with project root config triplets overlays)
+
+-- what is read after each step
+abbrev pub after_overlays : Project → Root → Config → Triplets → List Overlay → Files → Result Opening Early
+after_overlays project root config triplets overlays files = Ok (opening_with project root config triplets overlays)
+
+abbrev pub after_triplets : Project → Root → Config → Triplets → Files → Result Opening Early
+after_triplets project root config triplets files =
+    overlays_of project config files >>= λ overlays. after_overlays project root config triplets overlays files
+
+abbrev pub after_config : Project → Root → Config → Files → Result Opening Early
+after_config project root config files =
+    triplets_of project config files >>= λ triplets. after_triplets project root config triplets files
+
+abbrev pub after_root : Project → Root → Files → Result Opening Early
+after_root project root files =
+    config_in project.folder root.document files >>= λ config. after_config project root config files

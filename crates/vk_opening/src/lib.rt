@@ -18,6 +18,3 @@ pub use opens::{OpenStop, Opened, open};
 pub use projects::{from_folder, manifest_path};
 pub use roots::PortFile;
 pub use starts::{Overlay, Start};
-
-#[cfg(test)]
-mod tests;

@@ -6,9 +6,11 @@ ghost use Rattle.vk_config.specs.Views.{config_view};
 ghost use Rattle.vk_model.specs.EarlyViews.{early_view};
 ghost use Rattle.vk_opening.specs.Projects.{manifest_path};
 ghost use Rattle.vk_opening.specs.Roots.{root_in, early_at};
-ghost use Rattle.vk_opening.specs.Openings.{opened_of, opening_with, triplets_of, overlays_of};
+ghost use Rattle.vk_opening.specs.Openings.{opened_of, triplets_of, overlays_of};
+ghost use Rattle.vk_opening.specs.Openings.{after_root, after_config};
 ghost use Rattle.vk_opening.specs.Opened.{Opens};
 ghost use Rattle.vk_opening.specs.Views.{root_view, triplets_view, overlay_view};
+ghost use Rattle.vk_opening.specs.OpeningViews.{opening_found, opening_rest};
 ghost use Rattle.vk_opening.specs.OpeningViews.{opening_view, ready, answer_of};
 
 use crate::configurations::read_configuration;
@@ -19,7 +21,7 @@ use crate::roots::{Root, RootFile};
 use crate::starts::{Overlay, Start};
 use crate::triplet_files::{Triplets, read_triplets};
 use std::alloc::Global;
-use vk_base::{List, Memory, TreePath};
+use vk_base::{FeatureName, List, Memory, TreePath};
 use vk_config::Config;
 use vk_files::{FileCache, Stop};
 use vk_model::{Early, Override, Project, Setting};
@@ -53,13 +55,37 @@ struct Opening {
     overrides: List<Override>,
 }
 
+// What a setting and a start take from the words and from the root manifest.
+#[derive(Drop)]
+struct Own {
+    folder: TreePath,
+    overrides: List<Override>,
+    features: List<FeatureName>,
+}
+
+// The same, with the triplets and the overlays.
+#[derive(Drop)]
+struct Found {
+    own: Own,
+    triplets: Triplets,
+    overlays: List<Overlay>,
+}
+
+// The same, with the configuration: all that is read after the root manifest.
+#[derive(Drop)]
+struct Rest {
+    config: Config,
+    found: Found,
+}
+
 fn read_root<T: Tree>(
     alloc: Global,
     files: &mut FileCache,
     tree: &mut T,
     folder: &TreePath,
 ) -> Result<Root, Stop<Early>>
-    ensures { ReadsAs early_view root_view result (early_at root_in (manifest_path folder.now)) (held files.old (T.state tree.old)) (held files.new (T.state tree.new)) }
+    ensures { ReadsAs early_view root_view result (early_at root_in (manifest_path folder.now))
+        (held files.old (T.state tree.old)) (held files.new (T.state tree.new)) }
 {
     let path = manifest_path(alloc, folder)?;
     read_early(alloc, files, tree, &path, &RootFile)
@@ -73,7 +99,8 @@ fn triplets_of<T: Tree>(
     project: &Project,
     config: &Config,
 ) -> Result<Triplets, Stop<Early>>
-    ensures { ReadsAs early_view triplets_view result (triplets_of project.now (config_view config.now)) (held files.old (T.state tree.old)) (held files.new (T.state tree.new)) }
+    ensures { ReadsAs early_view triplets_view result (triplets_of project.now (config_view config.now))
+        (held files.old (T.state tree.old)) (held files.new (T.state tree.new)) }
 {
     let configured = config.overlay_triplets.as_slice();
     let folders = folders(
@@ -100,39 +127,93 @@ fn overlays_of<T: Tree>(
     project: &Project,
     config: &Config,
 ) -> Result<List<Overlay>, Stop<Early>>
-    ensures { ReadsAs early_view (λ l. map overlay_view l) result (overlays_of project.now (config_view config.now)) (held files.old (T.state tree.old)) (held files.new (T.state tree.new)) }
+    ensures { ReadsAs early_view (λ l. map overlay_view l) result (overlays_of project.now (config_view config.now))
+        (held files.old (T.state tree.old)) (held files.new (T.state tree.new)) }
 {
     let configured = config.overlay_ports.as_slice();
     let folders = folders(alloc, &project.folder, &project.overlay_ports, configured)?;
     read_overlays(alloc, files, tree, folders)
 }
 
-// All that was read, put together.
-fn opening_with(
-    alloc: Global,
-    project: &Project,
-    root: Root,
-    config: Config,
-    triplets: Triplets,
-    overlays: List<Overlay>,
-) -> Result<Opening, Memory>
-    ensures { IfOk result (λ o. opening_view o ≡ opening_with project.now (root_view root) (config_view config) (triplets_view triplets) (map overlay_view overlays)) }
+// What the setting and the start take from words and root manifest.
+fn own_of(project: &Project, root: &Root) -> Result<Own, Memory>
+    ensures folder { IfOk result (λ o. o.folder ≡ project.now.folder) }
+    ensures overrides { IfOk result (λ o. o.overrides ≡ root.now.manifest.overrides) }
+    ensures features { IfOk result (λ o. o.features ≡ project.now.features) }
 {
-    Ok(Opening {
+    Ok(Own {
         folder: project.folder.clone()?,
-        config,
-        overlays,
         overrides: root.manifest.overrides.clone()?,
+        features: project.features.clone()?,
+    })
+}
+
+// The triplets and the overlays.
+fn read_found<T: Tree>(
+    alloc: Global,
+    files: &mut FileCache,
+    tree: &mut T,
+    project: &Project,
+    root: &Root,
+    config: &Config,
+) -> Result<Found, Stop<Early>>
+    ensures { ReadsAs early_view
+        (opening_found project.now (root_view root.now) (config_view config.now)) result
+        (after_config project.now (root_view root.now) (config_view config.now))
+        (held files.old (T.state tree.old)) (held files.new (T.state tree.new)) }
+{
+    let own = own_of(project, root)?;
+    let triplets = triplets_of(alloc, files, tree, project, config)?;
+    let overlays = overlays_of(alloc, files, tree, project, config)?;
+    Ok(Found {
+        own,
+        triplets,
+        overlays,
+    })
+}
+
+// The configuration, the triplets and the overlays.
+fn read_rest<T: Tree>(
+    alloc: Global,
+    files: &mut FileCache,
+    tree: &mut T,
+    project: &Project,
+    root: &Root,
+) -> Result<Rest, Stop<Early>>
+    ensures { ReadsAs early_view (opening_rest project.now (root_view root.now)) result
+        (after_root project.now (root_view root.now))
+        (held files.old (T.state tree.old)) (held files.new (T.state tree.new)) }
+{
+    let document = root.document.value();
+    let config = read_configuration(alloc, files, tree, &project.folder, document)?;
+    let found = read_found(alloc, files, tree, project, root, &config)?;
+    Ok(Rest { config, found })
+}
+
+// All that was read, put together.
+fn put_together(alloc: Global, project: &Project, root: Root, rest: Rest) -> Opening
+    ensures { opening_view result ≡ opening_rest project.now (root_view root) rest }
+{
+    let Found {
+        own,
+        triplets,
+        overlays,
+    } = rest.found;
+    Opening {
+        folder: own.folder,
+        config: rest.config,
+        overlays,
+        overrides: own.overrides,
         setting: Setting {
             root: root.manifest,
             target: triplets.target,
             host: triplets.host,
-            features: project.features.clone()?,
+            features: own.features,
             defaults: project.defaults,
             off: List::new(alloc),
             max_facts: project.max_facts,
         },
-    })
+    }
 }
 
 fn read_opening<T: Tree>(
@@ -141,14 +222,12 @@ fn read_opening<T: Tree>(
     tree: &mut T,
     project: &Project,
 ) -> Result<Opening, Stop<Early>>
-    ensures { ReadsAs early_view opening_view result (opened_of project.now) (held files.old (T.state tree.old)) (held files.new (T.state tree.new)) }
+    ensures { ReadsAs early_view opening_view result (opened_of project.now)
+        (held files.old (T.state tree.old)) (held files.new (T.state tree.new)) }
 {
     let root = read_root(alloc, files, tree, &project.folder)?;
-    let document = root.document.value();
-    let config = read_configuration(alloc, files, tree, &project.folder, document)?;
-    let triplets = triplets_of(alloc, files, tree, project, &config)?;
-    let overlays = overlays_of(alloc, files, tree, project, &config)?;
-    Ok(opening_with(alloc, project, root, config, triplets, overlays)?)
+    let rest = read_rest(alloc, files, tree, project, &root)?;
+    Ok(put_together(alloc, project, root, rest))
 }
 
 fn ready(opening: Opening, files: FileCache) -> Opened

@@ -4,7 +4,9 @@ ghost use Rattle.vk_files.specs.Views.{held};
 ghost use Rattle.vk_files.specs.StandingViews.{standing_view};
 ghost use Rattle.vk_files.specs.Readings.{ReadsAs};
 ghost use Rattle.vk_model.specs.EarlyViews.{early_view};
+ghost use Rattle.vk_model.specs.Views.{manifest_view};
 ghost use Rattle.vk_opening.specs.Overlays.{port_at, overlay_by, overlay_at, overlays_at};
+ghost use Rattle.vk_opening.specs.Starts.{is_port};
 ghost use Rattle.vk_opening.specs.Views.{overlay_view};
 
 use crate::projects::manifest_path;
@@ -15,8 +17,23 @@ use std::alloc::Global;
 use std::rc::Rc;
 use vk_base::{List, TreePath};
 use vk_files::{FileCache, Standing, Stop};
-use vk_model::Early;
+use vk_model::{Early, Manifest};
 use vk_tree::Tree;
+
+// The manifest in a folder that is a port.
+fn port_manifest<T: Tree>(
+    alloc: Global,
+    files: &mut FileCache,
+    tree: &mut T,
+    folder: &TreePath,
+) -> Result<Rc<Manifest>, Stop<Early>>
+    ensures { ReadsAs early_view (λ m. is_port folder.now (manifest_view m.value)) result
+        (port_at folder.now) (held files.old (T.state tree.old)) (held files.new (T.state tree.new)) }
+{
+    let path = manifest_path(alloc, folder)?;
+    let manifest = read_early(alloc, files, tree, &path, &PortFile)?;
+    Ok(Rc::new(alloc, manifest)?)
+}
 
 // A folder that is a port, with its manifest.
 fn port_at<T: Tree>(
@@ -25,11 +42,11 @@ fn port_at<T: Tree>(
     tree: &mut T,
     folder: TreePath,
 ) -> Result<Overlay, Stop<Early>>
-    ensures { ReadsAs early_view overlay_view result (port_at folder) (held files.old (T.state tree.old)) (held files.new (T.state tree.new)) }
+    ensures { ReadsAs early_view overlay_view result (port_at folder)
+        (held files.old (T.state tree.old)) (held files.new (T.state tree.new)) }
 {
-    let path = manifest_path(alloc, &folder)?;
-    let manifest = read_early(alloc, files, tree, &path, &PortFile)?;
-    Ok(Overlay::Port(folder, Rc::new(alloc, manifest)?))
+    let manifest = port_manifest(alloc, files, tree, &folder)?;
+    Ok(Overlay::Port(folder, manifest))
 }
 
 // A folder, by how the manifest in it stands.
@@ -40,7 +57,8 @@ fn overlay_by<T: Tree>(
     standing: Standing,
     folder: TreePath,
 ) -> Result<Overlay, Stop<Early>>
-    ensures { ReadsAs early_view overlay_view result (overlay_by (standing_view standing) folder) (held files.old (T.state tree.old)) (held files.new (T.state tree.new)) }
+    ensures { ReadsAs early_view overlay_view result (overlay_by (standing_view standing) folder)
+        (held files.old (T.state tree.old)) (held files.new (T.state tree.new)) }
 {
     match standing {
         Standing::Missing => Ok(Overlay::Ports(folder)),
@@ -55,7 +73,8 @@ fn overlay_at<T: Tree>(
     tree: &mut T,
     folder: TreePath,
 ) -> Result<Overlay, Stop<Early>>
-    ensures { ReadsAs early_view overlay_view result (overlay_at folder) (held files.old (T.state tree.old)) (held files.new (T.state tree.new)) }
+    ensures { ReadsAs early_view overlay_view result (overlay_at folder)
+        (held files.old (T.state tree.old)) (held files.new (T.state tree.new)) }
 {
     let path = manifest_path(alloc, &folder)?;
     let standing = standing(files, tree, &path)?;
@@ -69,7 +88,8 @@ pub fn read_overlays<T: Tree>(
     tree: &mut T,
     folders: List<TreePath>,
 ) -> Result<List<Overlay>, Stop<Early>>
-    ensures { ReadsAs early_view (λ l. map overlay_view l) result (overlays_at folders) (held files.old (T.state tree.old)) (held files.new (T.state tree.new)) }
+    ensures { ReadsAs early_view (λ l. map overlay_view l) result (overlays_at folders)
+        (held files.old (T.state tree.old)) (held files.new (T.state tree.new)) }
 {
     let mut overlays = List::new(alloc);
     for folder in folders.into_vec() {

@@ -49,7 +49,7 @@ pub fn from_folder(alloc: Global, folder: &TreePath, path: &TreePath) -> Result<
 {
     match folder.steps_up().checked_add(path.steps_up()) {
         Some(_) => folder.join(alloc, path),
-        None => Err(Memory),
+        None => Err(Memory::without_allocation()),
     }
 }
 

@@ -11,7 +11,8 @@ ghost use Rattle.vk_files.specs.StopViews.{refusal_in, is_tree_failed};
 ghost use Rattle.vk_files.specs.Readings.{ReadsAs, is_at};
 ghost use Rattle.vk_spec.specs.Earlies as early;
 ghost use Rattle.vk_model.specs.EarlyViews.{early_view};
-ghost use Rattle.vk_opening.specs.TripletFiles.{triplet_word, triplet_in, triplet_file, triplet_from, triplet_at, triplets_at};
+ghost use Rattle.vk_opening.specs.TripletFiles.{triplet_word, triplet_in, triplet_file};
+ghost use Rattle.vk_opening.specs.TripletFiles.{triplet_from, triplet_at, triplets_at};
 ghost use Rattle.vk_opening.specs.Views.{triplets_view};
 
 use crate::projects::triplet_path;
@@ -59,7 +60,8 @@ impl FileReader for TripletFile<'_> {
 
 // Whether a file stands at a path.
 fn is_at<T: Tree>(files: &mut FileCache, tree: &mut T, path: &TreePath) -> Result<bool, Stop<Early>>
-    ensures { ReadsAs early_view (λ there. there) result (λ files. Ok (is_at files path.now)) (held files.old (T.state tree.old)) (held files.new (T.state tree.new)) }
+    ensures { ReadsAs early_view (λ there. there) result (λ files. Ok (is_at files path.now))
+        (held files.old (T.state tree.old)) (held files.new (T.state tree.new)) }
 {
     let standing = standing(files, tree, path)?;
     Ok(standing.is_there())
@@ -73,7 +75,8 @@ fn triplet_file<T: Tree>(
     name: &TripletName,
     folders: &[TreePath],
 ) -> Result<Option<TreePath>, Stop<Early>>
-    ensures { ReadsAs early_view (λ path. path) result (λ files. Ok (triplet_file name.now folders.now files)) (held files.old (T.state tree.old)) (held files.new (T.state tree.new)) }
+    ensures { ReadsAs early_view (λ path. path) result (λ files. Ok (triplet_file name.now folders.now files))
+        (held files.old (T.state tree.old)) (held files.new (T.state tree.new)) }
 {
     for folder in folders {
         let path = triplet_path(alloc, name, folder)?;
@@ -101,7 +104,8 @@ fn triplet_from<T: Tree>(
     name: &TripletName,
     path: Option<TreePath>,
 ) -> Result<Triplet, Stop<Early>>
-    ensures { ReadsAs early_view triplet_view result (triplet_from name.now path) (held files.old (T.state tree.old)) (held files.new (T.state tree.new)) }
+    ensures { ReadsAs early_view triplet_view result (triplet_from name.now path)
+        (held files.old (T.state tree.old)) (held files.new (T.state tree.new)) }
 {
     match path {
         Some(path) => read_early(alloc, files, tree, &path, &TripletFile(name)),
@@ -117,7 +121,8 @@ fn read_triplet<T: Tree>(
     name: &TripletName,
     folders: &[TreePath],
 ) -> Result<Triplet, Stop<Early>>
-    ensures { ReadsAs early_view triplet_view result (triplet_at name.now folders.now) (held files.old (T.state tree.old)) (held files.new (T.state tree.new)) }
+    ensures { ReadsAs early_view triplet_view result (triplet_at name.now folders.now)
+        (held files.old (T.state tree.old)) (held files.new (T.state tree.new)) }
 {
     let path = triplet_file(alloc, files, tree, name, folders)?;
     triplet_from(alloc, files, tree, name, path)
@@ -136,6 +141,39 @@ pub struct Triplets {
     pub host: Triplet,
 }
 
+// The triplet of a name in folders, for both.
+fn read_for_both<T: Tree>(
+    alloc: Global,
+    files: &mut FileCache,
+    tree: &mut T,
+    name: &TripletName,
+    folders: &[TreePath],
+) -> Result<Triplets, Stop<Early>>
+    ensures { ReadsAs early_view triplets_view result (triplets_at name.now name.now folders.now)
+        (held files.old (T.state tree.old)) (held files.new (T.state tree.new)) }
+{
+    let target = read_triplet(alloc, files, tree, name, folders)?;
+    let host = target.clone()?;
+    Ok(Triplets { target, host })
+}
+
+// The triplets of two names, one after the other.
+fn read_one_by_one<T: Tree>(
+    alloc: Global,
+    files: &mut FileCache,
+    tree: &mut T,
+    target: &TripletName,
+    host: &TripletName,
+    folders: &[TreePath],
+) -> Result<Triplets, Stop<Early>>
+    ensures { ReadsAs early_view triplets_view result (triplets_at target.now host.now folders.now)
+        (held files.old (T.state tree.old)) (held files.new (T.state tree.new)) }
+{
+    let target = read_triplet(alloc, files, tree, target, folders)?;
+    let host = read_triplet(alloc, files, tree, host, folders)?;
+    Ok(Triplets { target, host })
+}
+
 /// The two triplets of these names in folders. Where the names are one, its file is read once.
 pub fn read_triplets<T: Tree>(
     alloc: Global,
@@ -145,19 +183,11 @@ pub fn read_triplets<T: Tree>(
     host: &TripletName,
     folders: &[TreePath],
 ) -> Result<Triplets, Stop<Early>>
-    ensures { ReadsAs early_view triplets_view result (triplets_at target.now host.now folders.now) (held files.old (T.state tree.old)) (held files.new (T.state tree.new)) }
+    ensures { ReadsAs early_view triplets_view result (triplets_at target.now host.now folders.now)
+        (held files.old (T.state tree.old)) (held files.new (T.state tree.new)) }
 {
-    let first = read_triplet(alloc, files, tree, target, folders)?;
     if is_same(target, host) {
-        let second = first.clone()?;
-        return Ok(Triplets {
-            target: first,
-            host: second,
-        });
+        return read_for_both(alloc, files, tree, target, folders);
     }
-    let second = read_triplet(alloc, files, tree, host, folders)?;
-    Ok(Triplets {
-        target: first,
-        host: second,
-    })
+    read_one_by_one(alloc, files, tree, target, host, folders)
 }

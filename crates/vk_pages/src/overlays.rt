@@ -8,8 +8,9 @@ ghost use Rattle.vk_files.specs.StopViews.{refusal_in, has_tree_failed};
 ghost use Rattle.vk_files.specs.Readings.{ReadsAs, is_at};
 ghost use Rattle.vk_opening.specs.Projects.{manifest_path};
 ghost use Rattle.vk_opening.specs.Views.{overlay_view};
-ghost use Rattle.vk_pages.specs.Homes.{is_named, port_folder, has_port, overlay_for, overlay_home, named_home, folder_home, home_in};
-ghost use Rattle.vk_pages.specs.HomeViews.{home_view};
+ghost use Rattle.vk_pages.specs.Homes.{is_named, port_folder, has_port, overlay_for, in_overlay};
+ghost use Rattle.vk_pages.specs.Homes.{overlay_home, named_home, folder_home, home_in};
+ghost use Rattle.vk_pages.specs.HomeViews.{home_view, own_home};
 
 use crate::agreement::{named, stated_version};
 use crate::contents::{content, stands};
@@ -23,6 +24,7 @@ use vk_files::{FileCache, Stop};
 use vk_model::Manifest;
 use vk_opening::{Overlay, PortFile, manifest_path};
 use vk_tree::Tree;
+use vk_version::Version;
 
 fn is_named(manifest: &Manifest, port: &PortName) -> bool
     ensures { result ≡ is_named port.now (manifest_view manifest.now).name }
@@ -81,48 +83,79 @@ pub fn overlay_for<'a, T: Tree>(
     Ok(None)
 }
 
-// The port that a folder is, with the version of its manifest.
+// The version of the manifest in a folder that is a port.
 #[tactic(auto, unfolding(crate::specs::Homes::overlay_home))]
-fn overlay_home(
+fn own_version(
     alloc: Global,
-    folder: TreePath,
-    manifest: Rc<Manifest>,
-) -> Result<Home, Stop<Wrong>>
-    ensures told { Gives home_view (refusal_in wrong_view) result (overlay_home folder (manifest_view manifest.value)) }
+    folder: &TreePath,
+    manifest: &Manifest,
+) -> Result<Version, Stop<Wrong>>
+    ensures told { Gives (λ v. in_overlay folder.now v (manifest_view manifest.now))
+        (refusal_in wrong_view) result (overlay_home folder.now (manifest_view manifest.now)) }
     ensures calm { has_tree_failed result ≡ false }
 {
-    let path = manifest_path(alloc, &folder)?;
-    let version = stated_version(alloc, &path, &manifest)?.clone()?;
+    let path = manifest_path(alloc, folder)?;
+    Ok(stated_version(alloc, &path, manifest)?.clone()?)
+}
+
+// The home of a port in its folder, whose manifest is lent.
+fn port_home(alloc: Global, folder: &TreePath, manifest: &Rc<Manifest>) -> Result<Home, Stop<Wrong>>
+    ensures told { Gives home_view (refusal_in wrong_view) result
+        (overlay_home folder.now (manifest_view manifest.now.value)) }
+    ensures calm { has_tree_failed result ≡ false }
+{
+    let version = own_version(alloc, folder, manifest)?;
     Ok(Home::Overlay {
-        folder,
+        folder: folder.clone()?,
         version,
-        manifest,
+        manifest: manifest.clone()?,
     })
 }
 
-// The same of a folder and a manifest that are lent.
-fn port_home(alloc: Global, folder: &TreePath, manifest: &Rc<Manifest>) -> Result<Home, Stop<Wrong>>
-    ensures told { Gives home_view (refusal_in wrong_view) result (overlay_home folder.now (manifest_view manifest.now.value)) }
-    ensures calm { has_tree_failed result ≡ false }
-{
-    overlay_home(alloc, folder.clone()?, manifest.clone()?)
-}
-
-// The same of a manifest that has to have the port's name.
+// The version of a manifest that has to have the port's name.
 #[tactic(auto, unfolding(crate::specs::Homes::named_home))]
-fn named_home(
+fn named_version(
     alloc: Global,
     path: &TreePath,
-    folder: TreePath,
-    manifest: Manifest,
+    folder: &TreePath,
+    manifest: &Manifest,
     port: &PortName,
-) -> Result<Home, Stop<Wrong>>
-    requires { path.now ≡ manifest_path folder }
-    ensures told { Gives home_view (refusal_in wrong_view) result (named_home port.now folder (manifest_view manifest)) }
+) -> Result<Version, Stop<Wrong>>
+    requires { path.now ≡ manifest_path folder.now }
+    ensures told { Gives (λ v. in_overlay folder.now v (manifest_view manifest.now))
+        (refusal_in wrong_view) result
+        (named_home port.now folder.now (manifest_view manifest.now)) }
     ensures calm { has_tree_failed result ≡ false }
 {
-    named(alloc, path, port, &manifest)?;
-    overlay_home(alloc, folder, Rc::new(alloc, manifest)?)
+    named(alloc, path, port, manifest)?;
+    own_version(alloc, folder, manifest)
+}
+
+// A port's version, with its manifest.
+#[derive(Drop)]
+struct OwnVersion {
+    version: Version,
+    manifest: Rc<Manifest>,
+}
+
+// The version of a port in its folder of an overlay.
+fn version_in<T: Tree>(
+    alloc: Global,
+    files: &mut FileCache,
+    tree: &mut T,
+    folder: &TreePath,
+    port: &PortName,
+) -> Result<OwnVersion, Stop<Wrong>>
+    ensures { ReadsAs wrong_view (own_home folder.now) result (folder_home port.now folder.now)
+        (held files.old (T.state tree.old)) (held files.new (T.state tree.new)) }
+{
+    let path = manifest_path(alloc, folder)?;
+    let manifest = content(alloc, files, tree, &path, &PortFile)?;
+    let version = named_version(alloc, &path, folder, &manifest, port)?;
+    Ok(OwnVersion {
+        version,
+        manifest: Rc::new(alloc, manifest)?,
+    })
 }
 
 // A port in its folder of an overlay.
@@ -133,11 +166,15 @@ fn folder_home<T: Tree>(
     folder: TreePath,
     port: &PortName,
 ) -> Result<Home, Stop<Wrong>>
-    ensures { ReadsAs wrong_view home_view result (folder_home port.now folder) (held files.old (T.state tree.old)) (held files.new (T.state tree.new)) }
+    ensures { ReadsAs wrong_view home_view result (folder_home port.now folder)
+        (held files.old (T.state tree.old)) (held files.new (T.state tree.new)) }
 {
-    let path = manifest_path(alloc, &folder)?;
-    let manifest = content(alloc, files, tree, &path, &PortFile)?;
-    named_home(alloc, &path, folder, manifest, port)
+    let own = version_in(alloc, files, tree, &folder, port)?;
+    Ok(Home::Overlay {
+        folder,
+        version: own.version,
+        manifest: own.manifest,
+    })
 }
 
 /// The home of a port that an overlay has. `Refused` has what is wrong with its manifest.

@@ -68,12 +68,20 @@ fn table_name(alloc: Global, port: &PortName) -> Result<Text, Memory>
     Ok(name)
 }
 
+// The folder of a port's versions file.
+fn letter_folder(alloc: Global, registry: &TreePath, port: &PortName) -> Result<TreePath, Memory>
+    ensures { IfOk result (λ p. p ≡ registry.now
+        ++ codes "versions" ∷ (take 1 port.now ++ codes "-") ∷ []) }
+{
+    let letter = letter_name(alloc, port)?;
+    versions_path(alloc, registry)?.child(alloc, letter.as_str())
+}
+
 /// The versions file of a port in a registry.
 pub fn table_path(alloc: Global, registry: &TreePath, port: &PortName) -> Result<TreePath, Memory>
     ensures { IfOk result (λ p. p ≡ table_path port.now registry.now) }
 {
-    let letter = letter_name(alloc, port)?;
+    let folder = letter_folder(alloc, registry, port)?;
     let name = table_name(alloc, port)?;
-    let folder = versions_path(alloc, registry)?.child(alloc, letter.as_str())?;
     folder.child(alloc, name.as_str())
 }

@@ -11,7 +11,7 @@ ghost use Rattle.vk_files.specs.Readings.{ReadsAs, ReadsNoting};
 ghost use Rattle.vk_opening.specs.Starts as plain;
 ghost use Rattle.vk_pages.specs.Homes.{served_at, override_for, given_by, table_in, served_home, registry_home};
 ghost use Rattle.vk_pages.specs.BaselineNotes.{AreBaselines};
-ghost use Rattle.vk_pages.specs.HomeViews.{home_view, layout_view, served_view};
+ghost use Rattle.vk_pages.specs.HomeViews.{home_view, table_home, layout_view, served_view};
 ghost use Rattle.vk_pages.specs.NoteViews.{notes_of};
 
 use crate::baselines::Baselines;
@@ -78,6 +78,33 @@ fn table_in<T: Tree>(
     content(alloc, files, tree, &path, &PortTable)
 }
 
+// What is given for a port, and its table.
+#[derive(Drop)]
+struct GivenTable {
+    given: Given,
+    table: Table,
+}
+
+fn given_table<T: Tree>(
+    alloc: Global,
+    set: Option<&Ask>,
+    served: &Served,
+    files: &mut FileCache,
+    baselines: &mut Baselines,
+    tree: &mut T,
+    port: &PortName,
+) -> Result<GivenTable, Stop<Wrong>>
+    ensures { (start : plain.Start) → served_at start served.now.place ≡ Ok (served_view served.now)
+        → ReadsNoting wrong_view (table_home served.now.folder) result
+        (served_home (option_map (λ a. ask_view a.now) set.entry) (served_view served.now) port.now)
+        (AreBaselines start (notes_of baselines.old)) (AreBaselines start (notes_of baselines.new))
+        (held files.old (T.state tree.old)) (held files.new (T.state tree.new)) }
+{
+    let given = given_by(alloc, set, served, files, baselines, tree, port)?;
+    let table = table_in(alloc, served, files, tree, port)?;
+    Ok(GivenTable { given, table })
+}
+
 // A port in a registry, for which something may be set.
 fn served_home<T: Tree>(
     alloc: Global,
@@ -88,14 +115,18 @@ fn served_home<T: Tree>(
     tree: &mut T,
     port: &PortName,
 ) -> Result<Home, Stop<Wrong>>
-    ensures { (start : plain.Start) → served_at start served.entry.place ≡ Ok (served_view served.entry) → ReadsNoting wrong_view home_view result (served_home (option_map (λ a. ask_view a.now) set.entry) (served_view served.entry) port.now) (AreBaselines start (notes_of baselines.old)) (AreBaselines start (notes_of baselines.new)) (held files.old (T.state tree.old)) (held files.new (T.state tree.new)) }
+    ensures { (start : plain.Start)
+        → served_at start served.entry.place ≡ Ok (served_view served.entry)
+        → ReadsNoting wrong_view home_view result
+        (served_home (option_map (λ a. ask_view a.now) set.entry) (served_view served.entry) port.now)
+        (AreBaselines start (notes_of baselines.old)) (AreBaselines start (notes_of baselines.new))
+        (held files.old (T.state tree.old)) (held files.new (T.state tree.new)) }
 {
-    let given = given_by(alloc, set, &served, files, baselines, tree, port)?;
-    let table = table_in(alloc, &served, files, tree, port)?;
+    let found = given_table(alloc, set, &served, files, baselines, tree, port)?;
     Ok(Home::Registry {
-        given,
+        given: found.given,
         folder: served.folder,
-        table,
+        table: found.table,
     })
 }
 

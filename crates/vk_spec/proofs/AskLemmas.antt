@@ -1,11 +1,14 @@
 -- Nothing was asked; one after the other; and what was answered, brought back to the start.
 use Rattle.std.proofs.Common.{◌≡◌, subst, ℕ, List, true, false, refl, sym, ◌∙◌, arith}
-use Rattle.std.specs.Prelude.{Bool, Option, Some, None, IfSome, Ok, Err, IfOk}
+use Rattle.std.specs.Prelude.{Bool, Option, Some, None, IfSome, Result, Ok, Err, IfOk}
 use Rattle.vk_spec.specs.Counts.{MayHaveRisen, Rose}
 use Rattle.vk_spec.specs.Calls.{Answer, Fault, stops, is_failed}
 use Rattle.vk_spec.specs.Versions.{Version, Ask}
 use Rattle.vk_spec.specs.Pages.{Page, Given}
-use Rattle.vk_spec.specs.Catalogues.{Pages, ArePages, CatalogueState, OnPage, OnlyAsked, Asks, SaysGiven, SaysVersion, CanAskVersion, CanAskManifest}
+use Rattle.vk_spec.specs.Catalogues.{Pages, ArePages, CatalogueState, OnPage, OnPages, OnlyAsked, Asks, AsksAs, SaysGiven, SaysVersion, CanAskVersion, CanAskManifest}
+use Rattle.vk_spec.specs.AskedCalls.{IsAsking, AnswersAs, stopped_by}
+use Rattle.vk_spec.specs.Reading.{Gives}
+use Rattle.vk_spec.proofs.OptionLemmas.{of_each, of_both}
 use Rattle.vk_spec.proofs.CountLemmas.{counted_then, counted_risen, counted_rose}
 
 -- ---- only asked
@@ -32,6 +35,16 @@ asked_once {a = a} {b = b} r e = subst (λ f. OnlyAsked f a b) e r.only
 -- one call more
 pub asked_more : {C A : Type 0} {port : List ℕ} {Says : Page C → A → Type 0} {answer : Answer A} {failed : Bool} {a b c : CatalogueState C} → Asks port Says answer b c → OnlyAsked false a b → is_failed answer ≡ failed → OnlyAsked failed a c
 asked_more r x e = asked_then x (asked_once r e)
+
+-- a catalogue is asked as anything is
+pub asking_catalogue : {C : Type 0} → IsAsking (λ failed (a b : CatalogueState C). OnlyAsked failed a b) OnPages
+asking_catalogue = record {
+  nothing = asked_nothing;
+  then = asked_then;
+  each = λ P s f. of_each s.pages f;
+  both = λ P Q R s f p q. of_both s.pages p q f;
+  back = λ P only h. subst (λ o. IfSome o P) only.pages h;
+}
 
 -- what a run that only asks says of its failures
 pub asked_risen : {C : Type 0} {failed : Bool} {a b : CatalogueState C} → OnlyAsked failed a b → failed ≡ true → MayHaveRisen a.faults b.faults
@@ -120,3 +133,18 @@ can_by_version port ask v (Some pages) one two = record { given = one; listed = 
 -- a port with a version for an ask can be asked for its manifest
 pub can_ask_manifest : {C : Type 0} {port : List ℕ} (ask : Ask) {v : Version} {a b : CatalogueState C} → OnPage port CanAskVersion a → Asks port (SaysVersion ask) (Ok (Some v)) a b → OnPage port (CanAskManifest ask) b
 can_ask_manifest {port = port} ask {v = v} {b = b} can r = can_by_version port ask v b.pages (subst (λ o. IfSome o (λ p. CanAskVersion (p port))) (sym r.only.pages) can) (subst (λ o. IfSome o (λ p. SaysVersion ask (p port) (Some v))) (sym r.only.pages) r.told)
+
+-- ---- one call, told in other words
+
+told_so : {C A X Y E F : Type 0} (port : List ℕ) (Says : Page C → A → Type 0) (fault : E → Option F) (view : X → Y) (answer : Result X E) (meaning : Pages C → Result Y F) (o : Option (Pages C)) (said : Answer A)
+    → IfOk said (λ x. IfSome o (λ p. Says (p port) x)) → ((p : Pages C) → IfOk said (Says (p port)) → Gives view fault answer (meaning p)) → IfSome o (λ p. Gives view fault answer (meaning p))
+told_so port Says fault view answer meaning None said told gives = tt
+told_so port Says fault view answer meaning (Some p) (Ok x) told gives = gives p told
+told_so port Says fault view answer meaning (Some p) (Err f) told gives = gives p tt
+
+pub asks_one : {C A X Y E F : Type 0} {port : List ℕ} {Says : Page C → A → Type 0} {said : Answer A} {a b : CatalogueState C} (failed : E → Bool) (fault : E → Option F) (view : X → Y) (answer : Result X E) (meaning : Pages C → Result Y F)
+    → Asks port Says said a b → is_failed said ≡ stopped_by failed answer → ((p : Pages C) → IfOk said (Says (p port)) → Gives view fault answer (meaning p)) → AsksAs failed fault view answer meaning a b
+asks_one {port = port} {Says = Says} {said = said} {a = a} failed fault view answer meaning one e gives = record {
+  only = asked_once one e;
+  content = told_so port Says fault view answer meaning a.pages said one.told gives;
+}

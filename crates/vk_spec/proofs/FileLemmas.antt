@@ -1,6 +1,6 @@
 -- Paths and maps of files.
 use Rattle.std.proofs.Common.{◌≡◌, ◌⊎◌, inl, inr, ℕ, true, false, cond, List, ◌∷◌, ◌++◌, length, length-append, refl, ap, sym, ◌∙◌, arith}
-use Rattle.std.specs.Prelude.{Option, Some, None, IsSome, is_some, Ok}
+use Rattle.std.specs.Prelude.{Option, Some, None, IsSome, is_some}
 use Rattle.std.specs.declared.cmp.Ordering.{Ordering}
 use Rattle.std.specs.declared.cmp.Ordering.TheVariants.{Less, Equal, Greater}
 use Rattle.std.specs.Ordering.{is_eq, eq_by_cmp}
@@ -8,7 +8,6 @@ use Rattle.std.specs.Cmp.{IsTotalOrder, nat_cmp_total, tied_itself}
 use Rattle.std.specs.Cmp.Lexicographic.{lists_total}
 use Rattle.std.specs.FinMap.{IsAntisymmetric, slice_cmp-IsAntisymmetric, nat_cmp-IsAntisymmetric}
 use Rattle.std.specs.FinMap as map
-use Rattle.vk_spec.specs.Calls.{WritesFile}
 use Rattle.vk_spec.specs.Paths.{Path, path_cmp, IsOther}
 use Rattle.vk_spec.specs.Files.{Files, IsTree, AgreeWhere, HasRoomFor}
 
@@ -67,7 +66,3 @@ get-inserted p bytes f = map.get-insert path_total f p bytes p ∙ ap (λ b. con
 
 pub insert_agrees : (p : Path) (bytes : List ℕ) (f : Files) → AgreeWhere (IsOther p) f (map.insert f p bytes)
 insert_agrees p bytes f q other = map.get-insert path_total f p bytes q ∙ ap (λ b. cond b (Some bytes) (map.get f q)) (ties_other q p (λ e. other (sym e)))
-
--- to insert is to write
-pub write_inserts : (p : Path) (bytes : List ℕ) (f g : Files) → g ≡ map.insert f p bytes → WritesFile p bytes (Ok tt) f g
-write_inserts p bytes f g e = (ap (λ m. map.get m p) e ∙ get-inserted p bytes f, λ q other. ap (λ m. map.get m q) e ∙ insert_agrees p bytes f q other)

@@ -5,8 +5,10 @@ pub mod FileLemmas
 pub mod OrderLemmas
 pub mod RoomLemmas
 pub mod StateLemmas
+pub mod CallLemmas
 pub mod SinkLemmas
 pub mod ReadingLemmas
+pub mod AskedCallLemmas
 pub mod VersionLemmas
 pub mod AskLemmas
 pub mod FrontLemmas

@@ -116,7 +116,7 @@ took_up_to bytes front rest at a b c split place some sent put = (
 not_stopped : (piece : List ℕ) (n : ℕ) → (n ≡ 0 → ⊥) → is_stopped piece (Some n) ≡ false
 not_stopped piece n some = grind (arith, nat_tests, some)
 
--- a front was sent, and then one call took some bytes more
+-- the first part was sent, and then one call took some bytes more
 pub sent_more : {a b c : SinkState} (bytes front rest after : List ℕ) (n : ℕ) → bytes ≡ front ++ rest → Sent front false a b → Puts rest (Some n) b c → (n ≡ 0 → ⊥) → after ≡ drop n rest → (x : List ℕ) × (bytes ≡ x ++ after) × Sent x false a c
 sent_more bytes front rest after n split sent put some left = (
   front ++ take n rest,

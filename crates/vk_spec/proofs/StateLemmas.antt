@@ -6,7 +6,6 @@ use Rattle.vk_spec.specs.Counts.{MayHaveRisen, Rose}
 use Rattle.vk_spec.proofs.CountLemmas.{counted_then, counted_risen, counted_rose}
 use Rattle.vk_spec.specs.Paths.{Path}
 use Rattle.vk_spec.specs.Files.{Files}
-use Rattle.vk_spec.specs.Calls.{Answer, Reads, is_failed, noted}
 use Rattle.vk_spec.specs.States.{Told, State, with_asked, Ends, Looks, OnlyRead}
 
 asked_none : (told : Option Told) → told ≡ with_asked [] told
@@ -48,14 +47,6 @@ read_nothing s = record { asked = []; looks = looks_nothing s }
 -- one after the other
 pub read_then : {failed : Bool} {a b c : State} → OnlyRead false a b → OnlyRead failed b c → OnlyRead failed a c
 read_then x y = record { asked = x.asked ++ y.asked; looks = looks_then x.looks y.looks }
-
--- one call
-pub read_once : {path : Path} {limit : ℕ} {answer : Answer (List ℕ)} {failed : Bool} {a b : State} → Reads path limit answer a b → is_failed answer ≡ failed → OnlyRead failed a b
-read_once {path = path} {answer = answer} {a = a} {b = b} r e = subst (λ f. OnlyRead f a b) e (record { asked = noted path answer; looks = r.looks })
-
--- one call more
-pub read_more : {path : Path} {limit : ℕ} {answer : Answer (List ℕ)} {failed : Bool} {a b c : State} → Reads path limit answer b c → OnlyRead false a b → is_failed answer ≡ failed → OnlyRead failed a c
-read_more r x e = read_then x (read_once r e)
 
 -- what a run that only reads says of its failures
 pub risen_where : {failed : Bool} {a b : State} → OnlyRead failed a b → failed ≡ true → MayHaveRisen a.faults b.faults

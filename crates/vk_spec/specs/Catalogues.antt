@@ -4,10 +4,11 @@ use Rattle.std.specs.List.{Contains}
 use Rattle.vk_spec.specs.Counts.{Counted}
 use Rattle.vk_spec.specs.Lists.{NoRepeats}
 use Rattle.vk_spec.specs.Paths.{Path}
-use Rattle.vk_spec.specs.Files.{Files}
+use Rattle.vk_spec.specs.States.{Told}
 use Rattle.vk_spec.specs.Calls.{Answer, is_failed}
 use Rattle.vk_spec.specs.Versions.{Version, Ask, ask_of}
 use Rattle.vk_spec.specs.Manifests.{Manifest}
+use Rattle.vk_spec.specs.AskedCalls.{AnswersAs}
 use Rattle.vk_spec.specs.Pages as the
 use Rattle.vk_spec.specs.Pages.{Wrong, no_registry, no_baseline, bad_file, disagrees, Given, overlay, override, baseline, Row, Page, version_in, manifest_in}
 
@@ -60,11 +61,20 @@ pub record CanAskManifest {C : Type 0} (ask : Ask) (page : Page C) : Type 0 wher
 
 -- ---- what is known of a catalogue
 
--- where a catalogue comes from: what a tree of files told when the catalogue was made over it, or nothing
+-- the folder where a version of a port stands, if it stands anywhere
+abbrev pub Places : Type 0
+Places = List ℕ → Version → Option Path
+
+-- where a catalogue comes from, which no call of it changes
 pub record Origin : Type 0 where
-  pub files : Option Files
-  pub log : Option (List Path)
+  -- files and log, as a tree told them when the catalogue was made over it
+  pub told : Option Told
+  -- what was changed in that tree
   pub changes : ℕ
+  -- the paths that were read of it before
+  pub opened : List Path
+  -- where versions stand, where the pages are told
+  pub places : Places
 
 pub record CatalogueState (C : Type 0) : Type 0 where
   -- the page of each port, where it tells them
@@ -105,3 +115,13 @@ SaysVersion ask page version = version ≡ version_in page ask
 
 abbrev pub SaysManifest : {C : Type 0} → Ask → Page C → Result (Manifest C) Wrong → Type 0
 SaysManifest ask page manifest = Some manifest ≡ manifest_in page ask
+
+-- ---- what a caller answers that asks more than once
+
+-- what holds of the pages, where they are told
+abbrev pub OnPages : {C : Type 0} → (Pages C → Type 0) → CatalogueState C → Type 0
+OnPages P s = IfSome s.pages P
+
+-- nothing but asking was done, and where the pages are told, the answer is what they give
+abbrev pub AsksAs : {C X Y E F : Type 0} → (E → Bool) → (E → Option F) → (X → Y) → Result X E → (Pages C → Result Y F) → CatalogueState C → CatalogueState C → Type 0
+AsksAs failed fault view answer meaning before after = AnswersAs OnlyAsked OnPages failed fault view answer meaning before after

@@ -3,10 +3,12 @@ pub mod Lists
 pub mod Paths
 pub mod Files
 pub mod States
+pub mod Standing
 pub mod Calls
 pub mod Sinks
 pub mod Fronts
 pub mod Reading
+pub mod AskedCalls
 pub mod Versions
 pub mod Conditions
 pub mod Manifests

@@ -7,6 +7,8 @@ pub record SinkState : Type 0 where
   pub taken : Option (List ℕ)
   -- how many calls failed, or took nothing of a piece that isn't empty
   pub faults : ℕ
+  -- how many of these failed
+  pub failures : ℕ
   -- how many more bytes it is sure to take
   pub room : ℕ
 
@@ -25,21 +27,27 @@ abbrev pub is_stopped : List ℕ → Option ℕ → Bool
 is_stopped piece None = true
 is_stopped piece (Some n) = (n == 0) && not (length piece == 0)
 
--- a front of the piece is taken; `None` is a call that failed
+-- the call failed
+abbrev pub put_failed : Option ℕ → Bool
+put_failed None = true
+put_failed (Some n) = false
+
+-- the first part of the piece is taken; `None` is a call that failed
 pub record Puts (piece : List ℕ) (answer : Option ℕ) (before after : SinkState) : Type 0 where
   pub within : count_taken answer ≤ length piece
   pub taken : Taken before.taken (take (count_taken answer) piece) after.taken
   pub faults : Counted (is_stopped piece answer) before.faults after.faults
+  pub failures : Counted (put_failed answer) before.failures after.failures
   pub room : before.room ≤ after.room + count_taken answer
   pub safe : 0 < before.room → is_stopped piece answer ≡ false
 
--- a front of the bytes was taken, and the rest was not
+-- the first part of the bytes was taken, and the rest was not
 pub record TookFront (before : Option (List ℕ)) (bytes rest : List ℕ) (now : Option (List ℕ)) : Type 0 where
   pub front : List ℕ
   pub split : bytes ≡ front ++ rest
   pub taken : Taken before front now
 
--- the bytes were taken whole, or a front of them where a call stopped
+-- the bytes were taken whole, or the first part of them where a call stopped
 abbrev pub Went : Bool → Option (List ℕ) → List ℕ → Option (List ℕ) → Type 0
 Went false before bytes now = Taken before bytes now
 Went true before bytes now = (rest : List ℕ) × TookFront before bytes rest now
@@ -62,7 +70,14 @@ TookUpTo (Ok x) bytes before now = Unit {0}
 TookUpTo (Err failed) bytes before now = Unit {0}
 TookUpTo (Err (nothing at)) bytes before now = (at < length bytes) × Taken before (take at bytes) now
 
--- bytes are sent whole, or the answer says why not
+-- a call of the sink failed
+abbrev pub send_failed : Result (Unit {0}) Stop → Bool
+send_failed (Ok x) = false
+send_failed (Err failed) = true
+send_failed (Err (nothing at)) = false
+
+-- bytes are sent whole, or the answer says why not: a call that failed is told as one, and none else
 pub record Sends (bytes : List ℕ) (answer : Result (Unit {0}) Stop) (before after : SinkState) : Type 0 where
   pub sent : Sent bytes (is_err answer) before after
   pub place : TookUpTo answer bytes before.taken after.taken
+  pub failures : Counted (send_failed answer) before.failures after.failures

@@ -20,12 +20,13 @@ abbrev pub sink_state : MemSink → SinkState
 sink_state m = record {
   taken = Some m.buffer.0;
   faults = m.faults;
+  failures = m.failures;
   room = if is_calm m.schedule then m.buffer.1 else 0;
 }
 
 -- a sink that has taken nothing, with room for so many bytes
 pub record IsNewSink (room : ℕ) (m : MemSink) : Type 0 where
-  pub state : sink_state m ≡ record { taken = Some []; faults = 0; room = room }
+  pub state : sink_state m ≡ record { taken = Some []; faults = 0; failures = 0; room = room }
   pub left : left_in m ≡ room
   pub calm : is_calm (sink_schedule m) ≡ true
   pub calls : (sink_schedule m).calls ≡ 0

@@ -10,7 +10,7 @@ use Rattle.vk_base.specs.declared.schedules.Schedule.{Schedule}
 
 -- the bytes at each path
 abbrev pub mem_files : MemTree → Files
-mem_files m = m.disk
+mem_files m = m.files
 
 -- the paths that it was asked to read
 abbrev pub mem_log : MemTree → List Path
@@ -23,7 +23,7 @@ mem_schedule m = m.schedule
 -- what is known of it
 abbrev pub mem_state : MemTree → State
 mem_state m = record {
-  told = Some (record { files = m.disk; log = m.log });
+  told = Some (record { files = m.files; log = m.log });
   changes = m.changes;
   faults = m.faults;
   calls = m.schedule.calls;

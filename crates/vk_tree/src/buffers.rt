@@ -1,3 +1,4 @@
+//! The bytes that a sink in memory took, with the room that is left.
 ghost use Rattle.std.specs.Prelude.{◌≡◌, ◌-◌, ◌++◌, [], length, take, min, IfOk};
 
 use std::alloc::{AllocError, Global};

@@ -4,7 +4,7 @@
 #![tactic(auto)]
 
 mod buffers;
-mod disks;
+mod file_maps;
 mod mem_sinks;
 mod mem_trees;
 mod sending;
@@ -16,6 +16,3 @@ pub use mem_trees::MemTree;
 pub use sending::{OutStop, send};
 pub use sinks::{Sink, SinkFailed};
 pub use trees::{ReadFault, Tree};
-
-#[cfg(test)]
-mod tests;

@@ -1,3 +1,4 @@
+//! A sink in memory.
 ghost use Rattle.std.specs.Prelude.{◌≡◌, ◌∷◌, IfOk, OnOk, OnErr, Some, [], true};
 ghost use Rattle.std.specs.Result.{result_ok};
 ghost use Rattle.vk_spec.specs.Counts.{Counted};
@@ -16,6 +17,7 @@ pub struct MemSink {
     alloc: Global,
     buffer: Buffer,
     faults: u64,
+    failures: u64,
     schedule: Schedule,
 }
 
@@ -29,6 +31,7 @@ impl MemSink {
             alloc,
             buffer: Buffer::new(alloc, room)?,
             faults: 0,
+            failures: 0,
             schedule: Schedule::new(alloc),
         })
     }
@@ -79,6 +82,7 @@ impl Sink for MemSink {
         match self.schedule.next() {
             Turn::Listed => {
                 self.faults = self.faults.saturating_add(1);
+                self.failures = self.failures.saturating_add(1);
                 Err(SinkFailed)
             }
             Turn::Stopped => {

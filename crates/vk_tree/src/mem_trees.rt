@@ -1,21 +1,23 @@
+//! A tree of files in memory.
 ghost use Rattle.std.specs.Prelude.{◌≡◌, ◌↔◌, ◌++◌, IsTrue, IfOk, OnOk, OnErr, Some, option_map, false};
 ghost use Rattle.std.specs.FinMap as map;
 ghost use Rattle.vk_spec.specs.Files.{HasRoomFor};
-ghost use Rattle.vk_spec.specs.Calls.{Reads, ReadsFile, NoLonger, is_failed, noted};
+ghost use Rattle.vk_spec.specs.Standing.{disk_of};
+ghost use Rattle.vk_spec.specs.Calls.{Made, Says, NoLonger, read_of, is_failed, noted};
 ghost use Rattle.vk_tree.specs.Answers.{read_answer};
 ghost use Rattle.vk_base.specs.Schedules.{with_listed, with_stop};
 ghost use Rattle.vk_tree.specs.MemTrees.{IsNewTree, MemCalls, mem_files, mem_log, mem_schedule, mem_state, with_file, with_schedule};
 
-use crate::disks::Disk;
+use crate::file_maps::FileMap;
 use crate::trees::{ReadFault, Tree};
 use std::alloc::{AllocError, AllocFailed, Global};
-use vk_base::{List, Memory, Schedule, TreePath};
+use vk_base::{List, Memory, Schedule, Stop, TreePath};
 
 /// A tree in memory that tells its files.
 #[derive(Drop)]
 pub struct MemTree {
     alloc: Global,
-    disk: Disk,
+    files: FileMap,
     log: List<TreePath>,
     changes: u64,
     faults: u64,
@@ -29,7 +31,7 @@ impl MemTree {
     {
         Ok(MemTree {
             alloc,
-            disk: Disk::new(alloc),
+            files: FileMap::new(alloc),
             log: List::new(alloc),
             changes: 0,
             faults: 0,
@@ -47,7 +49,7 @@ impl MemTree {
     {
         let path = path.clone()?;
         let held = List::from_slice(self.alloc, bytes)?;
-        self.disk.put(path, held)?;
+        self.files.put(path, held)?;
         Ok(())
     }
 
@@ -56,7 +58,7 @@ impl MemTree {
     pub fn has_room(&self, path: &TreePath) -> bool
         ensures { IsTrue result ↔ HasRoomFor path.now (mem_files self.now) }
     {
-        self.disk.has_room(path)
+        self.files.has_room(path)
     }
 
     /// The calls with these numbers fail, counted from 1 over every call of the trait but
@@ -82,7 +84,7 @@ impl MemTree {
     pub fn file(&self, path: &TreePath) -> Option<&[u8]>
         ensures { option_map (λ b. b.now) result ≡ map.get (mem_files self.now) path.now }
     {
-        match self.disk.get(path) {
+        match self.files.get(path) {
             Some(bytes) => Some(bytes.as_slice()),
             None => None,
         }
@@ -105,16 +107,16 @@ impl MemTree {
 }
 
 // What a read answers by what stands there.
-fn look(disk: &Disk, path: &TreePath, limit: u64) -> Result<List<u8>, ReadFault>
-    ensures found { ReadsFile (map.get disk.now path.now) limit (read_answer result) }
+fn look(files: &FileMap, path: &TreePath, limit: u64) -> Result<List<u8>, Stop<ReadFault>>
+    ensures found { Says (read_of path.now limit) (read_answer result) (disk_of files.now) }
     ensures small { NoLonger limit (read_answer result) }
-    ensures calm { is_failed (read_answer result) ≡ false }
+    ensures tree_ok { is_failed (read_answer result) ≡ false }
 {
-    match disk.get(path) {
-        None => Err(ReadFault::Missing),
+    match files.get(path) {
+        None => Err(Stop::Fault(ReadFault::Missing)),
         Some(bytes) => {
             if bytes.len() as u64 > limit {
-                return Err(ReadFault::TooLarge);
+                return Err(Stop::Fault(ReadFault::TooLarge));
             }
             Ok(bytes.clone()?)
         }
@@ -123,20 +125,20 @@ fn look(disk: &Disk, path: &TreePath, limit: u64) -> Result<List<u8>, ReadFault>
 
 // Looks, and notes the path where the answer tells what stands there.
 fn look_noted(
-    disk: &Disk,
+    files: &FileMap,
     log: &mut List<TreePath>,
     path: &TreePath,
     limit: u64,
-) -> Result<List<u8>, ReadFault>
-    ensures found { ReadsFile (map.get disk.now path.now) limit (read_answer result) }
+) -> Result<List<u8>, Stop<ReadFault>>
+    ensures found { Says (read_of path.now limit) (read_answer result) (disk_of files.now) }
     ensures small { NoLonger limit (read_answer result) }
-    ensures calm { is_failed (read_answer result) ≡ false }
+    ensures tree_ok { is_failed (read_answer result) ≡ false }
     ensures noted { log.new ≡ log.old ++ noted path.now (read_answer result) }
 {
     let asked = path.clone()?;
-    let found = look(disk, path, limit);
-    if let Err(ReadFault::Memory) = found {
-        return Err(ReadFault::Memory);
+    let found = look(files, path, limit);
+    if let Err(Stop::Memory(memory)) = found {
+        return Err(Stop::Memory(memory));
     }
     log.push(asked)?;
     found
@@ -145,16 +147,16 @@ fn look_noted(
 impl Tree for MemTree {
     ghost state = { mem_state };
 
-    fn read(&mut self, path: &TreePath, limit: u64) -> Result<List<u8>, ReadFault>
-        ensures reads { Reads path.now limit (read_answer result) (mem_state self.old) (mem_state self.new) }
+    fn read(&mut self, path: &TreePath, limit: u64) -> Result<List<u8>, Stop<ReadFault>>
+        ensures read { Made (read_of path.now limit) (read_answer result) (mem_state self.old) (mem_state self.new) }
         ensures exact { MemCalls (is_failed (read_answer result)) self.old self.new }
     {
-        self.disk.known();
+        self.files.known();
         if self.schedule.next_is_wrong() {
             self.faults = self.faults.saturating_add(1);
-            return Err(ReadFault::Failed);
+            return Err(Stop::Failed);
         }
-        look_noted(&self.disk, &mut self.log, path, limit)
+        look_noted(&self.files, &mut self.log, path, limit)
     }
 
     fn faults(&self) -> u64 {

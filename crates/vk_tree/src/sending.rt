@@ -1,3 +1,4 @@
+//! Bytes sent to a sink, call by call.
 ghost use Rattle.vk_spec.specs.Sinks.{Sends};
 ghost use Rattle.vk_tree.specs.Answers.{sent_answer};
 

@@ -1,3 +1,4 @@
+//! A sink of bytes, by what is known of it.
 ghost use Rattle.std.specs.Prelude.{◌≡◌};
 ghost use Rattle.std.specs.Result.{result_ok};
 ghost use Rattle.vk_spec.specs.Sinks.{SinkState, Puts};
@@ -12,7 +13,7 @@ pub trait Sink {
     /// isn't empty, and how many more bytes it is sure to take.
     ghost state: { Self → SinkState };
 
-    /// Takes a front of the piece, and answers its length in bytes. It fails, or takes nothing of
+    /// Takes the first part of the piece, and answers its length in bytes. It fails, or takes nothing of
     /// a piece that isn't empty, only where its count of faults may have risen; any other answer
     /// leaves the count.
     fn put(&mut self, piece: &[u8]) -> Result<usize, SinkFailed>

@@ -1,11 +1,9 @@
+//! A tree of files, by what is known of it.
 ghost use Rattle.std.specs.Prelude.{◌≡◌};
 ghost use Rattle.vk_spec.specs.States.{State};
-ghost use Rattle.vk_spec.specs.Calls.{Reads};
-ghost use Rattle.vk_tree.specs.declared.trees.ReadFault.TheVariants.{Memory};
+ghost use Rattle.vk_spec.specs.Calls.{Made, read_of};
 
-use std::alloc::{AllocError, AllocFailed};
-use vk_base as base;
-use vk_base::{List, TreePath};
+use vk_base::{List, Stop, TreePath};
 
 /// Why a file wasn't read.
 #[derive(Clone, Copy, Debug, PartialEq, Eq)]
@@ -14,34 +12,6 @@ pub enum ReadFault {
     Missing,
     /// It is longer than the limit.
     TooLarge,
-    /// The tree failed.
-    Failed,
-    /// Want of memory.
-    Memory,
-}
-
-impl From<AllocError> for ReadFault {
-    ghost from_gives = { λ _ e. e ≡ Memory };
-
-    fn from(_: AllocError) -> Self {
-        ReadFault::Memory
-    }
-}
-
-impl<T: Drop> From<AllocFailed<T>> for ReadFault {
-    ghost from_gives = { λ _ e. e ≡ Memory };
-
-    fn from(_: AllocFailed<T>) -> Self {
-        ReadFault::Memory
-    }
-}
-
-impl From<base::Memory> for ReadFault {
-    ghost from_gives = { λ _ e. e ≡ Memory };
-
-    fn from(_: base::Memory) -> Self {
-        ReadFault::Memory
-    }
 }
 
 /// Files by their paths. A folder stands where a file lies below it.
@@ -55,8 +25,8 @@ pub trait Tree {
     /// The bytes of a file, at most `limit` of them. `Missing` exactly where no file stands at the
     /// path, `TooLarge` exactly where it is longer than the limit, `Failed` only where the count
     /// of faults may have risen; any other answer leaves the count.
-    fn read(&mut self, path: &TreePath, limit: u64) -> Result<List<u8>, ReadFault>
-        ensures { Reads path.now limit (read_answer result) (state self.old) (state self.new) };
+    fn read(&mut self, path: &TreePath, limit: u64) -> Result<List<u8>, Stop<ReadFault>>
+        ensures { Made (read_of path.now limit) (read_answer result) (state self.old) (state self.new) };
 
     /// Its count of faults, which never falls.
     fn faults(&self) -> u64

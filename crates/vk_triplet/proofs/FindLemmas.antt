@@ -9,7 +9,8 @@ use Rattle.std.proofs.lemmas.Bool.Decides.{nat_tests}
 use Rattle.std.proofs.lemmas.List.{length-map}
 use Rattle.std.proofs.lemmas.List.Folds.{list_all-append}
 use Rattle.std.proofs.lemmas.Slice.Eq.{bytes_eq-Decides}
-use Rattle.vk_triplet.specs.Lines.{Setting, IsBlanks, IsBare, IsQuoted, IsWritten, IsGivenValue, IsSet, IsComment, Says, is_blank, is_name_byte, is_bare_byte, is_quoted_byte}
+use Rattle.vk_triplet.specs.Lines.{IsBlanks, IsBare, IsQuoted, IsWritten, IsGivenValue, IsSet, IsComment, Says, is_blank, is_name_byte, is_bare_byte, is_quoted_byte}
+use Rattle.vk_triplet.specs.declared.triplets.Variable.{Variable}
 use Rattle.vk_triplet.specs.LineReadings.{◌>>=◌, past, after_byte, after_set, some_front, quoted_value, value_from, value_at, blank_value, closed, written_at, given_from, given_at, opened, set_at, begins_comment, is_done, only_set, said_by}
 use Rattle.vk_triplet.proofs.FrontLemmas.{Stops, front_stops, front_cut}
 
@@ -170,15 +171,15 @@ find_opened word outside inside rest set blank inner stops =
 regrouped : (a b c d e f rest : List ℕ) → (a ++ (b ++ 40 ∷ (c ++ (d ++ (e ++ (f ++ 41 ∷ [])))))) ++ rest ≡ a ++ (b ++ 40 ∷ (c ++ (d ++ (e ++ (f ++ 41 ∷ rest)))))
 regrouped a b c d e f rest = simp append_assoc
 
-find_command : (command : List ℕ) (setting : Setting) (more : List ℕ) → IsSet command setting → set_at (command ++ more) ≡ Some (setting, more)
-find_command command setting more s =
-    let name = find_name setting.name (s.given ++ (s.end ++ 41 ∷ more)) s.some s.name (given_stops s.given setting.value s.end more s.value s.blank.2) in
-    let one = find_opened s.word s.outside s.inside (setting.name ++ (s.given ++ (s.end ++ 41 ∷ more))) s.set s.blank.0 s.blank.1 name.stops in
-    let three = find_given s.given setting.value s.end more s.value s.blank.2 in
-    rw (s.split, regrouped s.word s.outside s.inside setting.name s.given s.end more)
+find_command : (command : List ℕ) (variable : Variable) (more : List ℕ) → IsSet command variable → set_at (command ++ more) ≡ Some (variable, more)
+find_command command variable more s =
+    let name = find_name variable.name (s.given ++ (s.end ++ 41 ∷ more)) s.some s.name (given_stops s.given variable.value s.end more s.value s.blank.2) in
+    let one = find_opened s.word s.outside s.inside (variable.name ++ (s.given ++ (s.end ++ 41 ∷ more))) s.set s.blank.0 s.blank.1 name.stops in
+    let three = find_given s.given variable.value s.end more s.value s.blank.2 in
+    rw (s.split, regrouped s.word s.outside s.inside variable.name s.given s.end more)
     (ap (λ o. o >>= λ i. some_front is_name_byte i >>= λ n. given_at n.1 >>= λ g. Some (record { name = n.0; value = g.0 }, g.1)) one
     ∙ ap (λ o. o >>= λ n. given_at n.1 >>= λ g. Some (record { name = n.0; value = g.0 }, g.1)) name.found
-    ∙ ap (λ o. o >>= λ g. Some (record { name = setting.name; value = g.0 }, g.1)) three)
+    ∙ ap (λ o. o >>= λ g. Some (record { name = variable.name; value = g.0 }, g.1)) three)
 
 comment_stops : (comment : List ℕ) → IsComment comment → Stops is_blank comment
 comment_stops comment c = elim c [ inl none ↦ rw none tt | inr some ↦ rw some.1 refl ]
@@ -201,22 +202,22 @@ word_begins (b ∷ word) rest set =
     let letter = letter_s b first in
     record { stops = letter.0; other = letter.1 }
 
-find_only : (command : List ℕ) (setting : Setting) (after comment : List ℕ) → IsSet command setting → IsBlanks after → IsComment comment → only_set (command ++ (after ++ comment)) ≡ Some setting
-find_only command setting after comment set blank c =
-    ap (λ o. o >>= λ cut. if is_done cut.1 then Some cut.0 else None) (find_command command setting (after ++ comment) set)
-    ∙ ap (λ b. if b then Some setting else None) (find_done after comment blank c)
+find_only : (command : List ℕ) (variable : Variable) (after comment : List ℕ) → IsSet command variable → IsBlanks after → IsComment comment → only_set (command ++ (after ++ comment)) ≡ Some variable
+find_only command variable after comment set blank c =
+    ap (λ o. o >>= λ cut. if is_done cut.1 then Some cut.0 else None) (find_command command variable (after ++ comment) set)
+    ∙ ap (λ b. if b then Some variable else None) (find_done after comment blank c)
 
-command_begins : (command : List ℕ) (setting : Setting) (more : List ℕ) → IsSet command setting → BeginsSet (command ++ more)
-command_begins command setting more s =
-    rw (s.split, append_assoc s.word (s.outside ++ 40 ∷ (s.inside ++ (setting.name ++ (s.given ++ (s.end ++ 41 ∷ []))))) more)
-    (word_begins s.word ((s.outside ++ 40 ∷ (s.inside ++ (setting.name ++ (s.given ++ (s.end ++ 41 ∷ []))))) ++ more) s.set)
+command_begins : (command : List ℕ) (variable : Variable) (more : List ℕ) → IsSet command variable → BeginsSet (command ++ more)
+command_begins command variable more s =
+    rw (s.split, append_assoc s.word (s.outside ++ 40 ∷ (s.inside ++ (variable.name ++ (s.given ++ (s.end ++ 41 ∷ []))))) more)
+    (word_begins s.word ((s.outside ++ 40 ∷ (s.inside ++ (variable.name ++ (s.given ++ (s.end ++ 41 ∷ []))))) ++ more) s.set)
 
-find_setting : (before command : List ℕ) (setting : Setting) (after comment : List ℕ) → IsBlanks before → IsSet command setting → IsBlanks after → IsComment comment
-    → said_by (before ++ (command ++ (after ++ comment))) ≡ Some (Some setting)
-find_setting before command setting after comment front set blank c =
-    let begins = command_begins command setting (after ++ comment) set in
+find_setting : (before command : List ℕ) (variable : Variable) (after comment : List ℕ) → IsBlanks before → IsSet command variable → IsBlanks after → IsComment comment
+    → said_by (before ++ (command ++ (after ++ comment))) ≡ Some (Some variable)
+find_setting before command variable after comment front set blank c =
+    let begins = command_begins command variable (after ++ comment) set in
     let rest = past_front is_blank before (command ++ (after ++ comment)) front begins.stops in
-    rw (rest, begins.other, find_only command setting after comment set blank c) refl
+    rw (rest, begins.other, find_only command variable after comment set blank c) refl
 
 find_none : (before after comment : List ℕ) → IsBlanks before → IsBlanks after → IsComment comment → said_by (before ++ (after ++ comment)) ≡ Some None
 find_none before after comment front blank c =
@@ -224,10 +225,10 @@ find_none before after comment front blank c =
     let done = find_done (before ++ after) comment both c in
     rw (← append_assoc before after comment, done) refl
 
-found_form : (line : List ℕ) (said : Option Setting) (s : Says line said) → said_by (s.before ++ (s.command ++ (s.after ++ s.comment))) ≡ Some said
+found_form : (line : List ℕ) (said : Option Variable) (s : Says line said) → said_by (s.before ++ (s.command ++ (s.after ++ s.comment))) ≡ Some said
 found_form line None s = rw s.form (find_none s.before s.after s.comment s.blank.0 s.blank.1 s.rest)
-found_form line (Some setting) s = find_setting s.before s.command setting s.after s.comment s.blank.0 s.form s.blank.1 s.rest
+found_form line (Some variable) s = find_setting s.before s.command variable s.after s.comment s.blank.0 s.form s.blank.1 s.rest
 
 -- what a line says is what is found in it
-pub found_says : (line : List ℕ) (said : Option Setting) → Says line said → said_by line ≡ Some said
+pub found_says : (line : List ℕ) (said : Option Variable) → Says line said → said_by line ≡ Some said
 found_says line said s = rw s.split (found_form line said s)

@@ -8,7 +8,8 @@ use Rattle.std.proofs.lemmas.Bool.{eqb-true, eqb-false}
 use Rattle.std.proofs.lemmas.List.{take-append-drop}
 use Rattle.std.proofs.lemmas.List.Folds.{length-prefix_len}
 use Rattle.std.proofs.lemmas.Slice.Eq.{bytes_eq-Decides}
-use Rattle.vk_triplet.specs.Lines.{Setting, IsBlanks, IsBare, IsQuoted, IsGivenValue, IsSet, IsComment, Says, is_blank, is_name_byte, is_bare_byte, is_quoted_byte}
+use Rattle.vk_triplet.specs.Lines.{IsBlanks, IsBare, IsQuoted, IsGivenValue, IsSet, IsComment, Says, is_blank, is_name_byte, is_bare_byte, is_quoted_byte}
+use Rattle.vk_triplet.specs.declared.triplets.Variable.{Variable}
 use Rattle.vk_triplet.specs.LineReadings.{◌>>=◌, front_of, past, after_byte, after_set, some_front, quoted_value, value_from, value_at, blank_value, closed, written_at, given_from, given_at, opened, set_at, begins_comment, is_done, only_set, said_by}
 use Rattle.vk_triplet.proofs.FrontLemmas.{front_all}
 
@@ -146,7 +147,7 @@ opened_is text rest e =
     }
 
 -- a command, and what stands after it
-pub record IsCommand (text : List ℕ) (cut : Setting × List ℕ) : Type 0 where
+pub record IsCommand (text : List ℕ) (cut : Variable × List ℕ) : Type 0 where
   pub command : List ℕ
   pub split : text ≡ command ++ cut.1
   pub form : IsSet command cut.0
@@ -154,7 +155,7 @@ pub record IsCommand (text : List ℕ) (cut : Setting × List ℕ) : Type 0 wher
 regrouped : (a b c d e f rest : List ℕ) → a ++ (b ++ 40 ∷ (c ++ (d ++ (e ++ (f ++ 41 ∷ rest))))) ≡ (a ++ (b ++ 40 ∷ (c ++ (d ++ (e ++ (f ++ 41 ∷ [])))))) ++ rest
 regrouped a b c d e f rest = simp append_assoc
 
-set_at_is : (text : List ℕ) (cut : Setting × List ℕ) → set_at text ≡ Some cut → IsCommand text cut
+set_at_is : (text : List ℕ) (cut : Variable × List ℕ) → set_at text ≡ Some cut → IsCommand text cut
 set_at_is text cut e =
     let opening = bind_some (opened text) (λ inside. some_front is_name_byte inside >>= λ name. given_at name.1 >>= λ given. Some (record { name = name.0; value = given.0 }, given.1)) cut e in
     let o = opened_is text opening.0 opening.1 in
@@ -186,11 +187,11 @@ begins_comment_is : (text : List ℕ) → begins_comment text ≡ true → IsCom
 begins_comment_is [] e = inl refl
 begins_comment_is (b ∷ rest) e = inr (rest, rw (eqb-true b 35 e) refl)
 
-only_set_is : (text : List ℕ) (setting : Setting) → only_set text ≡ Some setting → (rest : List ℕ) × IsCommand text (setting, rest) × (is_done rest ≡ true)
-only_set_is text setting e =
-    let found = bind_some (set_at text) (λ cut. if is_done cut.1 then Some cut.0 else None) setting e in
-    let both = then_some (is_done found.0.1) found.0.0 setting found.2 in
-    (found.0.1, subst (λ (s : Setting). IsCommand text (s, found.0.1)) both.1 (set_at_is text found.0 found.1), both.0)
+only_set_is : (text : List ℕ) (variable : Variable) → only_set text ≡ Some variable → (rest : List ℕ) × IsCommand text (variable, rest) × (is_done rest ≡ true)
+only_set_is text variable e =
+    let found = bind_some (set_at text) (λ cut. if is_done cut.1 then Some cut.0 else None) variable e in
+    let both = then_some (is_done found.0.1) found.0.0 variable found.2 in
+    (found.0.1, subst (λ (s : Variable). IsCommand text (s, found.0.1)) both.1 (set_at_is text found.0 found.1), both.0)
 
 says_nothing : (line : List ℕ) → is_done line ≡ true → Says line None
 says_nothing line done = record {
@@ -204,9 +205,9 @@ says_nothing line done = record {
   form = refl;
 }
 
-says_set : (line : List ℕ) (setting : Setting) → only_set (past is_blank line) ≡ Some setting → Says line (Some setting)
-says_set line setting e =
-    let only = only_set_is (past is_blank line) setting e in
+says_set : (line : List ℕ) (variable : Variable) → only_set (past is_blank line) ≡ Some variable → Says line (Some variable)
+says_set line variable e =
+    let only = only_set_is (past is_blank line) variable e in
     let c = only.1 in
     record {
       before = front_of is_blank line;
@@ -219,12 +220,12 @@ says_set line setting e =
       form = c.form;
     }
 
-says_cases : (line : List ℕ) (said : Option Setting) (done : Bool) → is_done line ≡ done → (if done then Some None else (only_set (past is_blank line) >>= λ setting. Some (Some setting))) ≡ Some said → Says line said
+says_cases : (line : List ℕ) (said : Option Variable) (done : Bool) → is_done line ≡ done → (if done then Some None else (only_set (past is_blank line) >>= λ variable. Some (Some variable))) ≡ Some said → Says line said
 says_cases line said true done e = rw (← some_same None said e) (says_nothing line done)
 says_cases line said false done e =
-    let found = bind_some (only_set (past is_blank line)) (λ setting. Some (Some setting)) said e in
+    let found = bind_some (only_set (past is_blank line)) (λ variable. Some (Some variable)) said e in
     rw (← some_same (Some found.0) said found.2) (says_set line found.0 found.1)
 
 -- what is found in a line is what the line says
-pub says_found : (line : List ℕ) (said : Option Setting) → said_by line ≡ Some said → Says line said
+pub says_found : (line : List ℕ) (said : Option Variable) → said_by line ≡ Some said → Says line said
 says_found line said e = says_cases line said (is_done line) refl e

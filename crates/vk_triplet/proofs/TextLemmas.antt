@@ -9,7 +9,8 @@ use Rattle.std.proofs.lemmas.Bool.{cases_Bool, eqb-true, and_parts}
 use Rattle.std.proofs.lemmas.Bool.Decides.{nat_tests}
 use Rattle.std.proofs.lemmas.Str.{IsUtf8-nil, IsUtf8-take, IsUtf8-drop, IsUtf8-from_ascii, IsCharBoundary-before_ascii, IsCharBoundary-after_ascii}
 use Rattle.std.proofs.lemmas.Str.Ascii.{IsAscii-nil, IsAscii-cons}
-use Rattle.vk_triplet.specs.Lines.{Setting, IsWritten, IsSet, is_name_byte, is_bare_byte}
+use Rattle.vk_triplet.specs.Lines.{IsWritten, IsSet, is_name_byte, is_bare_byte}
+use Rattle.vk_triplet.specs.declared.triplets.Variable.{Variable}
 use Rattle.vk_triplet.specs.LineReadings.{said_by}
 use Rattle.vk_triplet.proofs.SayLemmas.{says_found}
 
@@ -65,26 +66,26 @@ quoted_apart : (a b c d e blanks value f more : List ℕ)
 quoted_apart a b c d e blanks value f more = simp append_assoc
 
 -- the value of a command in a line of UTF-8
-written_text : (before command more : List ℕ) (setting : Setting) (s : IsSet command setting) → IsWritten s.given setting.value → IsUtf8 (before ++ (command ++ more)) → IsUtf8 setting.value
-written_text before command more setting s w text =
+written_text : (before command more : List ℕ) (variable : Variable) (s : IsSet command variable) → IsWritten s.given variable.value → IsUtf8 (before ++ (command ++ more)) → IsUtf8 variable.value
+written_text before command more variable s w text =
     elim w.form [
-      | inl bare ↦ IsUtf8-from_ascii setting.value (ascii_of is_bare_byte bare_small setting.value bare.bytes)
+      | inl bare ↦ IsUtf8-from_ascii variable.value (ascii_of is_bare_byte bare_small variable.value bare.bytes)
       | inr quoted ↦ (
-          let whole = rw (s.split, w.split, quoted.quotes, quoted_apart before s.word s.outside s.inside setting.name w.blanks setting.value s.end more) at text in
-          before_ascii setting.value (s.end ++ 41 ∷ more) 34 (omega arith)
-          (after_ascii (before ++ (s.word ++ (s.outside ++ 40 ∷ (s.inside ++ (setting.name ++ w.blanks))))) (setting.value ++ 34 ∷ (s.end ++ 41 ∷ more)) 34 (omega arith) whole))
+          let whole = rw (s.split, w.split, quoted.quotes, quoted_apart before s.word s.outside s.inside variable.name w.blanks variable.value s.end more) at text in
+          before_ascii variable.value (s.end ++ 41 ∷ more) 34 (omega arith)
+          (after_ascii (before ++ (s.word ++ (s.outside ++ 40 ∷ (s.inside ++ (variable.name ++ w.blanks))))) (variable.value ++ 34 ∷ (s.end ++ 41 ∷ more)) 34 (omega arith) whole))
     ]
 
-value_text : (before command more : List ℕ) (setting : Setting) → IsSet command setting → IsUtf8 (before ++ (command ++ more)) → IsUtf8 setting.value
-value_text before command more setting s text =
+value_text : (before command more : List ℕ) (variable : Variable) → IsSet command variable → IsUtf8 (before ++ (command ++ more)) → IsUtf8 variable.value
+value_text before command more variable s text =
     elim s.value [
       | inl nothing ↦ rw nothing.1 IsUtf8-nil
-      | inr written ↦ written_text before command more setting s written text
+      | inr written ↦ written_text before command more variable s written text
     ]
 
 -- a line of UTF-8 sets a variable of UTF-8 to a value of UTF-8
-pub said_text : (line : List ℕ) (setting : Setting) → IsUtf8 line → said_by (strip_carriage_return line) ≡ Some (Some setting) → IsUtf8 setting.name × IsUtf8 setting.value
-said_text line setting text e =
-    let s = says_found (strip_carriage_return line) (Some setting) e in
+pub said_text : (line : List ℕ) (variable : Variable) → IsUtf8 line → said_by (strip_carriage_return line) ≡ Some (Some variable) → IsUtf8 variable.name × IsUtf8 variable.value
+said_text line variable text e =
+    let s = says_found (strip_carriage_return line) (Some variable) e in
     let whole = rw s.split at (strip_text line text) in
-    (IsUtf8-from_ascii setting.name (ascii_of is_name_byte name_small setting.name s.form.name), value_text s.before s.command (s.after ++ s.comment) setting s.form whole)
+    (IsUtf8-from_ascii variable.name (ascii_of is_name_byte name_small variable.name s.form.name), value_text s.before s.command (s.after ++ s.comment) variable s.form whole)

@@ -4,6 +4,5 @@ pub mod TripletReadings
 pub mod Marks
 pub mod Meanings
 pub mod Views
-pub mod TripletViews
 pub mod RowViews
 pub mod FileLaws

@@ -2,7 +2,8 @@
 use Rattle.std.specs.Prelude.{◌==◌, ℕ, Bool, true, List, [], ◌∷◌, take, drop, Option, Some, None, codes, if◌then◌else◌}
 use Rattle.std.specs.List.{prefix_len}
 use Rattle.std.specs.Str.{str_eq_ignore_ascii_case}
-use Rattle.vk_triplet.specs.Lines.{Setting, is_blank, is_name_byte, is_bare_byte, is_quoted_byte}
+use Rattle.vk_triplet.specs.Lines.{is_blank, is_name_byte, is_bare_byte, is_quoted_byte}
+use Rattle.vk_triplet.specs.declared.triplets.Variable.{Variable}
 
 -- then: with what was found, the search goes on
 infixl 10 ◌>>=◌
@@ -70,7 +71,7 @@ abbrev pub opened : List ℕ → Option (List ℕ)
 opened text = after_set text >>= λ rest. after_byte 40 (past is_blank rest) >>= λ inside. Some (past is_blank inside)
 
 -- a command, and what stands after it
-abbrev pub set_at : List ℕ → Option (Setting × List ℕ)
+abbrev pub set_at : List ℕ → Option (Variable × List ℕ)
 set_at text = do
   inside ← opened text
   name ← some_front is_name_byte inside
@@ -87,9 +88,9 @@ abbrev pub is_done : List ℕ → Bool
 is_done text = begins_comment (past is_blank text)
 
 -- a command with nothing after it but blanks and a comment
-abbrev pub only_set : List ℕ → Option Setting
+abbrev pub only_set : List ℕ → Option Variable
 only_set text = set_at text >>= λ cut. if is_done cut.1 then Some cut.0 else None
 
 -- what a line says: nothing, or a setting; none where it says neither
-abbrev pub said_by : List ℕ → Option (Option Setting)
-said_by line = if is_done line then Some None else (only_set (past is_blank line) >>= λ setting. Some (Some setting))
+abbrev pub said_by : List ℕ → Option (Option Variable)
+said_by line = if is_done line then Some None else (only_set (past is_blank line) >>= λ variable. Some (Some variable))

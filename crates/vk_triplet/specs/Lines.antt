@@ -3,11 +3,7 @@ use Rattle.std.specs.Prelude.{◌≡◌, ◌<◌, ◌==◌, ◌&&◌, ◌||◌, 
 use Rattle.std.specs.Char.{is_ascii_alphanumeric, is_ascii_graphic, to_ascii_lowercase}
 use Rattle.std.specs.List.{list_all, list_any, slice_split}
 use Rattle.std.specs.Str.Lines.{strip_carriage_return}
-
--- a variable is set to a value
-pub record Setting : Type 0 where
-  pub name : List ℕ
-  pub value : List ℕ
+use Rattle.vk_triplet.specs.declared.triplets.Variable.{Variable}
 
 -- lines stand between line feeds, and a carriage return at a line's end is dropped
 abbrev pub lines_of : List ℕ → List (List ℕ)
@@ -58,25 +54,25 @@ abbrev pub IsGivenValue : List ℕ → List ℕ → Type 0
 IsGivenValue given value = ((given ≡ []) × (value ≡ [])) ⊎ IsWritten given value
 
 -- a command that sets a variable: `set` in any case, `(`, the name, what is given, `)`
-pub record IsSet (command : List ℕ) (setting : Setting) : Type 0 where
+pub record IsSet (command : List ℕ) (variable : Variable) : Type 0 where
   pub word : List ℕ
   pub outside : List ℕ
   pub inside : List ℕ
   pub given : List ℕ
   pub end : List ℕ
-  pub split : command ≡ word ++ (outside ++ 40 ∷ (inside ++ (setting.name ++ (given ++ (end ++ 41 ∷ [])))))
+  pub split : command ≡ word ++ (outside ++ 40 ∷ (inside ++ (variable.name ++ (given ++ (end ++ 41 ∷ [])))))
   pub set : map to_ascii_lowercase word ≡ codes "set"
   pub blank : IsBlanks outside × IsBlanks inside × IsBlanks end
-  pub some : 0 < length setting.name
-  pub name : list_all is_name_byte setting.name ≡ true
-  pub value : IsGivenValue given setting.value
+  pub some : 0 < length variable.name
+  pub name : list_all is_name_byte variable.name ≡ true
+  pub value : IsGivenValue given variable.value
 
 -- a comment, from `#` on, or nothing
 abbrev pub IsComment : List ℕ → Type 0
 IsComment text = (text ≡ []) ⊎ ((rest : List ℕ) × (text ≡ 35 ∷ rest))
 
 -- what a line says: nothing, or that a variable is set; blanks before and after it, and a comment at the end
-pub record Says (line : List ℕ) (said : Option Setting) : Type 0 where
+pub record Says (line : List ℕ) (said : Option Variable) : Type 0 where
   pub before : List ℕ
   pub command : List ℕ
   pub after : List ℕ

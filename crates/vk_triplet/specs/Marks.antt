@@ -1,8 +1,8 @@
 -- The marks of a triplet: by the last settings of four variables.
-use Rattle.std.specs.Prelude.{◌||◌, ◌==◌, ◌++◌, ℕ, Bool, List, [], ◌∷◌, length, codes, if◌then◌else◌}
+use Rattle.std.specs.Prelude.{◌≡◌, ◌||◌, ◌==◌, ◌++◌, ℕ, Bool, true, false, List, [], ◌∷◌, length, codes, if◌then◌else◌}
 use Rattle.std.specs.List.{flat_map}
 use Rattle.std.specs.Str.{bytes_eq}
-use Rattle.vk_triplet.specs.Lines.{Setting}
+use Rattle.vk_triplet.specs.declared.triplets.Variable.{Variable}
 use Rattle.vk_triplet.specs.TripletReadings.{value_of}
 
 -- where the variable has the value, these marks hold
@@ -44,8 +44,8 @@ table =
     ∷ []
 
 -- the marks of a row, where its variable has its value
-abbrev pub marks_by : List Setting → Row → List (List ℕ)
-marks_by settings r = if bytes_eq (value_of r.variable settings) r.value then r.marks else []
+abbrev pub marks_by : List Variable → Row → List (List ℕ)
+marks_by variables r = if bytes_eq (value_of r.variable variables) r.value then r.marks else []
 
 -- an architecture is a mark itself, unless it is empty or `native`
 abbrev pub own_mark : List ℕ → List (List ℕ)
@@ -56,5 +56,10 @@ abbrev pub native_mark : Bool → List (List ℕ)
 native_mark native = if native then codes "native" ∷ [] else []
 
 -- the marks of a triplet: the architecture, those of the table in its order, and `native` last
-abbrev pub marks_of : List Setting → Bool → List (List ℕ)
-marks_of settings native = own_mark (value_of architecture settings) ++ (flat_map (marks_by settings) table ++ native_mark native)
+abbrev pub marks_of : List Variable → Bool → List (List ℕ)
+marks_of variables native = own_mark (value_of architecture variables) ++ (flat_map (marks_by variables) table ++ native_mark native)
+
+-- the marks of a triplet that sets these, where it isn't the host triplet, and where it is
+pub record AreMarks (variables : List Variable) (other native : List (List ℕ)) : Type 0 where
+  pub elsewhere : other ≡ marks_of variables false
+  pub here : native ≡ marks_of variables true

@@ -6,4 +6,4 @@ use Rattle.vk_triplet.specs.Marks.{marks_of}
 
 -- its name, its bytes, and the marks that hold for its instances, but for `native`
 abbrev pub meaning_of : Triplet → the.Triplet
-meaning_of t = record { name = t.name; bytes = t.bytes; marks = marks_of t.settings false }
+meaning_of t = record { name = t.name; bytes = t.bytes; marks = marks_of t.variables false }

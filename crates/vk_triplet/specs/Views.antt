@@ -2,10 +2,8 @@
 use Rattle.std.specs.Prelude.{◌==◌, ℕ, Bool, Option, Some, None, List, []}
 use Rattle.std.specs.List.{slice_split}
 use denote.Ref.{Bor}
-use Rattle.vk_triplet.specs.Lines.{Setting, is_blank, is_name_byte, is_bare_byte, is_quoted_byte}
-use Rattle.vk_triplet.specs.TripletReadings.{Fault, line, not_text}
-use Rattle.vk_triplet.specs.declared.faults.TripletFault.{TripletFault}
-use Rattle.vk_triplet.specs.declared.faults.TripletFault.TheVariants as fault
+use Rattle.vk_triplet.specs.Lines.{is_blank, is_name_byte, is_bare_byte, is_quoted_byte}
+use Rattle.vk_triplet.specs.declared.triplets.Variable.{Variable}
 use Rattle.vk_triplet.specs.declared.lines.Kind.{Kind}
 use Rattle.vk_triplet.specs.declared.lines.Kind.TheVariants as kind
 use Rattle.vk_triplet.specs.declared.lines.Command.{Command}
@@ -17,22 +15,16 @@ is_in kind.Name = is_name_byte
 is_in kind.Bare = is_bare_byte
 is_in kind.Quoted = is_quoted_byte
 
--- what is wrong, unless memory was wanting
-abbrev pub triplet_fault_of : TripletFault → Option Fault
-triplet_fault_of (fault.Line n) = Some (line n)
-triplet_fault_of fault.NotText = Some not_text
-triplet_fault_of fault.Memory = None
-
 -- two texts that are lent, by their bytes
 abbrev pub pair_view : Bor (List ℕ) × Bor (List ℕ) → List ℕ × List ℕ
 pair_view cut = (cut.0.now, cut.1.now)
 
 -- a command, by its bytes
-abbrev pub command_view : Command → Setting
+abbrev pub command_view : Command → Variable
 command_view c = record { name = c.name.now; value = c.value.now }
 
 -- a command, and what stands after it
-abbrev pub cut_view : Command × Bor (List ℕ) → Setting × List ℕ
+abbrev pub cut_view : Command × Bor (List ℕ) → Variable × List ℕ
 cut_view cut = (command_view cut.0, cut.1.now)
 
 -- the parts of what stands after a line feed, if there is one

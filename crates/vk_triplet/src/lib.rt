@@ -10,8 +10,5 @@ mod triplets;
 
 pub use faults::TripletFault;
 pub use lines::line_rule;
-pub use tables::{marks, native_rule};
-pub use triplets::{Setting1, Triplet, read, triplet_rule, value_rule};
-
-#[cfg(test)]
-mod tests;
+pub use tables::native_rule;
+pub use triplets::{Triplet, Variable, read, triplet_rule, value_rule};

@@ -1,7 +1,8 @@
 //! One line: nothing, or a command that sets a variable.
 ghost use Rattle.std.specs.Prelude.{◌≡◌, ◌≤◌, ℕ, not, List, length, Option, Some, option_map};
 ghost use Rattle.std.specs.List.{prefix_len, position};
-ghost use Rattle.vk_triplet.specs.Lines.{Setting, Says};
+ghost use Rattle.vk_triplet.specs.declared.triplets.Variable.{Variable};
+ghost use Rattle.vk_triplet.specs.Lines.{Says};
 ghost use Rattle.vk_triplet.specs.LineReadings.{past, after_byte, after_set, some_front, quoted_value, value_at, blank_value, closed, written_at, given_at, opened, set_at, is_done, only_set, said_by};
 ghost use Rattle.vk_triplet.specs.Views.{is_in, command_view, pair_view, cut_view};
 
@@ -196,6 +197,6 @@ pub(crate) fn said_by(line: &[u8]) -> Option<Option<Command<'_>>>
 /// What is found in a line, read from the left, is what the line says by the grammar, and nothing
 /// else; so a line has at most one reading.
 pub fn line_rule()
-    ensures found { (line : List ℕ) (said : Option Setting) → said_by line ≡ Some said → Says line said }
-    ensures only { (line : List ℕ) (said : Option Setting) → Says line said → said_by line ≡ Some said }
+    ensures found { (line : List ℕ) (said : Option Variable) → said_by line ≡ Some said → Says line said }
+    ensures only { (line : List ℕ) (said : Option Variable) → Says line said → said_by line ≡ Some said }
 {}

@@ -1,18 +1,17 @@
 ghost use Rattle.std.specs.Prelude.{◌≡◌, ◌++◌, List, true, false, map, OnOk, IfOk, if◌then◌else◌};
 ghost use Rattle.std.specs.List.{flat_map};
 ghost use Rattle.vk_spec.specs.Settings.{with_native};
-ghost use Rattle.vk_triplet.specs.Lines.{Setting};
+ghost use Rattle.vk_triplet.specs.declared.triplets.Variable.{Variable};
 ghost use Rattle.vk_triplet.specs.TripletReadings.{sets, value_of};
-ghost use Rattle.vk_triplet.specs.TripletViews.{setting_view};
-ghost use Rattle.vk_triplet.specs.Marks.{marks_by, own_mark, native_mark, marks_of};
+ghost use Rattle.vk_triplet.specs.Marks.{AreMarks, marks_by, own_mark, native_mark, marks_of};
 ghost use Rattle.vk_triplet.specs.RowViews.{row_view, texts_of};
 
-use crate::triplets::{Setting1, Triplet};
+use crate::triplets::Variable;
 use std::alloc::Global;
 use vk_base::{List, Memory, Text};
 use vk_expr::Marks;
 
-/// A variable, a value, and the marks that hold where the variable has the value.
+// A variable, a value, and the marks that hold where the variable has the value.
 #[derive(Clone, Copy)]
 struct Row(&'static str, &'static str, &'static [&'static str]);
 
@@ -42,30 +41,30 @@ const TABLE: [Row; 15] = [
     Row(RUNTIME, "static", &["staticcrt"]),
 ];
 
-/// The value after this setting, where the one before it was this.
-fn value_after<'a>(setting: &'a Setting1, name: &str, value: &'a str) -> &'a str
-    ensures { result.now ≡ (if sets name.now (setting_view setting.now) then setting.now.value else value.now) }
+// The value after this line, where the one before it was this.
+fn value_after<'a>(variable: &'a Variable, name: &str, value: &'a str) -> &'a str
+    ensures { result.now ≡ (if sets name.now variable.now then variable.now.value else value.now) }
 {
-    if setting.name.is(name) {
-        return setting.value.as_str();
+    if variable.name.is(name) {
+        return variable.value.as_str();
     }
     value
 }
 
-/// The value of a variable: that of its last setting, and empty where it is never set.
-fn value_of<'a>(vars: &'a [Setting1], name: &str) -> &'a str
-    ensures { result.now ≡ value_of name.now (map setting_view vars.now) }
+// The value of a variable: that of its last setting, and empty where it is never set.
+fn value_of<'a>(vars: &'a [Variable], name: &str) -> &'a str
+    ensures { result.now ≡ value_of name.now vars.now }
 {
     let mut value = "";
-    for setting in vars {
-        value = value_after(setting, name, value);
+    for variable in vars {
+        value = value_after(variable, name, value);
     }
     value
 }
 
-/// The marks of a row, where its variable has its value.
-fn marks_by(vars: &[Setting1], row: Row) -> &'static [&'static str]
-    ensures { texts_of result.now ≡ marks_by (map setting_view vars.now) (row_view row) }
+// The marks of a row, where its variable has its value.
+fn marks_by(vars: &[Variable], row: Row) -> &'static [&'static str]
+    ensures { texts_of result.now ≡ marks_by vars.now (row_view row) }
 {
     let Row(variable, value, marks) = row;
     if value_of(vars, variable) == value {
@@ -74,7 +73,7 @@ fn marks_by(vars: &[Setting1], row: Row) -> &'static [&'static str]
     &[]
 }
 
-/// Puts these marks at the end.
+// Puts these marks at the end.
 fn push_all(alloc: Global, names: &mut List<Text>, marks: &[&str]) -> Result<(), Memory>
     ensures { OnOk result (names.new ≡ names.old ++ texts_of marks.now) }
 {
@@ -84,14 +83,14 @@ fn push_all(alloc: Global, names: &mut List<Text>, marks: &[&str]) -> Result<(),
     Ok(())
 }
 
-/// Puts the marks of these rows at the end.
+// Puts the marks of these rows at the end.
 fn push_rows(
     alloc: Global,
     names: &mut List<Text>,
-    vars: &[Setting1],
+    vars: &[Variable],
     rows: &[Row],
 ) -> Result<(), Memory>
-    ensures { OnOk result (names.new ≡ names.old ++ flat_map (λ r. marks_by (map setting_view vars.now) (row_view r)) rows.now) }
+    ensures { OnOk result (names.new ≡ names.old ++ flat_map (λ r. marks_by vars.now (row_view r)) rows.now) }
 {
     for row in rows {
         push_all(alloc, names, marks_by(vars, *row))?;
@@ -99,7 +98,7 @@ fn push_rows(
     Ok(())
 }
 
-/// Puts the architecture itself at the end, unless it is empty or `native`.
+// Puts the architecture itself at the end, unless it is empty or `native`.
 fn push_own(alloc: Global, names: &mut List<Text>, architecture: &str) -> Result<(), Memory>
     ensures { OnOk result (names.new ≡ names.old ++ own_mark architecture.now) }
 {
@@ -109,7 +108,7 @@ fn push_own(alloc: Global, names: &mut List<Text>, architecture: &str) -> Result
     push_all(alloc, names, &[architecture])
 }
 
-/// Puts `native` at the end, where the triplet is the host triplet.
+// Puts `native` at the end, where the triplet is the host triplet.
 fn push_native(alloc: Global, names: &mut List<Text>, native: bool) -> Result<(), Memory>
     ensures { OnOk result (names.new ≡ names.old ++ native_mark native) }
 {
@@ -119,12 +118,11 @@ fn push_native(alloc: Global, names: &mut List<Text>, native: bool) -> Result<()
     Ok(())
 }
 
-/// The marks of a triplet, by the last settings of its variables: its architecture first, then
-/// those of the table in its order, and `native` last where it is the host triplet.
-pub fn marks(alloc: Global, t: &Triplet, native: bool) -> Result<Marks, Memory>
-    ensures { IfOk result (λ m. m.names ≡ marks_of (map setting_view t.now.vars) native) }
+// The marks of a triplet that sets these, by the last of them: its architecture first, then those
+// of the table in its order, and `native` last where it is the host triplet.
+fn marks_of(alloc: Global, vars: &[Variable], native: bool) -> Result<Marks, Memory>
+    ensures { IfOk result (λ m. m.names ≡ marks_of vars.now native) }
 {
-    let vars = t.vars.as_slice();
     let mut names = List::new(alloc);
     push_own(alloc, &mut names, value_of(vars, ARCHITECTURE))?;
     push_rows(alloc, &mut names, vars, &TABLE)?;
@@ -132,7 +130,24 @@ pub fn marks(alloc: Global, t: &Triplet, native: bool) -> Result<Marks, Memory>
     Ok(Marks { names })
 }
 
+// The marks of a triplet where it isn't the host triplet, and where it is.
+#[derive(Clone, Drop)]
+pub(crate) struct BothMarks {
+    pub(crate) other: Marks,
+    pub(crate) native: Marks,
+}
+
+// Both, of a triplet that sets these.
+pub(crate) fn both_marks(alloc: Global, vars: &[Variable]) -> Result<BothMarks, Memory>
+    ensures { IfOk result (λ both. AreMarks vars.now both.other.names both.native.names) }
+{
+    Ok(BothMarks {
+        other: marks_of(alloc, vars, false)?,
+        native: marks_of(alloc, vars, true)?,
+    })
+}
+
 /// What holds for the host triplet is what its file says, and `native` besides.
 pub fn native_rule()
-    ensures { (settings : List Setting) → marks_of settings true ≡ with_native (marks_of settings false) }
+    ensures { (variables : List Variable) → marks_of variables true ≡ with_native (marks_of variables false) }
 {}

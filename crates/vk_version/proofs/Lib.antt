@@ -1,7 +1,9 @@
 mod CutLemmas
 mod DigitLemmas
 mod NumberLemmas
-mod SuffixLemmas
+mod TailLemmas
+mod WrittenLemmas
+mod PieceLemmas
 mod FaultLemmas
 mod DateLemmas
 pub mod OrderLemmas
@@ -9,3 +11,5 @@ mod SameTextLemmas
 pub mod TestLemmas
 mod ApartLemmas
 mod RefusedLemmas
+mod WordLemmas
+mod PortLemmas

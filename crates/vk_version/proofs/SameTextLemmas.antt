@@ -14,7 +14,8 @@ use Rattle.semver.specs.Order.{parts}
 use Rattle.semver.specs.OrderLaws.{join_dots, join-parts}
 use Rattle.vk_spec.specs.Versions.{Class, Version}
 use Rattle.vk_spec.specs.Versions as plain
-use Rattle.vk_version.specs.Schemes.{Scheme, Fault}
+use Rattle.vk_version.specs.declared.faults.VersionFault.{VersionFault}
+use Rattle.vk_version.specs.Schemes.{Scheme}
 use Rattle.vk_version.specs.Schemes as the
 use Rattle.vk_version.specs.Texts.{is_number, number_of, all_fit, are_digits, is_day, numbers_of_day, first_part, later_parts, later_numbers, day_of, is_dated, has_day}
 use Rattle.vk_version.specs.Readings.{IsVersion, reads_version, unless, fault_under}
@@ -147,7 +148,7 @@ same_text t u dt du fit days later =
 
 -- ---- versions
 
-reads_Ok : (fault : Option Fault) (v w : Version) → unless fault v ≡ Ok w → (fault ≡ None) × (v ≡ w)
+reads_Ok : (fault : Option VersionFault) (v w : Version) → unless fault v ≡ Ok w → (fault ≡ None) × (v ≡ w)
 reads_Ok None v w e = (refl, (cc))
 reads_Ok (Some fault) v w e = (cc)
 

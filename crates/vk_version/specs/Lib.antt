@@ -6,3 +6,5 @@ pub mod Views
 pub mod Steps
 pub mod Parsed
 pub mod AskViews
+pub mod ClassWords
+pub mod SameVersions

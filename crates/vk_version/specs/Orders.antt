@@ -7,7 +7,7 @@ use Rattle.std.specs.Cmp.Lexicographic.{slice_cmp, pointwise}
 use Rattle.semver.specs.Order.{pre_cmp}
 use Rattle.vk_spec.specs.Versions.{Class, Version, same_class}
 use Rattle.vk_spec.specs.Versions as plain
-use Rattle.vk_version.specs.Texts.{numbers_in, core_of, suffix_of, pre_in, day_of, later_numbers}
+use Rattle.vk_version.specs.Texts.{numbers_in, core_of, tail_of, pre_in, day_of, later_numbers}
 
 -- numbers compared from the left: the first that differs is less, or they end where the others go on
 pub data IsLess (xs ys : List ℕ) : Type 0 where
@@ -24,7 +24,7 @@ numbers_of v = numbers_in (core_of v.text)
 
 -- the pre-release of a dotted version
 abbrev pub pre_of : Version → List ℕ
-pre_of v = pre_in (suffix_of v.text)
+pre_of v = pre_in (tail_of v.text)
 
 -- two versions of one class
 pub record BothAre (class : Class) (v w : Version) : Type 0 where
@@ -66,7 +66,7 @@ numbers_by plain.text text = []
 
 -- the pre-release of a text by its class
 abbrev pub pre_by : Class → List ℕ → List ℕ
-pre_by plain.dot text = pre_in (suffix_of text)
+pre_by plain.dot text = pre_in (tail_of text)
 pre_by plain.date text = []
 pre_by plain.text text = []
 

@@ -1,8 +1,10 @@
--- What stands in a version text: numbers between dots, a suffix, a day.
+-- What stands in a version text: numbers between dots, a pre-release, build metadata, a day.
 use Rattle.std.specs.Prelude.{◌≡◌, ◌<◌, ◌++◌, ℕ, ◌^◌, ◌==◌, ◌&&◌, ◌||◌, not, nat_lt, nat_le, Bool, true, false, List, [], ◌∷◌, length, map, drop, slice_index, slice_range, pos, if◌then◌else◌}
 use Rattle.std.specs.Char.{is_ascii_digit, is_ascii_control}
-use Rattle.std.specs.List.{list_all, position_or_len, before_first}
+use Rattle.std.specs.List.{list_all, list_any, position_or_len, before_first, after_first}
 use Rattle.std.specs.Str.Parse.{digits_value}
+use Rattle.semver.specs.Grammar.{is_pre_release, is_build}
+use Rattle.semver.specs.Identifiers.{marked}
 use Rattle.semver.specs.Order.{parts}
 use Rattle.jiff.specs.Words.{days_in_month}
 
@@ -27,22 +29,52 @@ numbers_in text = map number_of (parts text)
 abbrev pub all_fit : List ℕ → Bool
 all_fit numbers = list_all (λ n. nat_lt n (2 ^ 64)) numbers
 
--- a hyphen and a plus begin a suffix
-abbrev pub begins_suffix : ℕ → Bool
-begins_suffix b = (b == 45) || (b == 43)
+-- a hyphen and a plus end the numbers
+abbrev pub begins_tail : ℕ → Bool
+begins_tail b = (b == 45) || (b == 43)
 
--- what stands before the suffix
+abbrev pub is_plus : ℕ → Bool
+is_plus b = b == 43
+
+-- what stands before the first hyphen or plus
 abbrev pub core_of : List ℕ → List ℕ
-core_of text = before_first begins_suffix text
+core_of text = before_first begins_tail text
 
--- the suffix, with what begins it
-abbrev pub suffix_of : List ℕ → List ℕ
-suffix_of text = drop (position_or_len begins_suffix text) text
+-- what stands from there on
+abbrev pub tail_of : List ℕ → List ℕ
+tail_of text = drop (position_or_len begins_tail text) text
 
--- the pre-release in a suffix: what stands after a hyphen, up to a plus
+-- the pre-release in a tail: what stands after a hyphen, up to the next plus
 abbrev pub pre_in : List ℕ → List ℕ
 pre_in [] = []
-pre_in (b ∷ rest) = if b == 45 then before_first (λ c. c == 43) rest else []
+pre_in (b ∷ rest) = if b == 45 then before_first is_plus rest else []
+
+-- the build metadata in a tail: what stands after the first plus
+abbrev pub build_in : List ℕ → List ℕ
+build_in tail = after_first is_plus tail
+
+-- a pre-release of at least one identifier (SemVer 2.0.0, 9)
+abbrev pub is_pre : List ℕ → Bool
+is_pre text = nat_lt 0 (length text) && is_pre_release text
+
+-- build metadata of at least one identifier (SemVer 2.0.0, 10)
+abbrev pub is_metadata : List ℕ → Bool
+is_metadata text = nat_lt 0 (length text) && is_build text
+
+-- build metadata after the first plus, if there is one
+abbrev pub may_have_metadata : List ℕ → Bool
+may_have_metadata text = if list_any is_plus text then is_metadata (after_first is_plus text) else true
+
+-- what may follow the numbers: a hyphen with a pre-release, a plus with build metadata, both in this order, or nothing
+abbrev pub is_tail : List ℕ → Bool
+is_tail [] = true
+is_tail (b ∷ rest) =
+    if b == 45 then is_pre (before_first is_plus rest) && may_have_metadata rest
+    else (b == 43) && is_metadata rest
+
+-- a text of the relaxed scheme, however large its numbers are
+abbrev pub is_relaxed : List ℕ → Bool
+is_relaxed text = is_dotted (core_of text) && is_tail (tail_of text)
 
 -- so many digits
 abbrev pub are_digits : ℕ → List ℕ → Bool
@@ -94,11 +126,16 @@ pub record IsPadded (part : List ℕ) : Type 0 where
   pub zero : slice_index part 0 ≡ 48
   pub longer : 1 < length part
 
--- numbers joined by dots, and then what a hyphen or a plus begins
-pub record HasSuffix (text : List ℕ) : Type 0 where
-  pub front : List ℕ
-  pub mark : ℕ
-  pub rest : List ℕ
-  pub split : text ≡ front ++ mark ∷ rest
-  pub dotted : is_dotted front ≡ true
-  pub marked : begins_suffix mark ≡ true
+-- numbers, a pre-release and build metadata, of which the last two may be empty; each that isn't stands after its mark
+pub record IsWritten (text core pre build : List ℕ) : Type 0 where
+  pub whole : text ≡ core ++ (marked 45 pre ++ marked 43 build)
+  pub numbers : is_dotted core ≡ true
+  pub pre_release : is_pre_release pre ≡ true
+  pub metadata : is_build build ≡ true
+
+-- the numbers, the pre-release and the build metadata that a text is put together of
+pub record IsPutTogether (text : List ℕ) : Type 0 where
+  pub core : List ℕ
+  pub pre : List ℕ
+  pub build : List ℕ
+  pub written : IsWritten text core pre build

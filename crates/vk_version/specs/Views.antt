@@ -1,13 +1,10 @@
 -- What contracts see of this crate's types, in the plain words of versions.
-use Rattle.std.specs.Prelude.{Option, Some, None}
 use Rattle.vk_spec.specs.Versions as plain
 use Rattle.vk_version.specs.Schemes as the
 use Rattle.vk_version.specs.declared.schemes.Scheme.{Scheme}
 use Rattle.vk_version.specs.declared.schemes.Scheme.TheVariants as scheme
 use Rattle.vk_version.specs.declared.schemes.Class.{Class}
 use Rattle.vk_version.specs.declared.schemes.Class.TheVariants as class
-use Rattle.vk_version.specs.declared.faults.VersionFault.{VersionFault}
-use Rattle.vk_version.specs.declared.faults.VersionFault.TheVariants as fault
 
 abbrev pub scheme_view : Scheme → the.Scheme
 scheme_view scheme.Relaxed = the.relaxed
@@ -19,11 +16,3 @@ abbrev pub class_view : Class → plain.Class
 class_view class.Dot = plain.dot
 class_view class.Date = plain.date
 class_view class.Text = plain.text
-
--- the fault that is told, or none where memory was wanting
-abbrev pub version_fault_of : VersionFault → Option the.Fault
-version_fault_of fault.Shape = Some the.shape
-version_fault_of fault.Number = Some the.number
-version_fault_of fault.Day = Some the.day
-version_fault_of fault.Suffix = Some the.suffix
-version_fault_of fault.Memory = None

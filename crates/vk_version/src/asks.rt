@@ -1,17 +1,19 @@
-ghost use Rattle.std.specs.Prelude.{◌≡◌, MatchOption, true, false};
-ghost use Rattle.std.specs.List.{list_any, before_first, after_first};
+//! Asks: a version's text without a scheme, and a port-version.
+ghost use Rattle.std.specs.Prelude.{◌≡◌, IfOk};
+ghost use Rattle.vk_base.specs.Printed.{version_text};
 ghost use Rattle.vk_spec.specs.Reading.{Gives};
-ghost use Rattle.vk_version.specs.Schemes as the;
-ghost use Rattle.vk_version.specs.Texts.{is_hash, is_plain, number_of};
+ghost use Rattle.vk_base.specs.Stops.{fault_in};
+ghost use Rattle.vk_version.specs.declared.faults.VersionFault.TheVariants as fault;
+ghost use Rattle.vk_version.specs.Texts.{is_plain, number_of};
 ghost use Rattle.vk_version.specs.Readings.{fault_unless, port_fault, reads_ask, unless};
 ghost use Rattle.vk_version.specs.AskViews.{ask_view};
-ghost use Rattle.vk_version.specs.Views.{version_fault_of};
 
+use crate::cuts::split;
 use crate::faults::VersionFault;
 use crate::numbers::{is_number, number};
 use crate::plains::is_plain;
 use std::alloc::{AllocError, Global};
-use vk_base::Text;
+use vk_base::{Memory, Text, Unread, token};
 
 /// What a minimum, a baseline entry or an override asks for: a version's text without a scheme, and
 /// a port-version. A port's versions table says which version it means.
@@ -21,6 +23,18 @@ pub struct Ask {
     pub text: Text,
     /// The port-version.
     pub port: u32,
+}
+
+impl Ask {
+    /// The ask as it is printed, and so a version that has its text and port-version: its text's
+    /// token, `#` and the port-version.
+    pub fn printed(&self, alloc: Global) -> Result<Text, Memory>
+        ensures { IfOk result (λ t. t ≡ version_text (ask_view self.now)) }
+    {
+        let text = token(alloc, self.text.as_bytes())?;
+        let port = self.port;
+        Ok(Text::from_string(format!(in alloc; "{text}#{port}")?))
+    }
 }
 
 impl Clone for Ask {
@@ -34,47 +48,36 @@ impl Clone for Ask {
     }
 }
 
-/// Reads what stands before a hash.
-fn read_plain(alloc: Global, text: &str) -> Result<Text, VersionFault>
-    ensures { Gives (λ t. t) version_fault_of result (unless (fault_unless the.shape (is_plain text.now)) text.now) }
+// Reads what stands before a hash.
+fn read_plain(alloc: Global, text: &str) -> Result<Text, Unread<VersionFault>>
+    ensures { Gives (λ t. t) fault_in result (unless (fault_unless fault.Shape (is_plain text.now)) text.now) }
 {
     if is_plain(text.as_bytes()) {
         Ok(Text::from_str(alloc, text)?)
     } else {
-        Err(VersionFault::Shape)
+        Err(Unread::Fault(VersionFault::Shape))
     }
 }
 
-/// Reads what stands after a hash.
-fn read_port(digits: &[u8]) -> Result<u32, VersionFault>
-    ensures { Gives (λ n. n) version_fault_of result (unless (port_fault digits.now) (number_of digits.now)) }
+// Reads what stands after a hash.
+fn read_port(digits: &[u8]) -> Result<u32, Unread<VersionFault>>
+    ensures { Gives (λ n. n) fault_in result (unless (port_fault digits.now) (number_of digits.now)) }
 {
     if !is_number(digits) {
-        return Err(VersionFault::Shape);
+        return Err(Unread::Fault(VersionFault::Shape));
     }
     match number(digits) {
         Some(port) if port <= u32::MAX as u64 => Ok(port as u32),
-        _ => Err(VersionFault::Number),
-    }
-}
-
-/// What stands before the first hash of a text, and what stands after it, if there is one.
-fn split(text: &str) -> (&str, Option<&str>)
-    ensures version { result.0.now ≡ before_first is_hash text.now }
-    ensures port { MatchOption result.1 (list_any is_hash text.now ≡ false) (λ port. (list_any is_hash text.now ≡ true) × (port.now ≡ after_first is_hash text.now)) }
-{
-    match text.split_once('#') {
-        Some((version, port)) => (version, Some(port)),
-        None => (text, None),
+        _ => Err(Unread::Fault(VersionFault::Number)),
     }
 }
 
 /// The ask of a text: a version's text, and then, if it likes, `#` and a port-version, which is 0
 /// otherwise. `Shape` and `Number` come exactly where the text has that fault.
-pub fn read_ask(alloc: Global, text: &str) -> Result<Ask, VersionFault>
-    ensures { Gives ask_view version_fault_of result (reads_ask text.now) }
+pub fn read_ask(alloc: Global, text: &str) -> Result<Ask, Unread<VersionFault>>
+    ensures { Gives ask_view fault_in result (reads_ask text.now) }
 {
-    let (version, port) = split(text);
+    let (version, port) = split(text, '#');
     let version = read_plain(alloc, version)?;
     match port {
         Some(digits) => Ok(Ask {

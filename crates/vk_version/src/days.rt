@@ -1,3 +1,4 @@
+//! Days of the calendar, as they stand in a version's text.
 ghost use Rattle.std.specs.Prelude.{◌≡◌, ◌&&◌, ◌<◌, ◌≤◌, ◌∷◌, ◌^◌, [], length, if◌then◌else◌, Some, None, true};
 ghost use Rattle.std.specs.List.{list_all};
 ghost use Rattle.std.specs.Char.{is_ascii_digit};
@@ -6,14 +7,14 @@ ghost use Rattle.vk_version.specs.Texts.{are_digits, is_day, number_of, has_day,
 use crate::numbers;
 use jiff::civil::Date;
 
-/// Whether a text is so many digits.
+// Whether a text is so many digits.
 fn are_digits(text: &[u8], count: usize) -> bool
     ensures { result ≡ are_digits count text.now }
 {
     text.len() == count && numbers::are_digits(text)
 }
 
-/// Whether a text is of the form `YYYY-MM-DD`.
+// Whether a text is of the form `YYYY-MM-DD`.
 pub(crate) fn is_day(text: &[u8]) -> bool
     ensures { result ≡ is_day text.now }
 {
@@ -25,7 +26,7 @@ pub(crate) fn is_day(text: &[u8]) -> bool
         && are_digits(&text[8..], 2)
 }
 
-/// The number that a few digits say.
+// The number that a few digits say.
 fn small_number(digits: &[u8]) -> u64
     requires some { 0 < length digits.now }
     requires few { length digits.now ≤ 4 }
@@ -36,7 +37,7 @@ fn small_number(digits: &[u8]) -> u64
     numbers::number(digits).unwrap()
 }
 
-/// Whether the calendar has this year, month and day.
+// Whether the calendar has this year, month and day.
 fn has_day(year: u64, month: u64, day: u64) -> bool
     requires year { year < 10000 }
     requires month { month < 100 }
@@ -49,8 +50,8 @@ fn has_day(year: u64, month: u64, day: u64) -> bool
     }
 }
 
-/// The year, the month and the day of a text of the form `YYYY-MM-DD`; `None` exactly where the
-/// calendar hasn't that day.
+// The year, the month and the day of a text of the form `YYYY-MM-DD`; `None` exactly where the
+// calendar hasn't that day.
 pub(crate) fn day_numbers(day: &[u8]) -> Option<[u64; 3]>
     requires { is_day day.now ≡ true }
     ensures { result ≡ (if has_day (numbers_of_day day.now) then Some (numbers_of_day day.now) else None) }

@@ -1,15 +1,17 @@
 //! What follows from the definitions alone: each function's contract is a law, and its body is empty.
 
-ghost use Rattle.std.specs.Prelude.{◌≡◌, ◌≢◌, ◌<◌, ◌≤◌, ◌^◌, pos, ◌↔◌, ◌∷◌, [], ℕ, List, Some, Ok, Err, IsTrue};
-ghost use Rattle.std.specs.List.{Contains};
+ghost use Rattle.std.specs.Prelude.{◌≡◌, ◌≢◌, ◌<◌, ◌≤◌, ◌^◌, pos, ◌↔◌, ◌∷◌, [], ℕ, List, Some, Ok, Err, IsTrue, false, if◌then◌else◌};
+ghost use Rattle.std.specs.List.{Contains, list_any};
 ghost use Rattle.semver.specs.Order.{parts};
 ghost use Rattle.semver.specs.Parse.{Parts, version_parts};
 ghost use Rattle.jiff.specs.Words.{IsDate};
-ghost use Rattle.vk_spec.specs.Versions.{IsOrder, Version};
+ghost use Rattle.vk_spec.specs.Versions.{Class, IsOrder, Version};
+ghost use Rattle.vk_version.specs.ClassWords.{class_word};
 ghost use Rattle.vk_spec.specs.Versions as plain;
+ghost use Rattle.vk_version.specs.declared.faults.VersionFault.TheVariants as fault;
 ghost use Rattle.vk_version.specs.Schemes as the;
-ghost use Rattle.vk_version.specs.Texts.{HasSuffix, IsPadded, core_of, day_of, has_day, is_number, later_numbers, later_parts, number_of, numbers_in, pre_in, suffix_of};
-ghost use Rattle.vk_version.specs.Readings.{IsVersion, fault_under, reads_version};
+ghost use Rattle.vk_version.specs.Texts.{IsPadded, IsPutTogether, IsWritten, all_fit, begins_tail, build_in, is_dotted, is_relaxed, core_of, day_of, has_day, is_number, later_numbers, later_parts, number_of, numbers_in, pre_in, tail_of};
+ghost use Rattle.vk_version.specs.Readings.{IsVersion, fault_under, fault_unless, reads_version};
 ghost use Rattle.vk_version.specs.Orders.{AtMost, BothAre, Unrelated, at_most, numbers_of, pre_of};
 
 /// A version is at most itself.
@@ -59,9 +61,9 @@ pub fn dates_together()
 
 /// A part that goes on after a leading zero is no number, so a text with one has no reading.
 pub fn padded_numbers_are_refused()
-    ensures relaxed { (text part : List ℕ) (port : ℕ) → IsPadded part → Contains (parts (core_of text)) part → reads_version the.relaxed text port ≡ Err the.shape }
-    ensures semver { (text part : List ℕ) (port : ℕ) → IsPadded part → Contains (parts (core_of text)) part → reads_version the.semver text port ≡ Err the.shape }
-    ensures date { (text part : List ℕ) (port : ℕ) → IsPadded part → Contains (later_parts text) part → reads_version the.date text port ≡ Err the.shape }
+    ensures relaxed { (text part : List ℕ) (port : ℕ) → IsPadded part → Contains (parts (core_of text)) part → reads_version the.relaxed text port ≡ Err fault.Shape }
+    ensures semver { (text part : List ℕ) (port : ℕ) → IsPadded part → Contains (parts (core_of text)) part → reads_version the.semver text port ≡ Err fault.Shape }
+    ensures date { (text part : List ℕ) (port : ℕ) → IsPadded part → Contains (later_parts text) part → reads_version the.date text port ≡ Err fault.Shape }
 {}
 
 /// Two texts of one number are the same text.
@@ -69,9 +71,24 @@ pub fn numbers_have_one_text()
     ensures { (one other : List ℕ) → IsTrue (is_number one) → IsTrue (is_number other) → number_of one < 2 ^ 64 → number_of one ≡ number_of other → one ≡ other }
 {}
 
-/// The fault of a suffix stands exactly where numbers joined by dots go on with `-` or `+`.
-pub fn suffixes()
-    ensures { (text : List ℕ) → (fault_under the.relaxed text ≡ Some the.suffix) ↔ HasSuffix text }
+/// A text has the form of the relaxed scheme exactly where it is put together of numbers, a
+/// pre-release and build metadata, of which the last two may be empty; and then it is so in one way,
+/// by the parts that are read of it.
+pub fn relaxed_form()
+    ensures form { (text : List ℕ) → IsTrue (is_relaxed text) ↔ IsPutTogether text }
+    ensures parts { (text : List ℕ) → IsTrue (is_relaxed text) → IsWritten text (core_of text) (pre_in (tail_of text)) (build_in (tail_of text)) }
+    ensures one_way { (text core pre build : List ℕ) → IsWritten text core pre build → (core_of text ≡ core) × (pre_in (tail_of text) ≡ pre) × (build_in (tail_of text) ≡ build) }
+{}
+
+/// A text without `-` and `+` is a version of the relaxed scheme exactly where it is numbers joined
+/// by dots, none of them too large.
+pub fn relaxed_numbers()
+    ensures { (text : List ℕ) → list_any begins_tail text ≡ false → fault_under the.relaxed text ≡ (if is_dotted text then fault_unless fault.Number (all_fit (numbers_in text)) else Some fault.Shape) }
+{}
+
+/// What is a semantic version is the same version under the relaxed scheme.
+pub fn semantic_is_relaxed()
+    ensures { (text : List ℕ) (port : ℕ) (v : Version) → reads_version the.semver text port ≡ Ok v → reads_version the.relaxed text port ≡ Ok v }
 {}
 
 /// The days that a date may have are those of the calendar, in the years 0000 to 9999.
@@ -82,5 +99,10 @@ pub fn days()
 /// What the order compares of a semantic version is what the standard's reader finds in it.
 pub fn semantic_parts()
     ensures numbers { (text : List ℕ) (found : Parts) → version_parts text ≡ Ok found → numbers_in (core_of text) ≡ found.0 ∷ found.1 ∷ found.2 ∷ [] }
-    ensures pre_release { (text : List ℕ) (found : Parts) → version_parts text ≡ Ok found → pre_in (suffix_of text) ≡ found.3 }
+    ensures pre_release { (text : List ℕ) (found : Parts) → version_parts text ≡ Ok found → pre_in (tail_of text) ≡ found.3 }
+{}
+
+/// Different classes have different words.
+pub fn class_words()
+    ensures { (c d : Class) → class_word c ≡ class_word d → c ≡ d }
 {}

@@ -4,17 +4,20 @@
 #![tactic(auto)]
 
 mod asks;
+mod cuts;
 mod days;
 mod faults;
 pub mod laws;
 mod numbers;
 mod plains;
+mod readers;
 mod schemes;
-#[cfg(test)]
-mod tests;
+mod tails;
 mod versions;
 
 pub use asks::{Ask, read_ask};
 pub use faults::VersionFault;
+pub use plains::is_plain;
+pub use readers::read;
 pub use schemes::{Class, Scheme};
-pub use versions::{Version, order, read};
+pub use versions::{Version, order};

@@ -1,7 +1,7 @@
 use Rattle.std.proofs.Common.{arith, sym, take, length, ◌<◌, ◌∙◌}
 use Rattle.std.proofs.lemmas.List.{length-take}
 use Rattle.std.proofs.lemmas.List.Quantifiers.{position-Some}
-use Rattle.vk_base.specs.NameFaults.{rule_of}
+use Rattle.vk_base.specs.Names.{rule_of}
 use Rattle.vk_base.proofs.NameLemmas.{is_odd}
 use Rattle.vk_base.proofs.names.name_fault_at.Goals as goal
 

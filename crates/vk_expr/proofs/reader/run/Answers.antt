@@ -2,7 +2,7 @@ use Rattle.std.proofs.Common.{◌≡◌, ◌+◌, ◌∙◌, ap, drop, get_or}
 use Rattle.std.proofs.lemmas.Result.{err_from_is_err_and}
 use Rattle.vk_expr.specs.Tokens.{is_word_byte, tokens_from, tokens_of}
 use Rattle.vk_expr.specs.Reading.{start, steps}
-use Rattle.vk_expr.specs.Faults.{expr_fault_of}
+use Rattle.vk_base.specs.Stops.{fault_in}
 use Rattle.vk_expr.specs.ReaderViews.{state_of}
 use Rattle.vk_expr.proofs.RunLemmas.{goes_on, fails_on, ends_on}
 use Rattle.vk_expr.proofs.reader.run.Goals as goal
@@ -11,7 +11,7 @@ pub returns-in_err-state : goal.returns-in_err-state
 returns-in_err-state c =
     let p = err_from_is_err_and c.from_residual.result c.from_residual.ensures.1 in
     rw (p.1, p.2)
-    (fails_on (expr_fault_of c.in_err-state.field-0.0) c.args.bytes.now (state_of c.loop-at.state) c.loop-at.at c.loop-at.inside (steps start (tokens_of c.args.bytes.now)) c.loop-at-test.true c.in_err-state.ensures c.loop-at.invariant)
+    (fails_on (fault_in c.in_err-state.field-0.0) c.args.bytes.now (state_of c.loop-at.state) c.loop-at.at c.loop-at.inside (steps start (tokens_of c.args.bytes.now)) c.loop-at-test.true c.in_err-state.ensures c.loop-at.invariant)
 
 pub loop-at-preserved : goal.loop-at-preserved
 loop-at-preserved c =

@@ -9,4 +9,4 @@ use Rattle.vk_files.proofs.readers.read_file.Goals as goal
 pub returns : goal.returns
 returns g c =
     reads_seen bad_view g.R.FileReader.plain c.told.result (λ seen. told_at c.args.path.now (seen_file (g.R.FileReader.reads c.args.reader.now) seen)) c.args.path.now (seen_view c.unwrap.result.now) _ _ c.in_ok-look.ensures.once
-    (sym c.get.ensures ∙ ap (λ o. option_map seen_view (option_copied o)) c.unwrap.ensures) c.told.ensures.calm (c.told.ensures.told _ c.read_found.ensures)
+    (sym c.get.ensures ∙ ap (λ o. option_map seen_view (option_copied o)) c.unwrap.ensures) c.told.ensures.tree_ok (c.told.ensures.told _ c.read_found.ensures)

@@ -4,7 +4,7 @@ use Rattle.std.proofs.lemmas.Result.{err_from_is_err_and}
 use Rattle.serde_json.specs.View.{view, members_view}
 use Rattle.vk_spec.specs.Reading.{read_each}
 use Rattle.vk_spec.proofs.ReadingLemmas.{goes_on_with, ends_with, is_done_with}
-use Rattle.vk_json.specs.DocumentView.{file_fault_of}
+use Rattle.vk_base.specs.Stops.{fault_in}
 use Rattle.vk_json.specs.Readings.{member_at, pairs_of}
 use Rattle.vk_json.proofs.readers.read_members.Goals as goal
 
@@ -14,7 +14,7 @@ returns-in_err-member g c =
     let f = member_at (g.R.MemberReader.reads c.args.reader.now) in
     let total = read_each (λ _. f) 0 (pairs_of (members_view c.args.object.now.entries)) in
     rw (p.1, p.2)
-    (ends_with (file_fault_of c.in_err-member.field-0.0) f (map g.R.MemberReader.plain c.loop-key.read) (c.as_str.result.now, view c.in-Some.value.now) (pairs_of (members_view c.next.new.self)) total c.in_err-member.ensures
+    (ends_with (fault_in c.in_err-member.field-0.0) f (map g.R.MemberReader.plain c.loop-key.read) (c.as_str.result.now, view c.in-Some.value.now) (pairs_of (members_view c.next.new.self)) total c.in_err-member.ensures
     (rw c.as_str.ensures.value (rw c.in-Some.ensures.steps at c.loop-key.invariant)))
 
 pub loop-key-preserved : goal.loop-key-preserved

@@ -1,8 +1,13 @@
-use Rattle.vk_files.proofs.ReadMore.{reads_wanting, once_lacking}
+use Rattle.std.proofs.Common.{refl}
+use Rattle.std.proofs.lemmas.Result.{err_from_is_err_and}
+use Rattle.vk_opening.specs.Views.{overlay_view}
+use Rattle.vk_opening.proofs.OpenLemmas.{reads_err, reads_last}
 use Rattle.vk_opening.proofs.overlays.port_at.Goals as goal
 
-pub returns-in_err-path : goal.returns-in_err-path
-returns-in_err-path g c = reads_wanting c.from_residual.ensures.1
+pub returns-in_err-manifest : goal.returns-in_err-manifest
+returns-in_err-manifest g c =
+    let p = err_from_is_err_and c.from_residual.result c.from_residual.ensures.1 in
+    rw (p.1, p.2) (reads_err overlay_view c.in_err-manifest.ensures)
 
-pub returns-in_err-new : goal.returns-in_err-new
-returns-in_err-new g c = once_lacking c.in_ok-manifest.ensures.once c.from_residual-in_err-new.ensures.1
+pub returns : goal.returns
+returns g c = reads_last overlay_view _ refl c.in_ok-manifest.ensures

@@ -1,14 +1,13 @@
-use Rattle.vk_catalogue.specs.Views.{wrong_view}
-use Rattle.vk_files.proofs.ReadLemmas.{reads_then, reads_pure}
-use Rattle.vk_files.proofs.ReadMore.{reads_wanting}
-use Rattle.vk_model.specs.Views.{manifest_view}
-use Rattle.vk_pages.specs.Homes.{named_home}
+use Rattle.std.proofs.Common.{refl}
+use Rattle.std.proofs.lemmas.Result.{err_from_is_err_and}
 use Rattle.vk_pages.specs.HomeViews.{home_view}
+use Rattle.vk_opening.proofs.OpenLemmas.{reads_err, reads_last}
 use Rattle.vk_pages.proofs.overlays.folder_home.Goals as goal
 
-pub returns-in_err-path : goal.returns-in_err-path
-returns-in_err-path g c = reads_wanting c.from_residual.ensures.1
+pub returns-in_err-own : goal.returns-in_err-own
+returns-in_err-own g c =
+    let p = err_from_is_err_and c.from_residual.result c.from_residual.ensures.1 in
+    rw (p.1, p.2) (reads_err home_view c.in_err-own.ensures)
 
 pub returns : goal.returns
-returns g c = reads_then (λ m f. named_home c.args.port.now c.args.folder m) (rw c.in_ok-path.ensures at c.in_ok-manifest.ensures)
-    (reads_pure wrong_view home_view c.named_home.result (λ f. named_home c.args.port.now c.args.folder (manifest_view c.in_ok-manifest.manifest)) _ c.named_home.ensures.calm (λ f. c.named_home.ensures.told))
+returns g c = reads_last home_view _ refl c.in_ok-own.ensures

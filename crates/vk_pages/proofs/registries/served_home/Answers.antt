@@ -1,35 +1,13 @@
 use Rattle.std.proofs.Common.{refl}
-use Rattle.std.specs.Prelude.{Ok}
 use Rattle.std.proofs.lemmas.Result.{err_from_is_err_and}
-use Rattle.vk_catalogue.specs.Views.{wrong_view, given_view}
-use Rattle.vk_files.proofs.NotingLemmas.{noting_none, noting_pure, noting_then, noting_stopped}
-use Rattle.vk_pages.specs.BaselineNotes.{AreBaselines}
-use Rattle.vk_pages.specs.Homes.{in_registry, home_with, served_home}
-use Rattle.vk_pages.specs.HomeViews.{home_view, served_view}
-use Rattle.vk_pages.specs.NoteViews.{notes_of}
+use Rattle.vk_pages.specs.HomeViews.{home_view}
+use Rattle.vk_pages.proofs.LastLemmas.{noting_err, noting_last}
 use Rattle.vk_pages.proofs.registries.served_home.Goals as goal
 
-pub returns-in_err-given : goal.returns-in_err-given
-unfolding served_home
-returns-in_err-given g c = λ start is.
-    let s = served_view c.args.served in
+pub returns-in_err-found : goal.returns-in_err-found
+returns-in_err-found g c = λ start is.
     let p = err_from_is_err_and c.from_residual.result c.from_residual.ensures.1 in
-    rw (p.1, p.2) (noting_stopped home_view (λ given f. home_with given s c.args.port.now f) (c.in_err-given.ensures start is))
-
-pub returns-in_err-table : goal.returns-in_err-table
-unfolding served_home
-returns-in_err-table g c = λ start is.
-    let s = served_view c.args.served in
-    let known = AreBaselines start (notes_of c.given_by.new.baselines) in
-    let p = err_from_is_err_and c.from_residual-in_err-table.result c.from_residual-in_err-table.ensures.1 in
-    rw (p.1, p.2) (noting_then (λ given f. home_with given s c.args.port.now f) (c.in_ok-given.ensures start is)
-    (noting_stopped home_view (λ rows f. Ok (in_registry (given_view c.in_ok-given.given) s.folder rows)) (noting_none known c.in_err-table.ensures)))
+    rw (p.1, p.2) (noting_err home_view (c.in_err-found.ensures start is))
 
 pub returns : goal.returns
-unfolding served_home
-returns g c = λ start is.
-    let s = served_view c.args.served in
-    let known = AreBaselines start (notes_of c.given_by.new.baselines) in
-    noting_then (λ given f. home_with given s c.args.port.now f) (c.in_ok-given.ensures start is)
-    (noting_then (λ rows f. Ok (in_registry (given_view c.in_ok-given.given) s.folder rows)) (noting_none known c.in_ok-table.ensures)
-    (noting_pure wrong_view home_view _ (λ f. Ok (in_registry (given_view c.in_ok-given.given) s.folder c.in_ok-table.table)) known known _ refl (λ f old right. (right, refl))))
+returns g c = λ start is. noting_last home_view _ refl (c.in_ok-found.ensures start is)

@@ -1,4 +1,4 @@
-use Rattle.vk_version.proofs.SuffixLemmas.{semver_numbers, semver_pre}
+use Rattle.vk_version.proofs.TailLemmas.{semver_numbers, semver_pre}
 use Rattle.vk_version.proofs.laws.semantic_parts.Goals as goal
 
 pub returns : goal.returns

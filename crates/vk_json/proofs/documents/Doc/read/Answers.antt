@@ -9,4 +9,4 @@ returns-in-Ok c = rw (← c.without_mark.ensures, value_is _ _ c.in-Ok.ensures.o
 
 pub returns-else-is_memory : goal.returns-else-is_memory
 unfolding json_of
-returns-else-is_memory c = rw (← c.without_mark.ensures, value_none _ (c.in-Err.ensures.err (λ m. let clash : true ≡ false = sym (c.is_memory.ensures.1 m) ∙ c.if-is_memory.false in (cc))), c.new.ensures) refl
+returns-else-is_memory c = rw (c.wrong.ensures, ← c.without_mark.ensures, value_none _ (c.in-Err.ensures.err (λ m. let clash : true ≡ false = sym (c.is_memory.ensures.1 m) ∙ c.if-is_memory.false in (cc)))) refl
