@@ -1,8 +1,8 @@
 //! Configurations, from their file or from a root manifest, and which registry serves a port.
 
 use crate::names::port_of;
-use crate::shows::{Show, refused, tell, tell_place, tell_reads};
-use vk_base::{List, PortName, Unread};
+use crate::shows::{Show, refused, tell, tell_or_none, tell_reads};
+use vk_base::{List, PortName};
 use vk_config::{Config, Embedded, embedded, read_config, registry_of};
 use vk_row_text::{Reply, cut};
 
@@ -26,28 +26,28 @@ fn tell_sizes(config: &Config, reply: &mut Reply) {
 }
 
 fn sizes(bytes: &List<u8>, reply: &mut Reply) {
-    match read_config(reply.alloc(), bytes.as_slice()).map_err(Unread::Fault) {
+    match read_config(reply.alloc(), bytes.as_slice()) {
         Ok(config) => tell_sizes(&config, reply),
         Err(stop) => refused(stop, reply),
     }
 }
 
 fn serves(port: &PortName, bytes: &List<u8>, reply: &mut Reply) {
-    match read_config(reply.alloc(), bytes.as_slice()).map_err(Unread::Fault) {
-        Ok(config) => tell_place(registry_of(&config, port), reply),
+    match read_config(reply.alloc(), bytes.as_slice()) {
+        Ok(config) => tell_or_none(registry_of(&config, port).map(|n| n as u64), reply),
         Err(stop) => refused(stop, reply),
     }
 }
 
 fn tell_embedded(found: &Embedded, port: &PortName, reply: &mut Reply) {
     match found {
-        Embedded::One(config) => tell_place(registry_of(config, port), reply),
+        Embedded::One(config) => tell_or_none(registry_of(config, port).map(|n| n as u64), reply),
         _ => found.show(reply),
     }
 }
 
 fn embedded_serves(port: &PortName, bytes: &List<u8>, reply: &mut Reply) {
-    match embedded(reply.alloc(), bytes.as_slice()).map_err(Unread::Fault) {
+    match embedded(reply.alloc(), bytes.as_slice()) {
         Ok(found) => tell_embedded(&found, port, reply),
         Err(stop) => refused(stop, reply),
     }
@@ -56,9 +56,9 @@ fn embedded_serves(port: &PortName, bytes: &List<u8>, reply: &mut Reply) {
 fn of_file(question: &str, bytes: &List<u8>, reply: &mut Reply) {
     let alloc = reply.alloc();
     match question {
-        "read" => tell_reads(read_config(alloc, bytes.as_slice()).map_err(Unread::Fault), reply),
+        "read" => tell_reads(read_config(alloc, bytes.as_slice()), reply),
         "sizes" => sizes(bytes, reply),
-        "embedded" => tell(embedded(alloc, bytes.as_slice()).map_err(Unread::Fault), reply),
+        "embedded" => tell(embedded(alloc, bytes.as_slice()), reply),
         _ => reply.refuse(),
     }
 }

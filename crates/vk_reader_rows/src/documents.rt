@@ -2,20 +2,19 @@
 
 use crate::shows::{tell_reads, tell_value};
 use serde_json::Value;
-use vk_base::Unread;
 use vk_json::{Doc, Why, as_bool, as_number, as_text, items, keys, member};
 use vk_row_text::{Reply, cut};
 
 fn reads(rest: &str, reply: &mut Reply) {
     if let Some(bytes) = reply.bytes(rest) {
-        tell_reads(Doc::read(reply.alloc(), bytes.as_slice()).map_err(Unread::Fault), reply);
+        tell_reads(Doc::read(reply.alloc(), bytes.as_slice()), reply);
     }
 }
 
 /// The document of a row that has to have it.
 pub fn document_of(rest: &str, reply: &mut Reply) -> Option<Doc> {
     let bytes = reply.bytes(rest)?;
-    let read = Doc::read(reply.alloc(), bytes.as_slice()).map_err(Unread::Fault);
+    let read = Doc::read(reply.alloc(), bytes.as_slice());
     reply.needed(read)
 }
 

@@ -15,7 +15,7 @@ fn reading(rest: &str, reply: &mut Reply) -> Option<Result<Expr, Unread<ExprFaul
         reply.refuse();
         return None;
     }
-    Some(read(reply.alloc(), text.as_str()).map_err(Unread::Fault))
+    Some(read(reply.alloc(), text.as_str()))
 }
 
 fn marks_of(alloc: Global, word: &str) -> Result<Marks, Unread<NoRow>> {

@@ -5,7 +5,6 @@ use crate::documents::document_of;
 use crate::rows::meaning;
 use crate::shows::{Show, tell};
 use serde_json::Value;
-use vk_base::Unread;
 use vk_fields::{AskText, ExpressionText, FeatureNameText, PathText, PlainText, PortNameText};
 use vk_fields::{ask_under, key, port_version, scheme, version, version_needed};
 use vk_json::{Reader, wanted};
@@ -49,7 +48,7 @@ fn under<R: Reader>(value: &Value, reader: &R, reply: &mut Reply)
 where
     R::Out: Show + Drop,
 {
-    tell(wanted(reply.alloc(), value, "x", reader).map_err(Unread::Fault), reply);
+    tell(wanted(reply.alloc(), value, "x", reader), reply);
 }
 
 fn ask(question: Question, value: &Value, reply: &mut Reply) {
@@ -61,18 +60,18 @@ fn ask(question: Question, value: &Value, reply: &mut Reply) {
         Question::Expression => under(value, &ExpressionText, reply),
         Question::Ask => under(value, &AskText, reply),
         Question::Text => under(value, &PlainText, reply),
-        Question::Scheme => tell(scheme(alloc, value).map_err(Unread::Fault), reply),
-        Question::PortVersion => tell(port_version(alloc, value).map_err(Unread::Fault), reply),
-        Question::Version => tell(version(alloc, value).map_err(Unread::Fault), reply),
+        Question::Scheme => tell(scheme(alloc, value), reply),
+        Question::PortVersion => tell(port_version(alloc, value), reply),
+        Question::Version => tell(version(alloc, value), reply),
         Question::VersionNeeded => {
-            tell(version_needed(alloc, value).map_err(Unread::Fault), reply)
+            tell(version_needed(alloc, value), reply)
         }
     }
 }
 
 fn ask_at(key: &str, rest: &str, reply: &mut Reply) {
     if let Some(document) = document_of(rest, reply) {
-        tell(ask_under(reply.alloc(), document.value(), key).map_err(Unread::Fault), reply);
+        tell(ask_under(reply.alloc(), document.value(), key), reply);
     }
 }
 

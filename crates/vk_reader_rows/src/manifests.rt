@@ -2,7 +2,7 @@
 //! `<` and `>`, a list between `{` and `}`.
 
 use crate::shows::{Show, tell};
-use vk_base::{List, Unread};
+use vk_base::List;
 use vk_expr::Expr;
 use vk_manifest::read_manifest;
 use vk_model::{Dependency, Feature, FeatureUse, Manifest, Override};
@@ -93,7 +93,7 @@ fn tell_manifest(bytes: &List<u8>, is_root: bool, reply: &mut Reply) {
         return reply.refuse();
     }
     let read = read_manifest(reply.alloc(), bytes.as_slice(), is_root);
-    tell(read.map_err(Unread::Fault), reply);
+    tell(read, reply);
 }
 
 /// - `root FILE`, `port FILE`: the manifest of a root or of a port, or the fault.

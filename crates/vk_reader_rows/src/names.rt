@@ -2,7 +2,7 @@
 
 use crate::rows::meaning;
 use crate::shows::{tell, tell_order};
-use vk_base::{FeatureName, Instance, PortName, TripletName, Unread};
+use vk_base::{FeatureName, Instance, PortName, TripletName};
 use vk_row_text::{Reply, cut};
 
 #[derive(Clone, Copy)]
@@ -26,12 +26,12 @@ const QUESTIONS: [(&str, Question); 6] = [
 
 /// The port of a row that has to have it.
 pub fn port_of(word: &str, reply: &mut Reply) -> Option<PortName> {
-    let read = PortName::read(reply.alloc(), word).map_err(Unread::Fault);
+    let read = PortName::read(reply.alloc(), word);
     reply.needed(read)
 }
 
 fn triplet_of(word: &str, reply: &mut Reply) -> Option<TripletName> {
-    let read = TripletName::read(reply.alloc(), word).map_err(Unread::Fault);
+    let read = TripletName::read(reply.alloc(), word);
     reply.needed(read)
 }
 
@@ -42,7 +42,7 @@ fn feature_of(word: &str, reply: &mut Reply) -> Option<FeatureName> {
     if word == "default" {
         return Some(FeatureName::Default);
     }
-    let read = FeatureName::read(reply.alloc(), word).map_err(Unread::Fault);
+    let read = FeatureName::read(reply.alloc(), word);
     reply.needed(read)
 }
 
@@ -57,9 +57,9 @@ fn instance_of(word: &str, reply: &mut Reply) -> Option<Instance> {
 fn read(question: Question, text: &str, reply: &mut Reply) {
     let alloc = reply.alloc();
     match question {
-        Question::Triplet => tell(TripletName::read(alloc, text).map_err(Unread::Fault), reply),
-        Question::Feature => tell(FeatureName::read(alloc, text).map_err(Unread::Fault), reply),
-        _ => tell(PortName::read(alloc, text).map_err(Unread::Fault), reply),
+        Question::Triplet => tell(TripletName::read(alloc, text), reply),
+        Question::Feature => tell(FeatureName::read(alloc, text), reply),
+        _ => tell(PortName::read(alloc, text), reply),
     }
 }
 

@@ -3,7 +3,7 @@
 use crate::rows::meaning;
 use crate::shows::{tell, tell_order};
 use std::alloc::Global;
-use vk_base::{Memory, Text, TreePath, Unread};
+use vk_base::{Memory, Text, TreePath};
 use vk_row_text::{Reply, cut};
 
 #[derive(Clone, Copy)]
@@ -31,7 +31,7 @@ const QUESTIONS: [(&str, Question); 7] = [
 const MANY_STEPS: u32 = 1_000_000;
 
 fn read(text: &str, reply: &mut Reply) {
-    tell(TreePath::read(reply.alloc(), text).map_err(Unread::Fault), reply);
+    tell(TreePath::read(reply.alloc(), text), reply);
 }
 
 fn letters(alloc: Global, count: u32) -> Result<Text, Memory> {

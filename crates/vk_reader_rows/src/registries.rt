@@ -1,7 +1,7 @@
 //! The files of registries: baselines, and the versions of a port, which are a table.
 
 use crate::names::port_of;
-use crate::shows::{Show, refused, tell, tell_place};
+use crate::shows::{Show, refused, tell, tell_or_none};
 use vk_base::{List, PortName, Unread};
 use vk_json::FileFault;
 use vk_registry::{Baseline, Table, baseline_of, find, read_baseline, read_table};
@@ -40,7 +40,7 @@ fn baseline_in(
     let name = reply.text(name)?;
     let bytes = reply.bytes(rest)?;
     let alloc = reply.alloc();
-    Some(read_baseline(alloc, bytes.as_slice(), name.as_str()).map_err(Unread::Fault))
+    Some(read_baseline(alloc, bytes.as_slice(), name.as_str()))
 }
 
 fn tell_entry(baseline: &Baseline, port: &PortName, reply: &mut Reply) {
@@ -65,8 +65,8 @@ fn ask_of(text: &str, number: &str, reply: &mut Reply) -> Option<Ask> {
 }
 
 fn found(ask: &Ask, bytes: &List<u8>, reply: &mut Reply) {
-    match read_table(reply.alloc(), bytes.as_slice()).map_err(Unread::Fault) {
-        Ok(table) => tell_place(find(&table, ask), reply),
+    match read_table(reply.alloc(), bytes.as_slice()) {
+        Ok(table) => tell_or_none(find(&table, ask).map(|n| n as u64), reply),
         Err(stop) => refused(stop, reply),
     }
 }
@@ -107,7 +107,7 @@ pub fn table(question: &str, rest: &str, reply: &mut Reply) {
     match question {
         "read" => {
             if let Some(bytes) = reply.bytes(rest) {
-                tell(read_table(reply.alloc(), bytes.as_slice()).map_err(Unread::Fault), reply);
+                tell(read_table(reply.alloc(), bytes.as_slice()), reply);
             }
         }
         "find" => find_in(rest, reply),

@@ -1,8 +1,8 @@
 //! The rows. The first word says what is read, the second what is asked of it; then come words, the
 //! last of which may hold blanks.
 
-use crate::{configurations, documents, expressions, fields, manifests, names, paths};
-use crate::{registries, tokens, triplets, versions};
+use crate::{configurations, decimals, documents, expressions, fields, manifests, names};
+use crate::{paths, registries, tokens, triplets, versions};
 use vk_row_text::{Answering, Reply, cut};
 
 /// Answers rows about what is read of one text.
@@ -16,6 +16,7 @@ enum Subject {
     Name,
     Path,
     Token,
+    Decimal,
     Version,
     Expression,
     Triplet,
@@ -27,11 +28,12 @@ enum Subject {
     Table,
 }
 
-const SUBJECTS: [(&str, Subject); 13] = [
+const SUBJECTS: [(&str, Subject); 14] = [
     ("group", Subject::Group),
     ("name", Subject::Name),
     ("path", Subject::Path),
     ("token", Subject::Token),
+    ("decimal", Subject::Decimal),
     ("version", Subject::Version),
     ("expression", Subject::Expression),
     ("triplet", Subject::Triplet),
@@ -60,6 +62,7 @@ fn answer(subject: Subject, row: &str, reply: &mut Reply) {
         Subject::Name => names::answer(question, rest, reply),
         Subject::Path => paths::answer(question, rest, reply),
         Subject::Token => tokens::answer(question, rest, reply),
+        Subject::Decimal => decimals::answer(question, rest, reply),
         Subject::Version => versions::answer(question, rest, reply),
         Subject::Expression => expressions::answer(question, rest, reply),
         Subject::Triplet => triplets::answer(question, rest, reply),

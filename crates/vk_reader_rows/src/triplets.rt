@@ -1,16 +1,16 @@
 //! Triplet files: the variables that they set, and the marks of their triplets.
 
-use crate::shows::{Show, tell, tell_value};
+use crate::shows::{Show, show_each, tell, tell_value};
 use vk_base::{List, TripletName, Unread};
 use vk_row_text::Reply;
-use vk_triplet::{Setting1, Triplet, TripletFault, marks, read};
+use vk_triplet::{Triplet, TripletFault, Variable, read};
 
 // As many bytes as a row's file may have.
 const MOST_BYTES: usize = 1_000_000;
 
 const NAME: &str = "x64-linux";
 
-impl Show for Setting1 {
+impl Show for Variable {
     fn show(&self, reply: &mut Reply) {
         reply.push_token(self.name.as_bytes());
         reply.push("=");
@@ -20,7 +20,7 @@ impl Show for Setting1 {
 
 impl Show for Triplet {
     fn show(&self, reply: &mut Reply) {
-        self.vars.show(reply);
+        show_each(self.variables(), reply);
     }
 }
 
@@ -29,9 +29,9 @@ fn reading(bytes: &List<u8>, reply: &mut Reply) -> Option<Result<Triplet, Unread
         reply.refuse();
         return None;
     }
-    let name = TripletName::read(reply.alloc(), NAME).map_err(Unread::Fault);
+    let name = TripletName::read(reply.alloc(), NAME);
     let name = reply.needed(name)?;
-    Some(read(reply.alloc(), &name, bytes.as_slice()).map_err(Unread::Fault))
+    Some(read(reply.alloc(), &name, bytes.as_slice()))
 }
 
 fn triplet_of(bytes: &List<u8>, reply: &mut Reply) -> Option<Triplet> {
@@ -41,16 +41,13 @@ fn triplet_of(bytes: &List<u8>, reply: &mut Reply) -> Option<Triplet> {
 
 fn tell_marks(bytes: &List<u8>, native: bool, reply: &mut Reply) {
     if let Some(triplet) = triplet_of(bytes, reply) {
-        match marks(reply.alloc(), &triplet, native) {
-            Ok(marks) => tell_value(&marks.names, reply),
-            Err(memory) => reply.lack(memory),
-        }
+        tell_value(&triplet.marks(native).names, reply);
     }
 }
 
 // What a triplet keeps of its file.
 fn kept(triplet: &Triplet, bytes: &List<u8>) -> &'static str {
-    match (triplet.name.as_str() == NAME, triplet.bytes == *bytes) {
+    match (triplet.name().as_str() == NAME, triplet.bytes() == bytes.as_slice()) {
         (true, true) => "its name and its bytes",
         (true, false) => "its name",
         (false, true) => "its bytes",

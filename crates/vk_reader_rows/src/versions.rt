@@ -20,7 +20,7 @@ type Reading = Result<Version, Unread<VersionFault>>;
 fn reading_by(scheme: Scheme, text: &str, port: &str, reply: &mut Reply) -> Option<Reading> {
     let port = reply.number(port)?;
     let text = reply.text(text)?;
-    Some(read(reply.alloc(), scheme, text.as_str(), port).map_err(Unread::Fault))
+    Some(read(reply.alloc(), scheme, text.as_str(), port))
 }
 
 fn reading(scheme: &str, text: &str, port: &str, reply: &mut Reply) -> Option<Reading> {
@@ -69,7 +69,7 @@ fn shows(rest: &str, reply: &mut Reply) {
 
 fn ask(rest: &str, reply: &mut Reply) {
     if let Some(text) = reply.texts(rest) {
-        tell(read_ask(reply.alloc(), text.as_str()).map_err(Unread::Fault), reply);
+        tell(read_ask(reply.alloc(), text.as_str()), reply);
     }
 }
 

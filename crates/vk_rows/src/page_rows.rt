@@ -6,10 +6,10 @@ use crate::workspaces::{done, numbers_of};
 use std::alloc::{AllocError, Global};
 use std::rc::Rc;
 use vk_base::{List, Memory, PortName, Text, TreePath, Unread};
-use vk_catalogue::{Catalogue, Given, MemCatalogue, Page, PageRow, Wrong};
+use vk_catalogue::{Catalogue, MemCatalogue, Page, PageRow};
 use vk_expr::Expr;
 use vk_json::Why;
-use vk_model::Manifest;
+use vk_model::{Given, Manifest, Wrong};
 use vk_row_text::{NoRow, Reply, cut};
 use vk_version::{Scheme, Version};
 

@@ -10,26 +10,26 @@ use vk_version::{Ask, Scheme, Version, read, read_ask};
 const MOST: u32 = 1000;
 
 fn triplet_of(word: &str, reply: &mut Reply) -> Option<TripletName> {
-    let read = TripletName::read(reply.alloc(), word).map_err(Unread::Fault);
+    let read = TripletName::read(reply.alloc(), word);
     reply.needed(read)
 }
 
 /// The port that a word names.
 pub fn port_of(word: &str, reply: &mut Reply) -> Option<PortName> {
-    let read = PortName::read(reply.alloc(), word).map_err(Unread::Fault);
+    let read = PortName::read(reply.alloc(), word);
     reply.needed(read)
 }
 
 /// The ask of a word, a token with a port-version or without one.
 pub fn ask_of(word: &str, reply: &mut Reply) -> Option<Ask> {
     let text = reply.text(word)?;
-    let read = read_ask(reply.alloc(), text.as_str()).map_err(Unread::Fault);
+    let read = read_ask(reply.alloc(), text.as_str());
     reply.needed(read)
 }
 
 /// The version of an ask by a scheme.
 pub fn version_by(scheme: Scheme, ask: &Ask, reply: &mut Reply) -> Option<Version> {
-    let read = read(reply.alloc(), scheme, ask.text.as_str(), ask.port).map_err(Unread::Fault);
+    let read = read(reply.alloc(), scheme, ask.text.as_str(), ask.port);
     reply.needed(read)
 }
 

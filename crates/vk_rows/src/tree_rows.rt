@@ -1,23 +1,24 @@
 //! What a tree in memory answers.
 
 use crate::lines::tell_paths;
-use vk_base::TreePath;
+use vk_base::{Stop, TreePath};
 use vk_row_text::{Reply, cut};
 use vk_tree::{MemTree, ReadFault, Tree};
 
-fn fault_word(fault: ReadFault) -> &'static str {
-    match fault {
-        ReadFault::Missing => "missing",
-        ReadFault::TooLarge => "too large",
-        ReadFault::Failed => "failed",
-        ReadFault::Memory => "no memory",
+// Tells why a file wasn't read.
+fn stopped(stop: Stop<ReadFault>, reply: &mut Reply) {
+    match stop {
+        Stop::Fault(ReadFault::Missing) => reply.push("missing"),
+        Stop::Fault(ReadFault::TooLarge) => reply.push("too large"),
+        Stop::Failed => reply.push("failed"),
+        Stop::Memory(memory) => reply.lack(memory),
     }
 }
 
 fn tell_read(tree: &mut MemTree, path: &TreePath, limit: u64, reply: &mut Reply) {
     match tree.read(path, limit) {
         Ok(bytes) => reply.push_token(bytes.as_slice()),
-        Err(fault) => reply.push(fault_word(fault)),
+        Err(stop) => stopped(stop, reply),
     }
 }
 
