@@ -2,5 +2,6 @@ pub mod NameLemmas
 pub mod FeatureLemmas
 pub mod PathLemmas
 pub mod PathLaws
+pub mod PathTextLemmas
 pub mod TokenLemmas
 pub mod DecimalLemmas

@@ -211,10 +211,10 @@ start_up (suc n) = refl
 text_parts : (first : List ℕ) (part : List ℕ) (rest : Path) → text_of_path (first ∷ (part ∷ rest)) ≡ front_of (first ∷ (part ∷ rest)) ++ join_with_byte 47 (part ∷ rest)
 text_parts first part rest = let some : (length (part ∷ rest) == 0) ≡ false = grind (arith, nat_tests) in rw some refl
 
-text_down : (ups : ℕ) (part : List ℕ) (rest : Path) → text_of_path (anchor false ups ∷ (part ∷ rest)) ≡ steps_of ups ++ join_with_byte 47 (part ∷ rest)
+pub text_down : (ups : ℕ) (part : List ℕ) (rest : Path) → text_of_path (anchor false ups ∷ (part ∷ rest)) ≡ steps_of ups ++ join_with_byte 47 (part ∷ rest)
 text_down ups part rest = text_parts (anchor false ups) part rest ∙ ap (λ front. front ++ join_with_byte 47 (part ∷ rest)) (sym (front-unrooted ups))
 
-text_root : (ups : ℕ) (part : List ℕ) (rest : Path) → text_of_path (anchor true ups ∷ (part ∷ rest)) ≡ 47 ∷ join_with_byte 47 (part ∷ rest)
+pub text_root : (ups : ℕ) (part : List ℕ) (rest : Path) → text_of_path (anchor true ups ∷ (part ∷ rest)) ≡ 47 ∷ join_with_byte 47 (part ∷ rest)
 text_root ups part rest = text_parts (anchor true ups) part rest
 
 walked_back : (rooted : Bool) (ups : ℕ) (parts : Path) → IsPathOf rooted ups parts

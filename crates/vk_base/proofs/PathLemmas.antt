@@ -1,7 +1,7 @@
 -- Keys of paths and what their anchors say.
 use Rattle.std.proofs.Common.{◌≡◌, ◌≢◌, ◌+◌, ◌-◌, ◌/◌, ◌*◌, ◌==◌, ◌<◌, ◌≤◌, ◌++◌, ◌&&◌, not, ℕ, zero, suc, Bool, true, false, List, [], ◌∷◌, length, take, get_or, refl, ap, sym, ◌∙◌, arith}
 use Rattle.std.specs.Prelude.{slice_index}
-use Rattle.std.specs.List.{All, flat_map, join_with_byte}
+use Rattle.std.specs.List.{All, join_with_byte}
 use Rattle.std.proofs.lemmas.List.{append-nil, take_all}
 use Rattle.std.proofs.lemmas.Bool.Decides.{nat_tests}
 use Rattle.std.proofs.lemmas.List.Elements.{All-from_get_or, All-weaker, All-nil, All-cons, All-tail}
@@ -10,6 +10,7 @@ use Rattle.std.specs.Str.{bytes_eq}
 use Rattle.std.proofs.lemmas.List.Splits.{slice_split_none, slice_split_at}
 use Rattle.vk_spec.specs.Paths.{Path, steps_up, anchor, Begins}
 use Rattle.vk_base.specs.Paths.{Lacks, IsPart, IsPathOf, IsPath, lacks, is_part, anchor_of, is_rooted, ups_of, parts_of, climbed, joined, steps_of, front_of}
+use Rattle.vk_base.specs.PathTexts.{later}
 use Rattle.vk_base.specs.PathReading.{with_segment, segments, walked}
 
 rooted_anchor : (rooted : Bool) (ups : ℕ) → (slice_index (anchor rooted ups) 0 == 47) ≡ rooted
@@ -114,10 +115,6 @@ steps_end (suc n) = ap (λ l. 46 ∷ 46 ∷ 47 ∷ l) (steps_end n)
 pub steps_anchor : (ups : ℕ) → 0 < ups → steps_of (ups - 1) ++ 46 ∷ 46 ∷ [] ≡ anchor false ups
 steps_anchor zero some = absurd (omega (arith, some))
 steps_anchor (suc n) some = let before : suc n - 1 ≡ n = omega arith in rw before (steps_end n)
-
--- `/` and a part, for each
-abbrev pub later : Path → List ℕ
-later parts = flat_map (λ part. 47 ∷ part) parts
 
 pub joined_first : (first : List ℕ) (rest : Path) → join_with_byte 47 (first ∷ rest) ≡ first ++ later rest
 joined_first first [] = sym (append-nil first)

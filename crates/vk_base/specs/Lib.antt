@@ -3,6 +3,7 @@ pub mod Names
 pub mod FeatureViews
 pub mod Paths
 pub mod PathReading
+pub mod PathTexts
 pub mod PathHash
 pub mod Tokens
 pub mod Decimals

@@ -1,5 +1,7 @@
 -- The rules of names, and the first place at which a text breaks one.
-use Rattle.std.specs.Prelude.{◌≡◌, ◌≢◌, ◌-◌, ◌≤◌, ◌<◌, ◌||◌, ◌&&◌, ◌==◌, ℕ, Bool, true, false, not, nat_lt, nat_le, List, length, take, slice_index, Option, Some, None, Result, Ok, Err, bytes_eq, if◌then◌else◌}
+use Rattle.std.specs.Prelude.{◌≡◌, ◌≢◌, ◌-◌, ◌≤◌, ◌<◌, ◌||◌, ◌&&◌, ◌==◌, ℕ, Bool, true, false, not}
+use Rattle.std.specs.Prelude.{nat_lt, nat_le, List, length, take, slice_index, Option, Some, None}
+use Rattle.std.specs.Prelude.{Result, Ok, Err, bytes_eq, if◌then◌else◌}
 use Rattle.std.specs.List.{position, All}
 use Rattle.vk_spec.specs.Manifests.{core, default}
 use Rattle.vk_base.specs.declared.names.Rule.{Rule}

@@ -1,8 +1,11 @@
 -- What a path is, as plain data, and what can be done with one.
-use Rattle.std.specs.Prelude.{◌≡◌, ◌≢◌, ◌<◌, ◌+◌, ◌-◌, ◌/◌, ◌^◌, ◌==◌, ◌&&◌, ◌++◌, ℕ, zero, suc, Bool, true, not, List, [], ◌∷◌, length, take, slice_index, if◌then◌else◌}
+use Rattle.std.specs.Prelude.{◌≡◌, ◌≢◌, ◌<◌, ◌+◌, ◌-◌, ◌/◌, ◌^◌, ◌==◌, ◌&&◌, ◌++◌, ℕ, zero, suc}
+use Rattle.std.specs.Prelude.{Bool, true, not, List, [], ◌∷◌, length, take, slice_index}
+use Rattle.std.specs.Prelude.{if◌then◌else◌}
+use Rattle.std.specs.Prelude.{Option, Some, None}
 use Rattle.std.specs.List.{All, join_with_byte}
 use Rattle.std.specs.Str.{bytes_eq}
-use Rattle.vk_spec.specs.Paths.{Path, anchor}
+use Rattle.vk_spec.specs.Paths.{Path, anchor, Begins}
 
 -- the byte is nowhere in the text
 abbrev pub Lacks : ℕ → List ℕ → Type 0
@@ -61,6 +64,11 @@ climbed key n = anchor (is_rooted key) (ups_of key + (n - length (parts_of key))
 -- the one path, and from there the other
 abbrev pub joined : Path → Path → Path
 joined key more = if is_rooted more then more else climbed key (ups_of more) ++ parts_of more
+
+-- a path as it is seen from a folder, which has no such path where it doesn't begin the path
+abbrev pub IsFrom : Path → Path → Option Path → Type 0
+IsFrom folder path None = Begins folder path → ⊥
+IsFrom folder path (Some seen) = (rest : Path) × (path ≡ folder ++ rest) × (seen ≡ (46 ∷ []) ∷ rest)
 
 -- so many times `../`
 abbrev pub steps_of : ℕ → List ℕ

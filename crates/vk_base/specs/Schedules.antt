@@ -1,5 +1,6 @@
 -- Which calls of a fake are to go wrong, by their numbers counted from 1.
-use Rattle.std.specs.Prelude.{◌==◌, ◌&&◌, ◌-◌, ◌^◌, ℕ, Bool, true, false, List, length, if◌then◌else◌, nat_le, nat_lt}
+use Rattle.std.specs.Prelude.{◌==◌, ◌&&◌, ◌-◌, ◌^◌, ℕ, Bool, true, false, List, length}
+use Rattle.std.specs.Prelude.{if◌then◌else◌, nat_le, nat_lt}
 use Rattle.std.specs.List.{list_any}
 use Rattle.vk_spec.specs.Counts.{counted_up}
 use Rattle.vk_base.specs.declared.schedules.Schedule.{Schedule}

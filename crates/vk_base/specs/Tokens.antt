@@ -1,5 +1,6 @@
 -- A token: a text whose blanks, controls, `%` and bytes beyond ASCII are escaped.
-use Rattle.std.specs.Prelude.{◌≡◌, ◌<◌, ◌||◌, ◌==◌, ◌/◌, ◌%◌, ℕ, Bool, true, nat_le, List, [], ◌∷◌, Option, Some, None, if◌then◌else◌}
+use Rattle.std.specs.Prelude.{◌≡◌, ◌<◌, ◌||◌, ◌==◌, ◌/◌, ◌%◌, ℕ, Bool, true, nat_le, List, [], ◌∷◌}
+use Rattle.std.specs.Prelude.{Option, Some, None, if◌then◌else◌}
 use Rattle.std.specs.List.{flat_map, All}
 use Rattle.std.specs.Fmt.{digit_glyph}
 

@@ -1,4 +1,5 @@
-ghost use Rattle.std.specs.Prelude.{◌≡◌, ◌==◌, ◌↔◌, ◌⊎◌, List, ℕ, Ok, Err, Some, IfOk, string_bytes};
+ghost use Rattle.std.specs.Prelude.{◌≡◌, ◌==◌, ◌↔◌, ◌⊎◌, List, ℕ, Ok, Err, Some, IfOk};
+ghost use Rattle.std.specs.Prelude.{string_bytes};
 ghost use Rattle.std.proofs.Common.{rules};
 ghost use Rattle.std.specs.Cmp.{partial_order_from_own_ties};
 ghost use Rattle.std.specs.Cmp.Rules.{comparing, hashing};
@@ -8,7 +9,8 @@ ghost use Rattle.std.specs.Ordering.{nat_cmp, on, as_partial_cmp};
 ghost use Rattle.vk_spec.specs.Reading.{Gives};
 ghost use Rattle.vk_spec.specs.Manifests.{core, default};
 ghost use Rattle.vk_base.specs.declared.names.NameFault.TheVariants as fault;
-ghost use Rattle.vk_base.specs.Names.{BreaksFirst, IsFeatureName, is_reserved, reads_feature, word_rule};
+ghost use Rattle.vk_base.specs.Names.{BreaksFirst, IsFeatureName, is_reserved, reads_feature};
+ghost use Rattle.vk_base.specs.Names.{word_rule};
 ghost use Rattle.vk_base.specs.Stops.{fault_in};
 ghost use Rattle.vk_base.specs.FeatureViews.{feature_view, IsNamed};
 
@@ -168,7 +170,9 @@ impl Ord for FeatureName {
 impl PartialOrd for FeatureName {
     ghost partial_cmp = { as_partial_cmp (on feature_view (slice_cmp nat_cmp)) };
 
-    ghost laws = { partial_order_from_own_ties (Prim.search (comparing, rules)) (Prim.search (comparing, rules)) };
+    ghost laws = { partial_order_from_own_ties
+        (Prim.search (comparing, rules))
+        (Prim.search (comparing, rules)) };
 
     fn partial_cmp(&self, other: &FeatureName) -> Option<Ordering> {
         Some(self.cmp(other))
@@ -191,6 +195,8 @@ pub fn feature_rule()
     ensures holds { (text name : List ℕ) → reads_feature text ≡ Ok name → IsFeatureName text }
     ensures same { (text name : List ℕ) → reads_feature text ≡ Ok name → name ≡ text }
     ensures only { (text : List ℕ) → IsFeatureName text → reads_feature text ≡ Ok text }
-    ensures reserved { (text : List ℕ) → (reads_feature text ≡ Err fault.Reserved) ↔ ((text ≡ core) ⊎ (text ≡ default)) }
-    ensures first { (text : List ℕ) (at : ℕ) → reads_feature text ≡ Err (fault.Bad at) → BreaksFirst word_rule text at }
+    ensures reserved { (text : List ℕ)
+        → (reads_feature text ≡ Err fault.Reserved) ↔ ((text ≡ core) ⊎ (text ≡ default)) }
+    ensures first { (text : List ℕ) (at : ℕ) → reads_feature text ≡ Err (fault.Bad at)
+        → BreaksFirst word_rule text at }
 {}

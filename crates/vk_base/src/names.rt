@@ -141,7 +141,8 @@ impl Model for PortName {
 }
 
 impl PortName {
-    /// Reads a port's name. `Bad` comes exactly where the rule fails, with the first byte that breaks it.
+    /// Reads a port's name. `Bad` comes exactly where the rule fails, with the first byte that
+    /// breaks it.
     pub fn read(alloc: Global, text: &str) -> Result<PortName, Unread<NameFault>>
         ensures { Gives (λ n. n) fault_in result (reads_name port_rule text.now) }
     {
@@ -190,7 +191,8 @@ impl Model for TripletName {
 }
 
 impl TripletName {
-    /// Reads a triplet's name. `Bad` comes exactly where the rule fails, with the first byte that breaks it.
+    /// Reads a triplet's name. `Bad` comes exactly where the rule fails, with the first byte that
+    /// breaks it.
     pub fn read(alloc: Global, text: &str) -> Result<TripletName, Unread<NameFault>>
         ensures { Gives (λ n. n) fault_in result (reads_name word_rule text.now) }
     {
@@ -218,19 +220,72 @@ impl fmt::Display for TripletName {
     }
 }
 
-/// A text is a port's name exactly where it has no fault, and nothing before a fault breaks the rule.
+/// The name of an agent, which installs: at most 200 bytes `a` to `z`, `0` to `9`, `-` and `_`,
+/// with no `-` in front. Contracts see it as its bytes, and its order is theirs.
+#[derive(Clone, PartialEq, Eq, PartialOrd, Ord, Hash, Drop)]
+pub struct AgentName {
+    text: Text,
+}
+
+impl Model for AgentName {
+    ghost use Rattle.std.specs.Prelude.{List, ℕ, None, ◌≡◌};
+    ghost use Rattle.vk_base.specs.Names.{word_rule, name_fault};
+
+    ghost Value = { List ℕ };
+
+    ghost view = { λ n. n.text };
+
+    ghost invariant = { λ n. name_fault word_rule n.text ≡ None };
+
+    ghost inverse = { λ n. record { text = n } };
+}
+
+impl AgentName {
+    /// Reads an agent's name. `Bad` comes exactly where the rule fails, with the first byte that
+    /// breaks it.
+    pub fn read(alloc: Global, text: &str) -> Result<AgentName, Unread<NameFault>>
+        ensures { Gives (λ n. n) fault_in result (reads_name word_rule text.now) }
+    {
+        Ok(AgentName {
+            text: read_name(alloc, WORD, text)?,
+        })
+    }
+
+    /// The name as text, which has no fault.
+    pub fn as_str(&self) -> &str
+        ensures text { result.now ≡ self.now }
+        ensures name { name_fault word_rule self.now ≡ None }
+    {
+        self.text.as_str()
+    }
+}
+
+impl fmt::Display for AgentName {
+    ghost use Rattle.std.specs.Prelude.{Some};
+
+    ghost output = { λ n. Some n };
+
+    fn fmt<W: fmt::Write>(&self, f: &mut fmt::Formatter<W>) -> fmt::Result {
+        f.write_str(self.as_str())
+    }
+}
+
+/// A text is a port's name exactly where it has no fault, and nothing before a fault breaks the
+/// rule.
 pub fn port_rule()
     ensures holds { (text : List ℕ) → name_fault port_rule text ≡ None → IsName port_rule text }
     ensures only { (text : List ℕ) → IsName port_rule text → name_fault port_rule text ≡ None }
-    ensures first { (text : List ℕ) (at : ℕ) → name_fault port_rule text ≡ Some at → BreaksFirst port_rule text at }
+    ensures first { (text : List ℕ) (at : ℕ) → name_fault port_rule text ≡ Some at
+        → BreaksFirst port_rule text at }
 {}
 
-/// A text is a triplet's name exactly where it has no fault, and nothing before a fault breaks the
-/// rule.
+/// A text is the name of a triplet, or of an agent, exactly where it has no fault, and nothing
+/// before a fault breaks the rule.
 pub fn triplet_rule()
     ensures holds { (text : List ℕ) → name_fault word_rule text ≡ None → IsName word_rule text }
     ensures only { (text : List ℕ) → IsName word_rule text → name_fault word_rule text ≡ None }
-    ensures first { (text : List ℕ) (at : ℕ) → name_fault word_rule text ≡ Some at → BreaksFirst word_rule text at }
+    ensures first { (text : List ℕ) (at : ℕ) → name_fault word_rule text ≡ Some at
+        → BreaksFirst word_rule text at }
 {}
 
 /// The order on names is that of their bytes; it is total, and only equal names tie. Instances are
@@ -239,7 +294,9 @@ pub fn name_order()
     ensures ports { ⟦<PortName as Ord>⟧.cmp ≡ slice_cmp nat_cmp }
     ensures triplets { ⟦<TripletName as Ord>⟧.cmp ≡ slice_cmp nat_cmp }
     ensures features { ⟦<FeatureName as Ord>⟧.cmp ≡ on feature_view (slice_cmp nat_cmp) }
-    ensures instances { ⟦<Instance as Ord>⟧.cmp ≡ then_cmp (on (λ i. i.port) (slice_cmp nat_cmp)) (on (λ i. i.triplet) (slice_cmp nat_cmp)) }
+    ensures instances { ⟦<Instance as Ord>⟧.cmp
+        ≡ then_cmp (on (λ i. i.port) (slice_cmp nat_cmp))
+            (on (λ i. i.triplet) (slice_cmp nat_cmp)) }
     ensures total { IsTotalOrder (slice_cmp nat_cmp) }
     ensures ties { IsAntisymmetric (slice_cmp nat_cmp) }
 {}

@@ -1,4 +1,7 @@
-ghost use Rattle.std.specs.Prelude.{◌≡◌, ◌≢◌, ◌↔◌, ◌==◌, ◌<◌, ◌≤◌, ◌+◌, ◌-◌, ◌^◌, ◌++◌, ◌∷◌, [], List, ℕ, Ok, length, slice_index, take, true, IfOk, OnOk, OnErr, IsTrue};
+ghost use Rattle.std.specs.Prelude.{◌≡◌, ◌≢◌, ◌↔◌, ◌==◌, ◌<◌, ◌≤◌, ◌+◌, ◌-◌, ◌^◌, ◌++◌, ◌∷◌, ◌⊎◌};
+ghost use Rattle.std.specs.Prelude.{[]};
+ghost use Rattle.std.specs.Prelude.{List, ℕ, Ok, length, slice_index, take, true};
+ghost use Rattle.std.specs.Prelude.{IfOk, OnOk, OnErr, IsTrue};
 ghost use Rattle.std.proofs.Common.{rules, refl};
 ghost use Rattle.std.proofs.lemmas.Slice.Eq.{slice_eq-Decides, bytes_eq-Decides};
 ghost use Rattle.std.specs.Hash as fed;
@@ -9,9 +12,12 @@ ghost use Rattle.std.specs.List.{position, join_with_byte};
 ghost use Rattle.std.specs.Ordering.{nat_cmp, as_partial_cmp};
 ghost use Rattle.vk_spec.specs.Paths.{Path, anchor, path_cmp, Begins};
 ghost use Rattle.vk_spec.specs.Reading.{Gives};
-ghost use Rattle.vk_base.specs.Paths.{Lacks, IsPart, IsPath, is_part, is_rooted, ups_of, parts_of, climbed, joined, front_of, text_of_path, steps_of};
+ghost use Rattle.vk_base.specs.Paths.{Lacks, IsPart, IsPath, IsFrom, is_part, is_rooted, ups_of};
+ghost use Rattle.vk_base.specs.Paths.{parts_of};
+ghost use Rattle.vk_base.specs.Paths.{climbed, joined, front_of, text_of_path, steps_of};
 ghost use Rattle.vk_base.specs.PathHash.{path_fed};
-ghost use Rattle.vk_base.specs.PathReading.{checked, segments, stays, climbs, with_segment, walked, start_of, path_of};
+ghost use Rattle.vk_base.specs.PathReading.{checked, segments, stays, climbs, with_segment, walked};
+ghost use Rattle.vk_base.specs.PathReading.{start_of, path_of};
 ghost use Rattle.vk_base.specs.Stops.{fault_in};
 
 use crate::lists::List;
@@ -34,9 +40,9 @@ pub enum PathFault {
     Zero { at: u32 },
 }
 
-/// A path of a tree of files, rooted or with so many steps up, and then its parts.
-/// Contracts see it as its key: one anchor part (`/`, `.`, `..`, `../..` and so on), then its parts.
-/// Its order is that of the keys.
+/// A path of a tree of files, rooted or with so many steps up, and then its parts. Contracts see it
+/// as its key: one anchor part (`/`, `.`, `..`, `../..` and so on), then its parts. Its order is
+/// that of the keys.
 #[derive(Drop)]
 pub struct TreePath {
     rooted: bool,
@@ -68,13 +74,6 @@ impl TreePath {
         }
     }
 
-    /// Tells a caller what every path keeps.
-    pub fn known(&self)
-        ensures { IsPath self.now }
-    {
-        let _ = &self.parts;
-    }
-
     /// Reads a path: texts between `/`, of which the empty ones and `.` are dropped; `..` takes
     /// away the part before it, or is one step up, and above `/` it is nothing.
     pub fn read(alloc: Global, text: &str) -> Result<TreePath, Unread<PathFault>>
@@ -102,6 +101,7 @@ impl TreePath {
     pub fn parts(&self) -> &[Text]
         ensures parts { result.now ≡ parts_of self.now }
         ensures key { anchor (is_rooted self.now) (ups_of self.now) ∷ result.now ≡ self.now }
+        ensures path { IsPath self.now }
     {
         self.parts.as_slice()
     }
@@ -113,6 +113,45 @@ impl TreePath {
     {
         same_anchor(self.rooted, self.ups, other.rooted, other.ups)
             && is_front(self.parts.as_slice(), other.parts.as_slice())
+    }
+
+    /// Whether one of the two begins the other. Takes no memory.
+    pub fn overlaps(&self, other: &TreePath) -> bool
+        ensures { IsTrue result ↔ (Begins self.now other.now ⊎ Begins other.now self.now) }
+    {
+        self.begins(other) || other.begins(self)
+    }
+
+    /// The prefix of this path that has so many parts, or the path itself where it hasn't as many.
+    pub fn prefix(&self, alloc: Global, count: usize) -> Result<TreePath, Memory>
+        ensures { IfOk result (λ p. p ≡ take (count + 1) self.now) }
+    {
+        let mut parts = List::new(alloc);
+        let kept = count.min(self.parts.len());
+        push_all(&mut parts, &self.parts.as_slice()[..kept])?;
+        Ok(TreePath {
+            rooted: self.rooted,
+            ups: self.ups,
+            parts,
+        })
+    }
+
+    /// This path as it is seen from a folder: its parts below the folder. `None` exactly where the
+    /// folder doesn't begin it.
+    pub fn relative_to(&self, alloc: Global, folder: &TreePath) -> Result<Option<TreePath>, Memory>
+        ensures { IfOk result (IsFrom folder.now self.now) }
+    {
+        if !folder.begins(self) {
+            return Ok(None);
+        }
+        let rest = after(self.parts.as_slice(), folder.parts.as_slice());
+        let mut parts = List::new(alloc);
+        push_all(&mut parts, rest)?;
+        Ok(Some(TreePath {
+            rooted: false,
+            ups: 0,
+            parts,
+        }))
     }
 
     /// This path and from there the other; a rooted one is itself the answer.
@@ -239,6 +278,14 @@ fn is_front(front: &[Text], parts: &[Text]) -> bool
     ensures { IsTrue result ↔ Begins front.now parts.now }
 {
     parts.starts_with(front)
+}
+
+// What stands after those that these begin with.
+fn after<'a>(parts: &'a [Text], front: &[Text]) -> &'a [Text]
+    requires { Begins front.now parts.now }
+    ensures { parts.now ≡ front.now ++ result.now }
+{
+    &parts[front.len()..]
 }
 
 // So many times `../`.
@@ -426,7 +473,9 @@ impl Ord for TreePath {
 impl PartialOrd for TreePath {
     ghost partial_cmp = { as_partial_cmp path_cmp };
 
-    ghost laws = { partial_order_from_own_ties (Prim.search (comparing, rules)) (lists_ties (slice_cmp nat_cmp) (Prim.search (comparing, rules))) };
+    ghost laws = { partial_order_from_own_ties
+        (Prim.search (comparing, rules))
+        (lists_ties (slice_cmp nat_cmp) (Prim.search (comparing, rules))) };
 
     fn partial_cmp(&self, other: &TreePath) -> Option<Ordering> {
         Some(self.cmp(other))
@@ -436,7 +485,8 @@ impl PartialOrd for TreePath {
 impl Hash for TreePath {
     ghost hash_input = { path_fed };
 
-    ghost respects_eq = { (fed.same_Alike path_fed (λ x y. slice_eq-Decides bytes_eq-Decides x y (pointwise (pointwise ◌==◌) x y) refl)).fed };
+    ghost respects_eq = { (fed.same_Alike path_fed
+        (λ x y. slice_eq-Decides bytes_eq-Decides x y (pointwise (pointwise ◌==◌) x y) refl)).fed };
 
     fn hash<H: Hasher>(&self, state: &mut H) {
         self.is_rooted().hash(state);
@@ -450,7 +500,11 @@ impl Hash for TreePath {
 /// one without steps up only adds its parts.
 pub fn path_rule()
     ensures path { (text : List ℕ) (key : Path) → path_of text ≡ Ok key → IsPath key }
-    ensures again { (key : Path) → IsPath key → length (text_of_path key) ≤ 4096 → path_of (text_of_path key) ≡ Ok key }
-    ensures between { (one other : List ℕ) (key more : Path) → path_of one ≡ Ok key → path_of other ≡ Ok more → slice_index other 0 ≢ 47 → length one + length other < 4096 → path_of (one ++ 47 ∷ other) ≡ Ok (joined key more) }
-    ensures below { (key parts : Path) → IsPath key → joined key ((46 ∷ []) ∷ parts) ≡ key ++ parts }
+    ensures again { (key : Path) → IsPath key → length (text_of_path key) ≤ 4096
+        → path_of (text_of_path key) ≡ Ok key }
+    ensures between { (one other : List ℕ) (key more : Path) → path_of one ≡ Ok key
+        → path_of other ≡ Ok more → slice_index other 0 ≢ 47 → length one + length other < 4096
+        → path_of (one ++ 47 ∷ other) ≡ Ok (joined key more) }
+    ensures below { (key parts : Path) → IsPath key
+        → joined key ((46 ∷ []) ∷ parts) ≡ key ++ parts }
 {}

@@ -1,5 +1,6 @@
 ghost use Rattle.std.specs.Prelude.{◌≡◌, ◌≤◌, true, false, OnOk, OnErr};
-ghost use Rattle.vk_base.specs.Schedules.{turn_of, is_calm, is_wrong, with_call, with_listed, with_stop};
+ghost use Rattle.vk_base.specs.Schedules.{turn_of, is_calm, is_wrong, with_call, with_listed};
+ghost use Rattle.vk_base.specs.Schedules.{with_stop};
 
 use crate::lists::List;
 use std::alloc::{AllocError, Global};

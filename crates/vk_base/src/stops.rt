@@ -30,16 +30,16 @@ pub enum Stop<F> {
 impl<F> From<AllocError> for Unread<F> {
     ghost from_gives = { λ _ e. e ≡ unread.Memory out_of_memory };
 
-    fn from(_: AllocError) -> Self {
-        Unread::Memory(Memory::without_allocation())
+    fn from(lack: AllocError) -> Self {
+        Unread::Memory(Memory::from(lack))
     }
 }
 
 impl<F, T: Drop> From<AllocFailed<T>> for Unread<F> {
     ghost from_gives = { λ _ e. e ≡ unread.Memory out_of_memory };
 
-    fn from(_: AllocFailed<T>) -> Self {
-        Unread::Memory(Memory::without_allocation())
+    fn from(lack: AllocFailed<T>) -> Self {
+        Unread::Memory(Memory::from(lack))
     }
 }
 
@@ -54,16 +54,16 @@ impl<F> From<Memory> for Unread<F> {
 impl<F> From<AllocError> for Stop<F> {
     ghost from_gives = { λ _ e. e ≡ stop.Memory out_of_memory };
 
-    fn from(_: AllocError) -> Self {
-        Stop::Memory(Memory::without_allocation())
+    fn from(lack: AllocError) -> Self {
+        Stop::Memory(Memory::from(lack))
     }
 }
 
 impl<F, T: Drop> From<AllocFailed<T>> for Stop<F> {
     ghost from_gives = { λ _ e. e ≡ stop.Memory out_of_memory };
 
-    fn from(_: AllocFailed<T>) -> Self {
-        Stop::Memory(Memory::without_allocation())
+    fn from(lack: AllocFailed<T>) -> Self {
+        Stop::Memory(Memory::from(lack))
     }
 }
 

@@ -2,3 +2,4 @@ mod CutLemmas
 mod StepLemmas
 mod ClosenessLemmas
 mod ServingLaws
+mod TellingLemmas

@@ -1,10 +1,12 @@
 -- The configuration in a root manifest.
-use Rattle.std.specs.Prelude.{◌&&◌, ℕ, Bool, List, Option, Some, None, Result, Ok, codes, if◌then◌else◌}
+use Rattle.std.specs.Prelude.{◌&&◌, ℕ, Bool, List, Option, Some, None, Result, Ok, codes}
+use Rattle.std.specs.Prelude.{if◌then◌else◌}
 use Rattle.std.specs.Option.{is_some}
 use Rattle.serde_json.specs.Data.{Data}
 use Rattle.serde_json.specs.Find.{get}
 use Rattle.vk_spec.specs.Reading.{◌>>=◌}
-use Rattle.vk_json.specs.Documents.{Fault, json_of}
+use Rattle.vk_json.specs.Documents.{json_of}
+use Rattle.vk_json.specs.declared.faults.FileFault.{FileFault}
 use Rattle.vk_json.specs.Readings.{Reading, optional}
 use Rattle.vk_config.specs.Configs.{Config, Embedded, nothing, one, two}
 use Rattle.vk_config.specs.Readings.{config_at}
@@ -36,5 +38,5 @@ unfoldable pub embedded_at : Reading Embedded
 embedded_at d = if has_both d then Ok two else only_one d
 
 -- the configuration in a root manifest, by its bytes
-abbrev pub embedded_of : List ℕ → Result Embedded Fault
+abbrev pub embedded_of : List ℕ → Result Embedded FileFault
 embedded_of bytes = json_of bytes >>= embedded_at

@@ -4,7 +4,8 @@ use Rattle.std.specs.Option.{is_some}
 use Rattle.serde_json.specs.Find.{as_null}
 use Rattle.vk_spec.specs.Reading.{◌>>=◌}
 use Rattle.vk_spec.specs.Paths.{Path}
-use Rattle.vk_json.specs.Documents.{Fault, json_of}
+use Rattle.vk_json.specs.Documents.{json_of}
+use Rattle.vk_json.specs.declared.faults.FileFault.{FileFault}
 use Rattle.vk_json.specs.Readings.{Reading, object_at, optional_or, each_item}
 use Rattle.vk_fields.specs.Texts.{path_at}
 use Rattle.vk_config.specs.Configs.{Source, Registry, Config}
@@ -33,8 +34,15 @@ config_at d = do
   overlay_ports ← paths_under (codes "overlay-ports") d
   overlay_triplets ← paths_under (codes "overlay-triplets") d
   registries ← registries_in d
-  Ok (record { registries = registries; default = default; overlay_ports = overlay_ports; overlay_triplets = overlay_triplets })
+  Ok (record {
+    registries =
+        registries;
+    default =
+        default;
+    overlay_ports = overlay_ports;
+    overlay_triplets = overlay_triplets;
+  })
 
 -- the configuration of a file, by its bytes
-abbrev pub config_of : List ℕ → Result Config Fault
+abbrev pub config_of : List ℕ → Result Config FileFault
 config_of bytes = json_of bytes >>= config_at

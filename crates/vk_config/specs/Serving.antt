@@ -1,7 +1,9 @@
 -- Which registry a port comes from.
-use Rattle.std.specs.Prelude.{◌≡◌, ◌<◌, ◌++◌, ℕ, Bool, true, false, List, [], length, slice_get, Option, Some, None, if◌then◌else◌}
+use Rattle.std.specs.Prelude.{◌≡◌, ◌<◌, ◌++◌, ℕ, Bool, true, false, List, [], length, slice_get}
+use Rattle.std.specs.Prelude.{Option, Some, None, if◌then◌else◌}
 use Rattle.std.specs.List.{Contains}
-use Rattle.vk_config.specs.Configs.{Pattern, exact, starting, Source, filesystem, git, builtin, artifact, Registry, Config}
+use Rattle.vk_config.specs.Configs.{Pattern, exact, starting, Source, filesystem, git, builtin}
+use Rattle.vk_config.specs.Configs.{artifact, Registry, Config}
 
 -- a pattern takes a port: its name is the port's, or begins it
 abbrev pub Takes : Pattern → List ℕ → Type 0
@@ -27,22 +29,27 @@ abbrev pub patterns_of : Registry → List Pattern
 patterns_of registry = if serves_ports registry.source then registry.packages else []
 
 -- the registry at this place serves ports, and has a pattern that takes this one
-pub record HasPattern (registries : List Registry) (port : List ℕ) (place : ℕ) (pattern : Pattern) : Type 0 where
+pub record HasPattern (registries : List Registry) (port : List ℕ) (place : ℕ)
+    (pattern : Pattern) : Type 0 where
   pub registry : Registry
   pub stands : slice_get registries place ≡ Some registry
   pub listed : Contains (patterns_of registry) pattern
   pub takes : Takes pattern port
 
--- no pattern that takes the port beats this one, which stands in the first registry with one so good
+-- no pattern that takes the port beats this one, which stands in the first registry with one so
+-- good
 pub record IsBest (registries : List Registry) (port : List ℕ) (place : ℕ) : Type 0 where
   pub pattern : Pattern
   pub has : HasPattern registries port place pattern
-  pub unbeaten : (other : ℕ) (rival : Pattern) → HasPattern registries port other rival → Beats rival pattern → ⊥
-  pub first : (other : ℕ) (rival : Pattern) → other < place → HasPattern registries port other rival → Beats pattern rival
+  pub unbeaten : (other : ℕ) (rival : Pattern) → HasPattern registries port other rival
+      → Beats rival pattern → ⊥
+  pub first : (other : ℕ) (rival : Pattern) → other < place → HasPattern registries port other rival
+      → Beats pattern rival
 
 -- no pattern takes the port
 abbrev pub NoneTakes : List Registry → List ℕ → Type 0
-NoneTakes registries port = (place : ℕ) (pattern : Pattern) → HasPattern registries port place pattern → ⊥
+NoneTakes registries port = (place : ℕ) (pattern : Pattern)
+    → HasPattern registries port place pattern → ⊥
 
 -- the same of one that may be missing
 abbrev pub serves_any : Option Source → Bool
@@ -56,7 +63,8 @@ has_default config = serves_any config.default
 -- the port comes from the registry at this place; their number is the default registry
 pub data IsServedAt (config : Config) (port : List ℕ) : ℕ → Type 0 where
   by_pattern : (place : ℕ) → IsBest config.registries port place → IsServedAt config port place
-  by_default : NoneTakes config.registries port → has_default config ≡ true → IsServedAt config port (length config.registries)
+  by_default : NoneTakes config.registries port → has_default config ≡ true
+      → IsServedAt config port (length config.registries)
 
 -- the port comes from none
 pub record IsUnserved (config : Config) (port : List ℕ) : Type 0 where

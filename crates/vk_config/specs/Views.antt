@@ -33,7 +33,16 @@ abbrev pub registry_view : Registry → plain.Registry
 registry_view r = record { source = source_view r.source; packages = map pattern_view r.packages }
 
 abbrev pub config_view : Config → plain.Config
-config_view c = record { registries = map registry_view c.registries; default = option_map source_view c.default; overlay_ports = c.overlay_ports; overlay_triplets = c.overlay_triplets }
+config_view c =
+    record {
+      registries =
+          map registry_view c.registries;
+      default =
+          option_map source_view c.default;
+      overlay_ports =
+          c.overlay_ports;
+      overlay_triplets = c.overlay_triplets;
+    }
 
 abbrev pub embedded_view : Embedded → plain.Embedded
 embedded_view embedded.Nothing = plain.nothing

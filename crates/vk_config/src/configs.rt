@@ -2,16 +2,17 @@
 ghost use Rattle.std.specs.Prelude.{List, Option, map, option_map};
 ghost use Rattle.serde_json.specs.View.{view};
 ghost use Rattle.vk_spec.specs.Reading.{Gives};
-ghost use Rattle.vk_json.specs.DocumentView.{file_fault_of};
+ghost use Rattle.vk_base.specs.Stops.{fault_in};
 ghost use Rattle.vk_config.specs.Configs as plain;
 ghost use Rattle.vk_config.specs.Registries.{source_at};
-ghost use Rattle.vk_config.specs.Readings.{unless_null, paths_under, registries_in, config_at, config_of};
+ghost use Rattle.vk_config.specs.Readings.{unless_null, paths_under, registries_in, config_at};
+ghost use Rattle.vk_config.specs.Readings.{config_of};
 ghost use Rattle.vk_config.specs.Views.{source_view, registry_view, config_view};
 
 use crate::registries::{Registry, RegistryObject, Source, SourceObject};
 use serde_json::Value;
 use std::alloc::Global;
-use vk_base::{List, TreePath};
+use vk_base::{List, TreePath, Unread};
 use vk_fields::PathText;
 use vk_json::{Doc, FileFault, ListOf, Reader, object, optional_or};
 
@@ -52,7 +53,7 @@ impl Reader for DefaultSource {
 
     ghost reads = { λ r. unless_null source_at };
 
-    fn read(&self, alloc: Global, value: &Value) -> Result<Option<Source>, FileFault> {
+    fn read(&self, alloc: Global, value: &Value) -> Result<Option<Source>, Unread<FileFault>> {
         if value.is_null() {
             return Ok(None);
         }
@@ -60,14 +61,14 @@ impl Reader for DefaultSource {
     }
 }
 
-fn paths(alloc: Global, value: &Value, key: &str) -> Result<List<TreePath>, FileFault>
-    ensures { Gives (λ paths. paths) file_fault_of result (paths_under key.now (view value.now)) }
+fn paths(alloc: Global, value: &Value, key: &str) -> Result<List<TreePath>, Unread<FileFault>>
+    ensures { Gives (λ paths. paths) fault_in result (paths_under key.now (view value.now)) }
 {
     optional_or(alloc, value, key, &ListOf(PathText), List::new(alloc))
 }
 
-fn registries(alloc: Global, value: &Value) -> Result<List<Registry>, FileFault>
-    ensures { Gives (map registry_view) file_fault_of result (registries_in (view value.now)) }
+fn registries(alloc: Global, value: &Value) -> Result<List<Registry>, Unread<FileFault>>
+    ensures { Gives (map registry_view) fault_in result (registries_in (view value.now)) }
 {
     optional_or(
         alloc,
@@ -92,7 +93,7 @@ impl Reader for ConfigObject {
 
     ghost reads = { λ r. config_at };
 
-    fn read(&self, alloc: Global, value: &Value) -> Result<Config, FileFault> {
+    fn read(&self, alloc: Global, value: &Value) -> Result<Config, Unread<FileFault>> {
         object(alloc, value)?;
         let default = optional_or(alloc, value, "default-registry", &DefaultSource, None)?;
         let overlay_ports = paths(alloc, value, "overlay-ports")?;
@@ -107,10 +108,11 @@ impl Reader for ConfigObject {
     }
 }
 
-/// Reads a configuration file: the configuration, or its first fault in the order `default-registry`,
-/// `overlay-ports`, `overlay-triplets`, `registries`. Other keys are passed over.
-pub fn read_config(alloc: Global, bytes: &[u8]) -> Result<Config, FileFault>
-    ensures { Gives config_view file_fault_of result (config_of bytes.now) }
+/// Reads a configuration file: the configuration, or its first fault in the order
+/// `default-registry`, `overlay-ports`, `overlay-triplets`, `registries`. Other keys are passed
+/// over.
+pub fn read_config(alloc: Global, bytes: &[u8]) -> Result<Config, Unread<FileFault>>
+    ensures { Gives config_view fault_in result (config_of bytes.now) }
 {
     let doc = Doc::read(alloc, bytes)?;
     ConfigObject.read(alloc, doc.value())

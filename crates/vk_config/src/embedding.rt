@@ -2,13 +2,14 @@
 ghost use Rattle.std.specs.Prelude.{◌≡◌, option_map};
 ghost use Rattle.serde_json.specs.View.{view};
 ghost use Rattle.vk_spec.specs.Reading.{Gives};
-ghost use Rattle.vk_json.specs.DocumentView.{file_fault_of};
+ghost use Rattle.vk_base.specs.Stops.{fault_in};
 ghost use Rattle.vk_config.specs.Embedding.{has_both, either, only_one, embedded_at, embedded_of};
 ghost use Rattle.vk_config.specs.Views.{config_view, embedded_view};
 
 use crate::configs::{Config, ConfigObject, Embedded};
 use serde_json::Value;
 use std::alloc::Global;
+use vk_base::Unread;
 use vk_json::{Doc, FileFault, member, optional};
 
 fn has_both(value: &Value) -> bool
@@ -18,7 +19,8 @@ fn has_both(value: &Value) -> bool
 }
 
 fn either(first: Option<Config>, second: Option<Config>) -> Embedded
-    ensures { embedded_view result ≡ either (option_map config_view first) (option_map config_view second) }
+    ensures { embedded_view result
+        ≡ either (option_map config_view first) (option_map config_view second) }
 {
     match first {
         Some(config) => Embedded::One(config),
@@ -30,20 +32,20 @@ fn either(first: Option<Config>, second: Option<Config>) -> Embedded
 }
 
 #[tactic(auto, unfolding(crate::specs::Embedding::only_one))]
-fn read_one(alloc: Global, value: &Value) -> Result<Embedded, FileFault>
-    ensures { Gives embedded_view file_fault_of result (only_one (view value.now)) }
+fn read_one(alloc: Global, value: &Value) -> Result<Embedded, Unread<FileFault>>
+    ensures { Gives embedded_view fault_in result (only_one (view value.now)) }
 {
     let first = optional(alloc, value, "vcpkg-configuration", &ConfigObject)?;
     let second = optional(alloc, value, "configuration", &ConfigObject)?;
     Ok(either(first, second))
 }
 
-/// The configuration in a root manifest that is read already. `Two` comes where both keys are there,
-/// whatever their values are; else the places of faults begin with the key. A value that is no object
-/// has none: the manifest's own reader refuses it.
+/// The configuration in a root manifest that is read already. `Two` comes where both keys are
+/// there, whatever their values are; else the places of faults begin with the key. A value that is
+/// no object has none: the manifest's own reader refuses it.
 #[tactic(auto, unfolding(crate::specs::Embedding::embedded_at))]
-pub fn embedded_in(alloc: Global, value: &Value) -> Result<Embedded, FileFault>
-    ensures { Gives embedded_view file_fault_of result (embedded_at (view value.now)) }
+pub fn embedded_in(alloc: Global, value: &Value) -> Result<Embedded, Unread<FileFault>>
+    ensures { Gives embedded_view fault_in result (embedded_at (view value.now)) }
 {
     if has_both(value) {
         return Ok(Embedded::Two);
@@ -51,10 +53,10 @@ pub fn embedded_in(alloc: Global, value: &Value) -> Result<Embedded, FileFault>
     read_one(alloc, value)
 }
 
-/// The configuration in a root manifest, by its bytes; as `embedded_in`, after `Json` for bytes that
-/// are no document.
-pub fn embedded(alloc: Global, bytes: &[u8]) -> Result<Embedded, FileFault>
-    ensures { Gives embedded_view file_fault_of result (embedded_of bytes.now) }
+/// The configuration in a root manifest, by its bytes; as `embedded_in`, after `Json` for bytes
+/// that are no document.
+pub fn embedded(alloc: Global, bytes: &[u8]) -> Result<Embedded, Unread<FileFault>>
+    ensures { Gives embedded_view fault_in result (embedded_of bytes.now) }
 {
     let doc = Doc::read(alloc, bytes)?;
     embedded_in(alloc, doc.value())

@@ -5,14 +5,14 @@
 
 mod configs;
 mod embedding;
+mod laws;
 mod patterns;
 mod registries;
 mod serving;
-#[cfg(test)]
-mod tests;
 
 pub use configs::{Config, Embedded, read_config};
 pub use embedding::{embedded, embedded_in};
+pub use laws::fault_places;
 pub use patterns::Pattern;
 pub use registries::{Registry, Source};
 pub use serving::{registry_of, serving_rule};

@@ -3,18 +3,18 @@ ghost use Rattle.std.specs.Prelude.{◌≡◌, ◌==◌, ◌&&◌, MatchOption, 
 ghost use Rattle.std.specs.List.{list_any, list_all, before_first, after_first};
 ghost use Rattle.vk_spec.specs.Reading.{Gives};
 ghost use Rattle.vk_base.specs.Names as names;
-ghost use Rattle.vk_json.specs.DocumentView.{file_fault_of};
-ghost use Rattle.vk_fields.specs.Texts.{said_here};
+ghost use Rattle.vk_base.specs.Stops.{fault_in};
+ghost use Rattle.vk_fields.specs.Saying.{said_here};
 ghost use Rattle.vk_config.specs.Configs as plain;
-ghost use Rattle.vk_config.specs.Patterns.{is_star, is_beginning, pattern_word, starred, named, pattern_of, pattern_at};
+ghost use Rattle.vk_config.specs.Patterns.{is_star, is_beginning, pattern_word, starred, named};
+ghost use Rattle.vk_config.specs.Patterns.{pattern_of, pattern_at};
 ghost use Rattle.vk_config.specs.Views.{pattern_view};
-ghost use Rattle.vk_base.specs.NameFaults.{name_fault_of};
 ghost use Rattle.vk_json.specs.Places.{here};
 ghost use Rattle.std.specs.Prelude.{option_map};
 
 use serde_json::Value;
 use std::alloc::Global;
-use vk_base::{NameFault, PortName, Text};
+use vk_base::{NameFault, PortName, Text, Unread};
 use vk_json::{FileFault, Reader, Why, text, wrong};
 
 /// Which ports a registry has.
@@ -26,19 +26,20 @@ pub enum Pattern {
     Prefix(Text),
 }
 
-// Whatever is wrong with a name, it is no pattern.
-fn wrong_pattern(alloc: Global, fault: NameFault) -> FileFault
-    ensures { file_fault_of result ≡ option_map (λ f. here (pattern_word f)) (name_fault_of fault) }
+// A text that is no name is no pattern.
+fn wrong_pattern(alloc: Global, unread: Unread<NameFault>) -> Unread<FileFault>
+    ensures { fault_in result ≡ option_map (λ f. here (pattern_word f)) (fault_in unread) }
 {
-    match fault {
-        NameFault::Bad { .. } | NameFault::Reserved => wrong(alloc, Why::Pattern),
-        NameFault::Memory => FileFault::Memory,
+    match unread {
+        Unread::Fault(NameFault::Bad { .. } | NameFault::Reserved) => wrong(alloc, Why::Pattern),
+        Unread::Memory(memory) => Unread::Memory(memory),
     }
 }
 
 #[tactic(auto, using(vk_fields::proofs::Saying::said_fails))]
-fn read_name(alloc: Global, text: &str) -> Result<PortName, FileFault>
-    ensures { Gives (λ n. n) file_fault_of result (said_here pattern_word (names.reads_name names.port_rule text.now)) }
+fn read_name(alloc: Global, text: &str) -> Result<PortName, Unread<FileFault>>
+    ensures { Gives (λ n. n) fault_in result
+        (said_here pattern_word (names.reads_name names.port_rule text.now)) }
 {
     match PortName::read(alloc, text) {
         Ok(name) => Ok(name),
@@ -47,8 +48,8 @@ fn read_name(alloc: Global, text: &str) -> Result<PortName, FileFault>
 }
 
 #[tactic(auto, unfolding(crate::specs::Patterns::named))]
-fn read_named(alloc: Global, text: &str) -> Result<Pattern, FileFault>
-    ensures { Gives pattern_view file_fault_of result (named text.now) }
+fn read_named(alloc: Global, text: &str) -> Result<Pattern, Unread<FileFault>>
+    ensures { Gives pattern_view fault_in result (named text.now) }
 {
     Ok(Pattern::Exact(read_name(alloc, text)?))
 }
@@ -76,8 +77,8 @@ fn is_beginning(bytes: &[u8]) -> bool
     are_name_bytes(bytes) && !begins_with_hyphen(bytes)
 }
 
-fn read_starred(alloc: Global, text: &str, rest: &str) -> Result<Pattern, FileFault>
-    ensures { Gives pattern_view file_fault_of result (starred text.now rest.now) }
+fn read_starred(alloc: Global, text: &str, rest: &str) -> Result<Pattern, Unread<FileFault>>
+    ensures { Gives pattern_view fault_in result (starred text.now rest.now) }
 {
     if rest.is_empty() && is_beginning(text.as_bytes()) {
         return Ok(Pattern::Prefix(Text::from_str(alloc, text)?));
@@ -87,13 +88,16 @@ fn read_starred(alloc: Global, text: &str, rest: &str) -> Result<Pattern, FileFa
 
 // What stands before the first star of a text, and what stands after it, if there is one.
 fn at_star(text: &str) -> Option<(&str, &str)>
-    ensures { MatchOption result (list_any is_star text.now ≡ false) (λ parts. (list_any is_star text.now ≡ true) × (parts.0.now ≡ before_first is_star text.now) × (parts.1.now ≡ after_first is_star text.now)) }
+    ensures { MatchOption result (list_any is_star text.now ≡ false)
+        (λ parts. (list_any is_star text.now ≡ true)
+        × (parts.0.now ≡ before_first is_star text.now)
+        × (parts.1.now ≡ after_first is_star text.now)) }
 {
     text.split_once('*')
 }
 
-fn read_pattern(alloc: Global, text: &str) -> Result<Pattern, FileFault>
-    ensures { Gives pattern_view file_fault_of result (pattern_of text.now) }
+fn read_pattern(alloc: Global, text: &str) -> Result<Pattern, Unread<FileFault>>
+    ensures { Gives pattern_view fault_in result (pattern_of text.now) }
 {
     match at_star(text) {
         Some((beginning, rest)) => read_starred(alloc, beginning, rest),
@@ -101,8 +105,8 @@ fn read_pattern(alloc: Global, text: &str) -> Result<Pattern, FileFault>
     }
 }
 
-/// Reads a pattern: a port's name, or how names begin and then `*`. `Pattern` comes for a text that is
-/// none.
+/// Reads a pattern: a port's name, or how names begin and then `*`. `Pattern` comes for a text that
+/// is none.
 #[derive(Drop)]
 pub struct PatternText;
 
@@ -115,7 +119,7 @@ impl Reader for PatternText {
 
     ghost reads = { λ r. pattern_at };
 
-    fn read(&self, alloc: Global, value: &Value) -> Result<Pattern, FileFault> {
+    fn read(&self, alloc: Global, value: &Value) -> Result<Pattern, Unread<FileFault>> {
         read_pattern(alloc, text(alloc, value)?)
     }
 }

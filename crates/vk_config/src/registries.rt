@@ -2,16 +2,17 @@
 ghost use Rattle.std.specs.Prelude.{◌≡◌, List, Ok, map, option_map};
 ghost use Rattle.serde_json.specs.View.{view};
 ghost use Rattle.vk_spec.specs.Reading.{Gives};
-ghost use Rattle.vk_json.specs.DocumentView.{file_fault_of};
+ghost use Rattle.vk_base.specs.Stops.{fault_in};
 ghost use Rattle.vk_config.specs.Configs as plain;
 ghost use Rattle.vk_config.specs.Registries as plain_kind;
-ghost use Rattle.vk_config.specs.Registries.{kind_of, kind_at, folder_in, source_by, source_at, packages_by, registry_at};
+ghost use Rattle.vk_config.specs.Registries.{kind_of, kind_at, folder_in, source_by, source_at};
+ghost use Rattle.vk_config.specs.Registries.{packages_by, registry_at};
 ghost use Rattle.vk_config.specs.Views.{kind_view, source_view, pattern_view, registry_view};
 
 use crate::patterns::{Pattern, PatternText};
 use serde_json::Value;
 use std::alloc::Global;
-use vk_base::{List, Text, TreePath};
+use vk_base::{List, Text, TreePath, Unread};
 use vk_fields::PathText;
 use vk_json::{AnyText, FileFault, ListOf, Reader, Why, object, optional_or, text, wanted, wrong};
 
@@ -75,14 +76,14 @@ impl Reader for KindText {
 
     ghost reads = { λ r. kind_at };
 
-    fn read(&self, alloc: Global, value: &Value) -> Result<Kind, FileFault> {
+    fn read(&self, alloc: Global, value: &Value) -> Result<Kind, Unread<FileFault>> {
         kind_of(text(alloc, value)?).ok_or(wrong(alloc, Why::Kind))
     }
 }
 
 #[tactic(auto, unfolding(crate::specs::Registries::folder_in))]
-fn read_folder(alloc: Global, value: &Value) -> Result<Source, FileFault>
-    ensures { Gives source_view file_fault_of result (folder_in (view value.now)) }
+fn read_folder(alloc: Global, value: &Value) -> Result<Source, Unread<FileFault>>
+    ensures { Gives source_view fault_in result (folder_in (view value.now)) }
 {
     let path = wanted(alloc, value, "path", &PathText)?;
     let default = Text::from_str(alloc, "default")?;
@@ -90,8 +91,8 @@ fn read_folder(alloc: Global, value: &Value) -> Result<Source, FileFault>
     Ok(Source::Filesystem { path, baseline })
 }
 
-fn read_source(alloc: Global, kind: Kind, value: &Value) -> Result<Source, FileFault>
-    ensures { Gives source_view file_fault_of result (source_by (kind_view kind) (view value.now)) }
+fn read_source(alloc: Global, kind: Kind, value: &Value) -> Result<Source, Unread<FileFault>>
+    ensures { Gives source_view fault_in result (source_by (kind_view kind) (view value.now)) }
 {
     match kind {
         Kind::Filesystem => read_folder(alloc, value),
@@ -115,15 +116,20 @@ impl Reader for SourceObject {
 
     ghost reads = { λ r. source_at };
 
-    fn read(&self, alloc: Global, value: &Value) -> Result<Source, FileFault> {
+    fn read(&self, alloc: Global, value: &Value) -> Result<Source, Unread<FileFault>> {
         object(alloc, value)?;
         let kind = wanted(alloc, value, "kind", &KindText)?;
         read_source(alloc, kind, value)
     }
 }
 
-fn read_packages(alloc: Global, source: &Source, value: &Value) -> Result<List<Pattern>, FileFault>
-    ensures { Gives (map pattern_view) file_fault_of result (packages_by (source_view source.now) (view value.now)) }
+fn read_packages(
+    alloc: Global,
+    source: &Source,
+    value: &Value,
+) -> Result<List<Pattern>, Unread<FileFault>>
+    ensures { Gives (map pattern_view) fault_in result
+        (packages_by (source_view source.now) (view value.now)) }
 {
     match source {
         Source::Artifact => Ok(List::new(alloc)),
@@ -147,7 +153,7 @@ impl Reader for RegistryObject {
 
     ghost reads = { λ r. registry_at };
 
-    fn read(&self, alloc: Global, value: &Value) -> Result<Registry, FileFault> {
+    fn read(&self, alloc: Global, value: &Value) -> Result<Registry, Unread<FileFault>> {
         let source = SourceObject.read(alloc, value)?;
         let packages = read_packages(alloc, &source, value)?;
         Ok(Registry { source, packages })

@@ -2,7 +2,8 @@
 ghost use Rattle.std.specs.Prelude.{◌≡◌, ◌↔◌, List, ℕ, None, Some, map, option_map, IfSome};
 ghost use Rattle.vk_config.specs.Configs as plain;
 ghost use Rattle.vk_config.specs.Serving.{serves_ports, patterns_of, IsServedAt, IsUnserved};
-ghost use Rattle.vk_config.specs.Closeness.{closeness, closer, closest, closer_place, closest_place, default_place, place_of};
+ghost use Rattle.vk_config.specs.Closeness.{closeness, closer, closest, closer_place};
+ghost use Rattle.vk_config.specs.Closeness.{closest_place, default_place, place_of};
 ghost use Rattle.vk_config.specs.Views.{pattern_view, source_view, registry_view, config_view};
 ghost use Rattle.vk_config.specs.FoundViews.{found_view};
 
@@ -100,7 +101,8 @@ fn closer_place(found: Option<Found>, place: usize, next: Option<usize>) -> Opti
 
 // The first of the registries that take a port most closely.
 fn closest_place(registries: &[Registry], port: &PortName) -> Option<Found>
-    ensures { option_map found_view result ≡ closest_place port.now None 0 (map registry_view registries.now) }
+    ensures { option_map found_view result ≡ closest_place port.now None 0
+        (map registry_view registries.now) }
 {
     let mut found = None;
     for (n, registry) in registries.iter().enumerate() {
@@ -129,9 +131,9 @@ fn place_of(config: &Config, port: &PortName) -> Option<usize>
 
 /// The registry that a port comes from: a place in `registries`, or their number for the default
 /// registry. A name beats every beginning, a longer beginning a shorter one, and the earlier of two
-/// registries the later one; what no pattern takes goes to the default registry. An artifact registry
-/// serves no port. `None` exactly where neither serves the port. The answer may be a registry that the
-/// program can't read. Takes no memory.
+/// registries the later one; what no pattern takes goes to the default registry. An artifact
+/// registry serves no port. `None` exactly where neither serves the port. The answer may be a
+/// registry that the program can't read. Takes no memory.
 pub fn registry_of(config: &Config, port: &PortName) -> Option<usize>
     ensures place { result ≡ place_of (config_view config.now) port.now }
     ensures found { IfSome result (IsServedAt (config_view config.now) port.now) }
@@ -143,7 +145,12 @@ pub fn registry_of(config: &Config, port: &PortName) -> Option<usize>
 /// The place that the search finds is the one that a port comes from. A port comes from at most one
 /// registry.
 pub fn serving_rule()
-    ensures place { (config : plain.Config) (port : List ℕ) (place : ℕ) → (place_of config port ≡ Some place) ↔ IsServedAt config port place }
-    ensures none { (config : plain.Config) (port : List ℕ) → (place_of config port ≡ None) ↔ IsUnserved config port }
-    ensures one { (config : plain.Config) (port : List ℕ) (place other : ℕ) → IsServedAt config port place → IsServedAt config port other → place ≡ other }
+    ensures place { (config : plain.Config) (port : List ℕ) (place : ℕ)
+        → (place_of config port ≡ Some place)
+        ↔ IsServedAt config port place }
+    ensures none { (config : plain.Config) (port : List ℕ) → (place_of config port ≡ None)
+        ↔ IsUnserved config port }
+    ensures one { (config : plain.Config) (port : List ℕ) (place other : ℕ)
+        → IsServedAt config port place
+        → IsServedAt config port other → place ≡ other }
 {}

@@ -2,7 +2,8 @@
 use Rattle.std.specs.Prelude.{◌≡◌, ◌+◌, ◌++◌, ◌<◌, ℕ, List, [], ◌∷◌, true}
 use Rattle.std.specs.List.{list_all}
 use Rattle.vk_spec.specs.Conditions.{Condition, always, mark, negation, all, any, conditions_of}
-use Rattle.vk_expr.specs.Tokens.{Joint, both, either, Token, token, name, negates, joins, opens, closes, is_blank, tokens_of}
+use Rattle.vk_expr.specs.Tokens.{Joint, both, either, Token, token, name, negates, joins, opens}
+use Rattle.vk_expr.specs.Tokens.{closes, is_blank, tokens_of}
 
 -- the tree of members that are joined
 abbrev pub joined_by : Joint → List Condition → Condition

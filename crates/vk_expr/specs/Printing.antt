@@ -1,6 +1,7 @@
 -- How an expression is printed.
 use Rattle.std.specs.Prelude.{◌++◌, ℕ, Bool, true, false, if◌then◌else◌, List, [], codes}
-use Rattle.vk_spec.specs.Conditions.{Condition, Conditions, always, mark, negation, all, any, no_conditions, condition}
+use Rattle.vk_spec.specs.Conditions.{Condition, Conditions, always, mark, negation, all, any}
+use Rattle.vk_spec.specs.Conditions.{no_conditions, condition}
 
 -- parentheses round a chain that is a member
 abbrev pub opening : Bool → List ℕ

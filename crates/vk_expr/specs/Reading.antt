@@ -1,9 +1,11 @@
 -- What a text reads as, or its first fault, from the left.
-use Rattle.std.specs.Prelude.{◌++◌, if◌then◌else◌, ℕ, Bool, true, false, List, [], ◌∷◌, length, nat_lt, Result, Ok, Err}
+use Rattle.std.specs.Prelude.{◌++◌, if◌then◌else◌, ℕ, Bool, true, false, List, [], ◌∷◌, length}
+use Rattle.std.specs.Prelude.{nat_lt, Result, Ok, Err}
 use Rattle.std.specs.List.{list_all}
 use Rattle.vk_spec.specs.Reading.{◌>>=◌}
 use Rattle.vk_spec.specs.Conditions.{Condition, always, mark, negation}
-use Rattle.vk_expr.specs.Tokens.{Joint, both, either, Token, token, name, negates, joins, opens, closes, stray, is_blank, tokens_of}
+use Rattle.vk_expr.specs.Tokens.{Joint, both, either, Token, token, name, negates, joins, opens}
+use Rattle.vk_expr.specs.Tokens.{closes, stray, is_blank, tokens_of}
 use Rattle.vk_expr.specs.Grammar.{joined_by}
 use Rattle.vk_expr.specs.declared.faults.ExprFault.{ExprFault}
 use Rattle.vk_expr.specs.declared.faults.ExprFault.TheVariants as fault

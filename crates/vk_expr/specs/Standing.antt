@@ -1,7 +1,8 @@
 -- Where a text's first fault stands, in terms of which texts are readable.
 use Rattle.std.specs.Prelude.{◌≡◌, ◌++◌, ℕ, List, [], ◌∷◌, length}
 use Rattle.vk_spec.specs.Conditions.{Condition}
-use Rattle.vk_expr.specs.Tokens.{Sign, Joint, both, either, Token, token, name, negates, joins, opens, closes, stray, tokens_of}
+use Rattle.vk_expr.specs.Tokens.{Sign, Joint, both, either, Token, token, name, negates, joins}
+use Rattle.vk_expr.specs.Tokens.{opens, closes, stray, tokens_of}
 use Rattle.vk_expr.specs.Grammar.{Reads, CanGoOn}
 use Rattle.vk_expr.specs.declared.faults.ExprFault.{ExprFault}
 use Rattle.vk_expr.specs.declared.faults.ExprFault.TheVariants as fault

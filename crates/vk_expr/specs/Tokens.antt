@@ -1,5 +1,6 @@
 -- The tokens of a platform expression's text.
-use Rattle.std.specs.Prelude.{◌+◌, ◌++◌, ◌||◌, ◌==◌, if◌then◌else◌, ℕ, Bool, false, not, List, [], ◌∷◌, Option, Some, None, option_map, option_to_list, codes}
+use Rattle.std.specs.Prelude.{◌+◌, ◌++◌, ◌||◌, ◌==◌, if◌then◌else◌, ℕ, Bool, false, not, List, []}
+use Rattle.std.specs.Prelude.{◌∷◌, Option, Some, None, option_map, option_to_list, codes}
 use Rattle.std.specs.List.{before_first}
 use Rattle.std.specs.Str.{bytes_eq}
 use Rattle.std.specs.Char.{is_ascii_lowercase, is_ascii_digit}

@@ -4,7 +4,8 @@ ghost use Rattle.vk_expr.specs.Grammar.{joined_by};
 ghost use Rattle.vk_expr.specs.Reading.{value_of, cut_off};
 ghost use Rattle.vk_expr.specs.Views.{condition_of};
 ghost use Rattle.vk_base.specs.Stops.{fault_in};
-ghost use Rattle.vk_expr.specs.ReaderViews.{joint_of, chain_of, frame_of, frames_of, is_pending, is_negated};
+ghost use Rattle.vk_expr.specs.ReaderViews.{joint_of, chain_of, frame_of, frames_of, is_pending};
+ghost use Rattle.vk_expr.specs.ReaderViews.{is_negated};
 
 use crate::exprs::Expr;
 use crate::faults::ExprFault;
@@ -37,7 +38,8 @@ fn joined(joint: Joint, members: List<Expr>) -> Expr
 
 /// The value of a level with its last member.
 pub(crate) fn value(chain: Chain, last: Expr) -> Result<Expr, Unread<ExprFault>>
-    ensures { Gives condition_of fault_in result (Ok (value_of (chain_of chain) (condition_of last))) }
+    ensures { Gives condition_of fault_in result
+        (Ok (value_of (chain_of chain) (condition_of last))) }
 {
     match chain {
         Chain::Single => Ok(last),

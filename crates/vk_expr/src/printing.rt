@@ -22,7 +22,8 @@ fn closing(member: bool) -> &'static str
 /// Puts members at the end, with a sign between them.
 #[cycle(members)]
 fn push_members(out: &mut Text, members: &[Expr], sign: &str) -> Result<(), Memory>
-    ensures { OnOk result (out.new ≡ out.old ++ members_of sign.now (conditions_of (map condition_of members.now))) }
+    ensures { OnOk result (out.new
+        ≡ out.old ++ members_of sign.now (conditions_of (map condition_of members.now))) }
 {
     let mut between = "";
     for member in members {
@@ -36,7 +37,10 @@ fn push_members(out: &mut Text, members: &[Expr], sign: &str) -> Result<(), Memo
 /// Puts a chain at the end.
 #[cycle(members)]
 fn push_chain(out: &mut Text, members: &[Expr], sign: &str, member: bool) -> Result<(), Memory>
-    ensures { OnOk result (out.new ≡ out.old ++ (opening member ++ (members_of sign.now (conditions_of (map condition_of members.now)) ++ closing member))) }
+    ensures { OnOk result (out.new
+        ≡ out.old ++ (opening member
+        ++ (members_of sign.now (conditions_of (map condition_of members.now))
+        ++ closing member))) }
 {
     out.push_str(opening(member))?;
     push_members(out, members, sign)?;
@@ -61,9 +65,9 @@ fn push(out: &mut Text, e: &Expr, member: bool) -> Result<(), Memory>
     }
 }
 
-/// Prints an expression: `!` before a NOT's member, ` & ` and ` | ` between members, parentheses round
-/// a member that is a chain. `Always` prints as the empty text. What was read and is printed reads as
-/// the same expression.
+/// Prints an expression: `!` before a NOT's member, ` & ` and ` | ` between members, parentheses
+/// round a member that is a chain. `Always` prints as the empty text. What was read and is printed
+/// reads as the same expression.
 pub fn print(alloc: Global, e: &Expr) -> Result<Text, Memory>
     ensures { IfOk result (λ t. t ≡ printed (condition_of e.now)) }
 {

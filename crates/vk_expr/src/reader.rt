@@ -1,12 +1,15 @@
-ghost use Rattle.std.specs.Prelude.{◌≡◌, ◌∷◌, ◌++◌, map, ◌+◌, ◌<◌, ◌^◌, [], length, drop, slice_index, option_map, option_to_list, Ok};
+ghost use Rattle.std.specs.Prelude.{◌≡◌, ◌∷◌, ◌++◌, map, ◌+◌, ◌<◌, ◌^◌, [], length, drop};
+ghost use Rattle.std.specs.Prelude.{slice_index, option_map, option_to_list, Ok};
 ghost use Rattle.std.specs.List.{list_all};
 ghost use Rattle.vk_spec.specs.Reading.{Gives};
 ghost use Rattle.vk_spec.specs.Conditions.{negation};
 ghost use Rattle.vk_expr.specs.Tokens.{token, tokens_of, sign_begun, is_blank};
-ghost use Rattle.vk_expr.specs.Reading.{wanted, ended, settled, deeper, joined_on, closed_on, same_joint, joined, start, step, steps, at_end, reading_of};
+ghost use Rattle.vk_expr.specs.Reading.{wanted, ended, settled, deeper, joined_on, closed_on};
+ghost use Rattle.vk_expr.specs.Reading.{same_joint, joined, start, step, steps, at_end, reading_of};
 ghost use Rattle.vk_expr.specs.Views.{condition_of};
 ghost use Rattle.vk_base.specs.Stops.{fault_in};
-ghost use Rattle.vk_expr.specs.ReaderViews.{joint_of, sign_of, chain_of, frame_of, frames_of, state_of};
+ghost use Rattle.vk_expr.specs.ReaderViews.{joint_of, sign_of, chain_of, frame_of, frames_of};
+ghost use Rattle.vk_expr.specs.ReaderViews.{state_of};
 
 use crate::exprs::Expr;
 use crate::faults::ExprFault;
@@ -35,7 +38,8 @@ fn settled(
     chain: Chain,
     mut value: Expr,
 ) -> Result<State, Unread<ExprFault>>
-    ensures { Gives state_of fault_in result (Ok (settled (frames_of frames) (chain_of chain) (condition_of value))) }
+    ensures { Gives state_of fault_in result
+        (Ok (settled (frames_of frames) (chain_of chain) (condition_of value))) }
 {
     while is_negated(&frames) {
         frames.pop();
@@ -46,7 +50,8 @@ fn settled(
 
 /// One more NOT or parenthesis.
 fn deeper(mut frames: List<Frame>, frame: Frame, chain: Chain) -> Result<State, Unread<ExprFault>>
-    ensures { Gives state_of fault_in result (deeper (frames_of frames) (frame_of frame) (chain_of chain)) }
+    ensures { Gives state_of fault_in result
+        (deeper (frames_of frames) (frame_of frame) (chain_of chain)) }
 {
     if frames.len() >= 64 {
         return Err(Unread::Fault(ExprFault::Deep));
@@ -64,7 +69,8 @@ fn step_wanted(
     at: u32,
     sign: Sign,
 ) -> Result<State, Unread<ExprFault>>
-    ensures { Gives state_of fault_in result (step (wanted (frames_of frames) (chain_of chain)) (token at (sign_of sign))) }
+    ensures { Gives state_of fault_in result
+        (step (wanted (frames_of frames) (chain_of chain)) (token at (sign_of sign))) }
 {
     match sign {
         Sign::Name(word) => settled(alloc, frames, chain, Expr::Mark(word)),
@@ -83,7 +89,8 @@ fn begun(
     joint: Joint,
     first: Expr,
 ) -> Result<State, Unread<ExprFault>>
-    ensures { Gives state_of fault_in result (Ok (wanted (frames_of frames) (joined (joint_of joint) (condition_of first ∷ [])))) }
+    ensures { Gives state_of fault_in result
+        (Ok (wanted (frames_of frames) (joined (joint_of joint) (condition_of first ∷ [])))) }
 {
     let mut members = List::new(alloc);
     members.push(first)?;
@@ -97,7 +104,9 @@ fn grown(
     mut members: List<Expr>,
     member: Expr,
 ) -> Result<State, Unread<ExprFault>>
-    ensures { Gives state_of fault_in result (Ok (wanted (frames_of frames) (joined (joint_of joint) (map condition_of members ++ condition_of member ∷ [])))) }
+    ensures { Gives state_of fault_in result
+        (Ok (wanted (frames_of frames)
+        (joined (joint_of joint) (map condition_of members ++ condition_of member ∷ [])))) }
 {
     members.push(member)?;
     Ok(State::Wanted(frames, Chain::Joined(joint, members)))
@@ -118,7 +127,9 @@ fn joined_later(
     at: u32,
     operator: Joint,
 ) -> Result<State, Unread<ExprFault>>
-    ensures { Gives state_of fault_in result (joined_on at (joint_of operator) (frames_of frames) (joined (joint_of joint) (map condition_of members)) (condition_of member)) }
+    ensures { Gives state_of fault_in result
+        (joined_on at (joint_of operator) (frames_of frames)
+        (joined (joint_of joint) (map condition_of members)) (condition_of member)) }
 {
     if is_same(operator, joint) {
         grown(frames, joint, members, member)
@@ -136,7 +147,8 @@ fn joined_on(
     at: u32,
     joint: Joint,
 ) -> Result<State, Unread<ExprFault>>
-    ensures { Gives state_of fault_in result (joined_on at (joint_of joint) (frames_of frames) (chain_of chain) (condition_of member)) }
+    ensures { Gives state_of fault_in result
+        (joined_on at (joint_of joint) (frames_of frames) (chain_of chain) (condition_of member)) }
 {
     match chain {
         Chain::Single => begun(alloc, frames, joint, member),
@@ -153,7 +165,9 @@ fn closed(
     last: Expr,
     at: u32,
 ) -> Result<State, Unread<ExprFault>>
-    ensures { Gives state_of fault_in result (closed_on at (frame_of innermost ∷ frames_of frames) (chain_of chain) (condition_of last)) }
+    ensures { Gives state_of fault_in result
+        (closed_on at (frame_of innermost ∷ frames_of frames) (chain_of chain)
+        (condition_of last)) }
 {
     match innermost {
         Frame::Pending => Err(Unread::Fault(ExprFault::Unexpected { at })),
@@ -169,7 +183,8 @@ fn closed_on(
     last: Expr,
     at: u32,
 ) -> Result<State, Unread<ExprFault>>
-    ensures { Gives state_of fault_in result (closed_on at (frames_of frames) (chain_of chain) (condition_of last)) }
+    ensures { Gives state_of fault_in result
+        (closed_on at (frames_of frames) (chain_of chain) (condition_of last)) }
 {
     match frames.pop() {
         None => Err(Unread::Fault(ExprFault::Unexpected { at })),
@@ -187,7 +202,9 @@ fn step_ended(
     at: u32,
     sign: Sign,
 ) -> Result<State, Unread<ExprFault>>
-    ensures { Gives state_of fault_in result (step (ended (frames_of frames) (chain_of chain) (condition_of last)) (token at (sign_of sign))) }
+    ensures { Gives state_of fault_in result
+        (step (ended (frames_of frames) (chain_of chain) (condition_of last))
+        (token at (sign_of sign))) }
 {
     match sign {
         Sign::Joins(joint) => joined_on(alloc, frames, chain, last, at, joint),
@@ -217,7 +234,9 @@ fn step_maybe(
     at: u32,
     sign: Option<Sign>,
 ) -> Result<State, Unread<ExprFault>>
-    ensures { Gives state_of fault_in result (steps (state_of state) (option_to_list (option_map (token at) (option_map sign_of sign)))) }
+    ensures { Gives state_of fault_in result
+        (steps (state_of state) (option_to_list
+        (option_map (token at) (option_map sign_of sign)))) }
 {
     match sign {
         None => Ok(state),
@@ -235,7 +254,10 @@ fn step_byte(
 ) -> Result<State, Unread<ExprFault>>
     requires short { length bytes.now < 2 ^ 32 }
     requires within { at < length bytes.now }
-    ensures { Gives state_of fault_in result (steps (state_of state) (option_to_list (option_map (token at) (sign_begun inside (slice_index bytes.now at) (drop (at + 1) bytes.now))))) }
+    ensures { Gives state_of fault_in result
+        (steps (state_of state) (option_to_list
+        (option_map (token at)
+        (sign_begun inside (slice_index bytes.now at) (drop (at + 1) bytes.now))))) }
 {
     let sign = sign_at(alloc, bytes, at, inside)?;
     step_maybe(alloc, state, at as u32, sign)
@@ -263,7 +285,8 @@ fn finish_ended(
     last: Expr,
     length: u32,
 ) -> Result<Expr, Unread<ExprFault>>
-    ensures { Gives condition_of fault_in result (at_end length (ended (frames_of frames) (chain_of chain) (condition_of last))) }
+    ensures { Gives condition_of fault_in result
+        (at_end length (ended (frames_of frames) (chain_of chain) (condition_of last))) }
 {
     if frames.is_empty() {
         value(chain, last)
@@ -292,9 +315,10 @@ fn is_blank_text(bytes: &[u8]) -> bool
 /// Reads a platform expression in one pass from left to right. A text of blanks alone is `Always`.
 /// NOT is `!` or `not`, AND is `&` or `and`, OR is `|` or `,`; a level has ANDs or ORs, never both.
 /// Otherwise the first fault is told, at the first token such that no readable text begins with the
-/// tokens up to it: `Mixed` where the other operator could stand, `Deep` for a NOT or parenthesis where
-/// a name could stand, since more than 64 would be open, and else `Unexpected`. Where the text ends too
-/// early it is `Open` at the innermost parenthesis that isn't closed, or `Unexpected` at the end.
+/// tokens up to it: `Mixed` where the other operator could stand, `Deep` for a NOT or parenthesis
+/// where a name could stand, since more than 64 would be open, and else `Unexpected`. Where the
+/// text ends too early it is `Open` at the innermost parenthesis that isn't closed, or `Unexpected`
+/// at the end.
 #[tactic(auto, unfolding(crate::specs::Reading::reading_of))]
 pub fn read(alloc: Global, text: &str) -> Result<Expr, Unread<ExprFault>>
     requires short { length text.now < 2 ^ 32 }

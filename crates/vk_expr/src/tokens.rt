@@ -3,7 +3,8 @@ ghost use Rattle.vk_spec.specs.Reading.{Gives};
 ghost use Rattle.vk_base.specs.Stops.{fault_in};
 ghost use Rattle.std.specs.List.{position};
 ghost use Rattle.std.specs.Str.{IsAscii};
-ghost use Rattle.vk_expr.specs.Tokens.{is_blank, is_word_byte, word_of, sign_begun, sign_of_word, sign_of_byte};
+ghost use Rattle.vk_expr.specs.Tokens.{is_blank, is_word_byte, word_of, sign_begun, sign_of_word};
+ghost use Rattle.vk_expr.specs.Tokens.{sign_of_byte};
 ghost use Rattle.vk_expr.specs.ReaderViews.{sign_of};
 
 use crate::faults::ExprFault;
@@ -117,7 +118,8 @@ pub(crate) fn sign_at(
     inside: bool,
 ) -> Result<Option<Sign>, Unread<ExprFault>>
     requires { at < length bytes.now }
-    ensures { Gives (option_map sign_of) fault_in result (Ok (sign_begun inside (slice_index bytes.now at) (drop (at + 1) bytes.now))) }
+    ensures { Gives (option_map sign_of) fault_in result
+        (Ok (sign_begun inside (slice_index bytes.now at) (drop (at + 1) bytes.now))) }
 {
     let byte = bytes[at];
     if is_word_byte(byte) {

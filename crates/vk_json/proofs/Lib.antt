@@ -5,3 +5,5 @@ mod WordLemmas
 mod DigitLemmas
 pub mod SameLemmas
 pub mod TellingLemmas
+pub mod OrderLemmas
+pub mod DocumentKeys

@@ -2,6 +2,7 @@ pub mod Places
 pub mod Documents
 pub mod DocumentView
 pub mod Looks
+pub mod KeyOrders
 pub mod Readings
 pub mod FaultViews
 pub mod Digits

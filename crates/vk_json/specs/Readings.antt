@@ -89,6 +89,10 @@ MemberReading A = List ℕ → Data → Result A FileFault
 abbrev pub member_at : {A : Type 0} → MemberReading A → Member → Result A FileFault
 member_at f m = inside (member_step m.0) (f m.0 m.1)
 
+-- members, one after the other
+abbrev pub members_by : {A : Type 0} → MemberReading A → Members → Result (List A) FileFault
+members_by f ms = read_each (λ _. member_at f) 0 (pairs_of ms)
+
 -- an object, member by member in byte order of keys
 unfoldable pub each_member : {A : Type 0} → MemberReading A → Reading (List A)
-each_member f d = members_at d >>= λ ms. read_each (λ _. member_at f) 0 (pairs_of ms)
+each_member f d = members_at d >>= members_by f

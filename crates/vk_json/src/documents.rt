@@ -1,4 +1,7 @@
-ghost use Rattle.std.specs.Prelude.{◌≡◌, IfOk, IfErr, ◌<◌, length};
+ghost use Rattle.std.specs.Prelude.{◌≡◌, ℕ, List, IfOk, IfErr, Ok, ◌<◌, length};
+ghost use Rattle.serde_json.specs.Data.{Data};
+ghost use Rattle.vk_json.specs.KeyOrders.{KeysAscend};
+ghost use Rattle.vk_json.specs.Standing.{Leads};
 ghost use Rattle.serde_json.specs.View.{view};
 ghost use Rattle.serde_json.specs.Errors.{IsMemory};
 ghost use Rattle.vk_spec.specs.Reading.{Gives};
@@ -41,6 +44,13 @@ impl Doc {
     {
         &self.value
     }
+
+    /// The value that was read, given away.
+    pub fn into_value(self) -> Value
+        ensures { view result ≡ doc_data self }
+    {
+        self.value
+    }
 }
 
 // The bytes after a byte order mark, if they begin with one.
@@ -52,3 +62,11 @@ fn without_mark(bytes: &[u8]) -> &[u8]
         _ => bytes,
     }
 }
+
+/// In a document, the keys of each object ascend, whatever their order in the bytes was.
+pub fn document_keys()
+    ensures {
+        (bytes place : List ℕ) (d found : Data) →
+        json_of bytes ≡ Ok d → Leads place d found → KeysAscend found
+    }
+{}

@@ -1,7 +1,7 @@
 use vk_base::Text;
 
 /// What is wrong with a file, or at a place in it.
-#[derive(Clone, Copy, Debug, PartialEq, Eq)]
+#[derive(Clone, Copy, PartialEq, Eq)]
 pub enum Why {
     /// The file isn't there.
     Absent,

@@ -1,5 +1,7 @@
 //! Getters over a value. None takes memory but `keys`.
-ghost use Rattle.std.specs.Prelude.{◌≡◌, ◌<◌, ◌^◌, option_map, option_and_then, map, IfOk, IfSome};
+ghost use Rattle.std.specs.Prelude.{◌≡◌, ◌<◌, ◌^◌, ◌++◌, ◌∷◌, [], map};
+ghost use Rattle.std.specs.Prelude.{option_map, option_and_then, IfOk, IfSome, OnOk};
+ghost use Rattle.vk_json.specs.KeyOrders.{NamesAscend, KeysAscend};
 ghost use Rattle.serde_json.specs.Find.{get, as_str, as_number, as_u64, as_bool};
 ghost use Rattle.serde_json.specs.View.{view};
 ghost use Rattle.vk_json.specs.Looks.{items_of, keys_of, number_of, if_small, names_of};
@@ -59,7 +61,8 @@ pub fn as_bool(value: &Value) -> Option<bool>
 
 /// The keys in byte order; `None` exactly where the value is no object.
 pub fn keys(alloc: Global, value: &Value) -> Result<Option<List<Text>>, Memory>
-    ensures { IfOk result (λ found. found ≡ keys_of (view value.now)) }
+    ensures keys { IfOk result (λ found. found ≡ keys_of (view value.now)) }
+    ensures order { IfOk result (λ found. KeysAscend (view value.now)) }
 {
     match value.as_object() {
         Some(object) => Ok(Some(names_of(alloc, object)?)),
@@ -67,12 +70,20 @@ pub fn keys(alloc: Global, value: &Value) -> Result<Option<List<Text>>, Memory>
     }
 }
 
+// Puts a key behind those before it.
+fn push_name(alloc: Global, names: &mut List<Text>, key: &str) -> Result<(), Memory>
+    ensures { OnOk result (names.new ≡ names.old ++ key.now ∷ []) }
+{
+    Ok(names.push(Text::from_str(alloc, key)?)?)
+}
+
 fn names_of(alloc: Global, object: &Map<String, Value>) -> Result<List<Text>, Memory>
-    ensures { IfOk result (λ names. names ≡ names_of (members_view object.now.entries)) }
+    ensures names { IfOk result (λ names. names ≡ names_of (members_view object.now.entries)) }
+    ensures order { IfOk result (λ names. NamesAscend (members_view object.now.entries)) }
 {
     let mut names = List::new(alloc);
     for (key, _) in object.iter() {
-        names.push(Text::from_str(alloc, key.as_str())?)?;
+        push_name(alloc, &mut names, key.as_str())?;
     }
     Ok(names)
 }

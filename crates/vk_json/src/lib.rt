@@ -10,7 +10,7 @@ mod places;
 mod readers;
 mod words;
 
-pub use documents::Doc;
+pub use documents::{Doc, document_keys};
 pub use faults::{FileFault, Why};
 pub use getters::{as_bool, as_number, as_text, items, keys, member};
 pub use places::{at, in_item, in_member, place_text, under, wrong, wrong_member};

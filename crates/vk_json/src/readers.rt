@@ -1,13 +1,16 @@
-//! Readers of values, put together from readers of their parts. Each answers what its reading gives:
-//! the value, or the first fault with its place.
-ghost use Rattle.std.specs.Prelude.{◌≡◌, ℕ, Bool, List, Result, map, option_map};
+//! Readers of values, put together from readers of their parts. Each answers what its reading
+//! gives: the value, or the first fault with its place.
+ghost use Rattle.std.specs.Prelude.{◌≡◌, ℕ, Bool, List, Result, IfOk, map, option_map};
 ghost use Rattle.serde_json.specs.Data.{Data};
 ghost use Rattle.serde_json.specs.View.{view, members_view};
 ghost use Rattle.vk_spec.specs.Reading.{Gives, read_each};
 ghost use Rattle.vk_json.specs.declared.faults.FileFault.{FileFault};
 ghost use Rattle.vk_base.specs.Stops.{fault_in};
 ghost use Rattle.vk_json.specs.Places.{inside, member_step, item_step};
-ghost use Rattle.vk_json.specs.Readings.{text_at, bool_at, number_at, wanted, optional, optional_or, item_at, each_item, member_at, each_member, pairs_of, object_at};
+ghost use Rattle.vk_json.specs.KeyOrders.{NamesAscend, KeysAscend};
+ghost use Rattle.vk_json.specs.Readings.{text_at, bool_at, number_at, object_at};
+ghost use Rattle.vk_json.specs.Readings.{wanted, optional, optional_or, item_at, each_item};
+ghost use Rattle.vk_json.specs.Readings.{member_at, members_by, each_member};
 
 use crate::faults::{FileFault, Why};
 use crate::getters::{as_bool, as_number, as_text, items, member};
@@ -45,7 +48,10 @@ fn read_in_member<R: Reader>(
     value: &Value,
     reader: &R,
 ) -> Result<R::Out, Unread<FileFault>>
-    ensures { Gives R.plain fault_in result (inside (member_step key.now) (R.reads reader.now (view value.now))) }
+    ensures {
+        Gives R.plain fault_in result
+            (inside (member_step key.now) (R.reads reader.now (view value.now)))
+    }
 {
     match reader.read(alloc, value) {
         Ok(read) => Ok(read),
@@ -76,7 +82,9 @@ pub fn wanted<R: Reader>(
     key: &str,
     reader: &R,
 ) -> Result<R::Out, Unread<FileFault>>
-    ensures { Gives R.plain fault_in result (wanted (R.reads reader.now) key.now (view value.now)) }
+    ensures {
+        Gives R.plain fault_in result (wanted (R.reads reader.now) key.now (view value.now))
+    }
 {
     match member(value, key) {
         Some(found) => read_in_member(alloc, key, found, reader),
@@ -92,7 +100,10 @@ pub fn optional<R: Reader>(
     key: &str,
     reader: &R,
 ) -> Result<Option<R::Out>, Unread<FileFault>>
-    ensures { Gives (option_map R.plain) fault_in result (optional (R.reads reader.now) key.now (view value.now)) }
+    ensures {
+        Gives (option_map R.plain) fault_in result
+            (optional (R.reads reader.now) key.now (view value.now))
+    }
 {
     match member(value, key) {
         Some(found) => Ok(Some(read_in_member(alloc, key, found, reader)?)),
@@ -109,7 +120,10 @@ pub fn optional_or<R: Reader>(
     reader: &R,
     default: R::Out,
 ) -> Result<R::Out, Unread<FileFault>>
-    ensures { Gives R.plain fault_in result (optional_or (R.plain default) (R.reads reader.now) key.now (view value.now)) }
+    ensures {
+        Gives R.plain fault_in result
+            (optional_or (R.plain default) (R.reads reader.now) key.now (view value.now))
+    }
 {
     match member(value, key) {
         Some(found) => read_in_member(alloc, key, found, reader),
@@ -136,7 +150,10 @@ fn read_items<R: Reader>(
     values: &[Value],
     reader: &R,
 ) -> Result<List<R::Out>, Unread<FileFault>>
-    ensures { Gives (map R.plain) fault_in result (read_each (item_at (R.reads reader.now)) 0 (map view values.now)) }
+    ensures {
+        Gives (map R.plain) fault_in result
+            (read_each (item_at (R.reads reader.now)) 0 (map view values.now))
+    }
 {
     let mut read = List::new(alloc);
     for (n, value) in values.iter().enumerate() {
@@ -153,7 +170,9 @@ pub fn each_item<R: Reader>(
     value: &Value,
     reader: &R,
 ) -> Result<List<R::Out>, Unread<FileFault>>
-    ensures { Gives (map R.plain) fault_in result (each_item (R.reads reader.now) (view value.now)) }
+    ensures {
+        Gives (map R.plain) fault_in result (each_item (R.reads reader.now) (view value.now))
+    }
 {
     match items(value) {
         Some(values) => read_items(alloc, values, reader),
@@ -183,7 +202,10 @@ fn read_member<R: MemberReader>(
     value: &Value,
     reader: &R,
 ) -> Result<R::Out, Unread<FileFault>>
-    ensures { Gives R.plain fault_in result (member_at (R.reads reader.now) (key.now, view value.now)) }
+    ensures {
+        Gives R.plain fault_in result
+            (member_at (R.reads reader.now) (key.now, view value.now))
+    }
 {
     match reader.read(alloc, key, value) {
         Ok(read) => Ok(read),
@@ -196,7 +218,11 @@ fn read_members<R: MemberReader>(
     object: &Map<String, Value>,
     reader: &R,
 ) -> Result<List<R::Out>, Unread<FileFault>>
-    ensures { Gives (map R.plain) fault_in result (read_each (λ _. member_at (R.reads reader.now)) 0 (pairs_of (members_view object.now.entries))) }
+    ensures read {
+        Gives (map R.plain) fault_in result
+            (members_by (R.reads reader.now) (members_view object.now.entries))
+    }
+    ensures order { IfOk result (λ read. NamesAscend (members_view object.now.entries)) }
 {
     let mut read = List::new(alloc);
     for (key, value) in object.iter() {
@@ -206,15 +232,18 @@ fn read_members<R: MemberReader>(
     Ok(read)
 }
 
-/// An object, each of whose members is read by a reader, in byte order of keys. `Object` comes where
-/// it is no object.
+/// An object, each of whose members is read by a reader, in byte order of keys. The fault is `Object`
+/// where it is no object.
 #[tactic(auto, unfolding(crate::specs::Readings::each_member))]
 pub fn each_member<R: MemberReader>(
     alloc: Global,
     value: &Value,
     reader: &R,
 ) -> Result<List<R::Out>, Unread<FileFault>>
-    ensures { Gives (map R.plain) fault_in result (each_member (R.reads reader.now) (view value.now)) }
+    ensures read {
+        Gives (map R.plain) fault_in result (each_member (R.reads reader.now) (view value.now))
+    }
+    ensures order { IfOk result (λ read. KeysAscend (view value.now)) }
 {
     match value.as_object() {
         Some(object) => read_members(alloc, object, reader),
@@ -222,7 +251,7 @@ pub fn each_member<R: MemberReader>(
     }
 }
 
-/// Nothing but that the value is an object.
+/// Checks only that the value is an object.
 pub fn object(alloc: Global, value: &Value) -> Result<(), Unread<FileFault>>
     ensures { Gives (λ done. tt) fault_in result (object_at (view value.now)) }
 {

@@ -42,9 +42,10 @@ impl Why {
     pub fn word(&self, alloc: Global) -> Result<Text, Memory>
         ensures { IfOk result (λ word. word ≡ word_of self.now) }
     {
-        match self.parts() {
-            (name, None) => Ok(Text::from_str(alloc, name)?),
-            (name, Some(number)) => Ok(Text::from_string(format!(in alloc; "{name}:{number}")?)),
+        let name = self.name();
+        match self.number() {
+            None => Ok(Text::from_str(alloc, name)?),
+            Some(number) => Ok(Text::from_string(format!(in alloc; "{name}:{number}")?)),
         }
     }
 
@@ -60,47 +61,56 @@ impl Why {
         }
     }
 
-    /// Its name, and the number that is told with it.
-    fn parts(&self) -> (&'static str, Option<u32>)
-        ensures name { result.0.now ≡ name_of self.now }
-        ensures number { result.1 ≡ number_in self.now }
+    // Its name.
+    fn name(&self) -> &'static str
+        ensures { result.now ≡ name_of self.now }
+    {
+        match self {
+            Why::Absent => "absent",
+            Why::Large => "large",
+            Why::Json => "json",
+            Why::Object => "object",
+            Why::List => "list",
+            Why::Text => "text",
+            Why::Bool => "bool",
+            Why::Number => "number",
+            Why::Item => "item",
+            Why::Missing => "missing",
+            Why::Name => "name",
+            Why::Reserved => "reserved",
+            Why::TwoVersions => "two-versions",
+            Why::NoVersion => "no-version",
+            Why::Version => "version",
+            Why::Range => "range",
+            Why::Day => "day",
+            Why::Unexpected(_) => "unexpected",
+            Why::Mixed(_) => "mixed",
+            Why::Open(_) => "open",
+            Why::Depth => "depth",
+            Why::Path => "path",
+            Why::Kind => "kind",
+            Why::Pattern => "pattern",
+            Why::Twice => "twice",
+            Why::Many => "many",
+            Why::Line(_) => "line",
+            Why::Utf8 => "utf8",
+        }
+    }
+
+    // The number that is told with it.
+    fn number(&self) -> Option<u32>
+        ensures { result ≡ number_in self.now }
     {
         match *self {
-            Why::Absent => ("absent", None),
-            Why::Large => ("large", None),
-            Why::Json => ("json", None),
-            Why::Object => ("object", None),
-            Why::List => ("list", None),
-            Why::Text => ("text", None),
-            Why::Bool => ("bool", None),
-            Why::Number => ("number", None),
-            Why::Item => ("item", None),
-            Why::Missing => ("missing", None),
-            Why::Name => ("name", None),
-            Why::Reserved => ("reserved", None),
-            Why::TwoVersions => ("two-versions", None),
-            Why::NoVersion => ("no-version", None),
-            Why::Version => ("version", None),
-            Why::Range => ("range", None),
-            Why::Day => ("day", None),
-            Why::Unexpected(at) => ("unexpected", Some(at)),
-            Why::Mixed(at) => ("mixed", Some(at)),
-            Why::Open(at) => ("open", Some(at)),
-            Why::Depth => ("depth", None),
-            Why::Path => ("path", None),
-            Why::Kind => ("kind", None),
-            Why::Pattern => ("pattern", None),
-            Why::Twice => ("twice", None),
-            Why::Many => ("many", None),
-            Why::Line(n) => ("line", Some(n)),
-            Why::Utf8 => ("utf8", None),
+            Why::Unexpected(n) | Why::Mixed(n) | Why::Open(n) | Why::Line(n) => Some(n),
+            _ => None,
         }
     }
 
     fn is_named(&self, name: &str) -> bool
         ensures { result ≡ bytes_eq (name_of self.now) name.now }
     {
-        self.parts().0 == name
+        self.name() == name
     }
 }
 

@@ -7,7 +7,7 @@ use Rattle.serde_json.specs.Data.{Data}
 use Rattle.vk_spec.specs.Reading.{◌>>=◌, read_each}
 use Rattle.vk_spec.specs.Paths.{Path}
 use Rattle.vk_spec.specs.Files.{Files}
-use Rattle.vk_json.specs.Documents.{Fault}
+use Rattle.vk_json.specs.declared.faults.FileFault.{FileFault}
 use Rattle.vk_config.specs.Configs.{Config}
 use Rattle.vk_config.specs.Readings.{config_of}
 use Rattle.vk_config.specs.Embedding.{has_both, embedded_at}
@@ -79,7 +79,7 @@ agree_rest [] more one other agree = agree
 agree_rest (path ∷ front) more one other agree = agree_rest front more one other agree.1
 
 module _ (one other : Files) where
-  early_same : {A : Type 0} (reading : List ℕ → Result A Fault) (path : Path) → files_map.get other path ≡ files_map.get one path → early_at reading path other ≡ early_at reading path one
+  early_same : {A : Type 0} (reading : List ℕ → Result A FileFault) (path : Path) → files_map.get other path ≡ files_map.get one path → early_at reading path other ≡ early_at reading path one
   early_same reading path same = ap (λ o. or_early (told_at path (seen_file reading (seen_in o)))) same
 
   standing_same : (path : Path) → files_map.get other path ≡ files_map.get one path → standing_at path other ≡ standing_at path one

@@ -6,9 +6,9 @@ use Rattle.vk_spec.specs.Reading.{read_each, Gives}
 use Rattle.vk_spec.specs.Files.{Files}
 use Rattle.vk_spec.proofs.ReadingLemmas.{with_front, nothing_yet, goes_on_with, ends_with, is_done_with}
 use Rattle.vk_files.specs.Kept.{IsOf, Held, ReadOnce}
-use Rattle.vk_files.specs.StopViews.{refusal_in}
+use Rattle.vk_files.specs.StopViews.{fault_seen}
 use Rattle.vk_files.specs.Readings.{ReadsAs}
-use Rattle.vk_files.specs.declared.stops.Stop.{Stop}
+use Rattle.vk_base.specs.declared.stops.Stop.{Stop}
 use Rattle.vk_files.proofs.OnceLemmas.{nothing_read, once_then}
 use Rattle.vk_spec.proofs.OptionLemmas.{of_each, of_both}
 use Rattle.vk_files.proofs.ReadMore.{known_before}
@@ -45,8 +45,8 @@ module _ {X R A F P : Type 0} (refusal : F → P) (out : R → A) (one : X → F
       → ReadSoFar out one front now all a b → ReadsAs {X = R} refusal out (Err s) (one x) b c → ReadsAs {X = List R} refusal (λ l. map out l) (Err s) (λ f. read_each (λ _ x. one x f) 0 all) a c
   so_far_stopped front s x now left all a b c is so_far then = record {
     once = once_then so_far.once then.once;
-    content = of_both a.tree.told so_far.content (known_before (λ f. Gives {X = R} out (refusal_in refusal) (Err s) (one x f)) so_far.once then.content)
-        (λ t sofar fails old. ends_with (refusal_in refusal s) (λ x. one x t.files) (map out front) x left _ (fails old) (rw is at sofar old));
+    content = of_both a.tree.told so_far.content (known_before (λ f. Gives {X = R} out (fault_seen refusal) (Err s) (one x f)) so_far.once then.content)
+        (λ t sofar fails old. ends_with (fault_seen refusal s) (λ x. one x t.files) (map out front) x left _ (fails old) (rw is at sofar old));
   }
 
   -- all were read

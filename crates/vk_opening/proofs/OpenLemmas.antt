@@ -8,8 +8,8 @@ use Rattle.vk_files.specs.Kept.{Kept, paths_of, IsOf, Held}
 use Rattle.vk_files.specs.Views.{kept_of}
 use Rattle.vk_files.specs.Readings.{ReadsAs}
 use Rattle.vk_files.specs.declared.caches.FileCache.{FileCache}
-use Rattle.vk_files.specs.declared.stops.Stop.{Stop}
-use Rattle.vk_files.specs.declared.stops.Stop.TheVariants as stop
+use Rattle.vk_base.specs.declared.stops.Stop.{Stop}
+use Rattle.vk_base.specs.declared.stops.Stop.TheVariants as stop
 use Rattle.vk_model.specs.declared.projects.Project.{Project}
 use Rattle.vk_config.specs.Configs.{Config}
 use Rattle.vk_opening.specs.Openings.{opening_with, opened_of}
@@ -59,21 +59,21 @@ opens_with project (Ok o) files before after kept none distinct r = record {
   kept = refl;
   content = of_both before.told r.content r.content (λ t is _. is (rw none tt));
 }
-opens_with project (Err (stop.Refused early)) files before after kept none distinct r = record {
+opens_with project (Err (stop.Fault early)) files before after kept none distinct r = record {
   read = kept_of files;
   once = rw none at r.once;
   distinct = distinct;
   kept = tt;
   content = of_both before.told r.content r.content (λ t is _. is (rw none tt));
 }
-opens_with project (Err stop.TreeFailed) files before after kept none distinct r = record {
+opens_with project (Err stop.Failed) files before after kept none distinct r = record {
   read = kept_of files;
   once = rw none at r.once;
   distinct = distinct;
   kept = tt;
   content = of_both before.told r.content r.content (λ t is _. tt);
 }
-opens_with project (Err stop.Memory) files before after kept none distinct r = record {
+opens_with project (Err (stop.Memory m)) files before after kept none distinct r = record {
   read = kept_of files;
   once = rw none at r.once;
   distinct = distinct;

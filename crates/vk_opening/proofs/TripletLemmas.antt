@@ -7,9 +7,8 @@ use Rattle.vk_spec.specs.Paths.{Path}
 use Rattle.vk_spec.specs.Files.{Files}
 use Rattle.vk_files.specs.Kept.{Held}
 use Rattle.vk_files.specs.Readings.{ReadsAs}
-use Rattle.vk_files.specs.declared.stops.Stop.{Stop}
-use Rattle.vk_triplet.specs.TripletViews.{triplet_view}
-use Rattle.vk_triplet.specs.declared.triplets.Triplet.{Triplet}
+use Rattle.vk_base.specs.declared.stops.Stop.{Stop}
+use Rattle.vk_triplet.specs.TripletReadings.{Triplet}
 use Rattle.vk_triplet.specs.TripletReadings as plain
 use Rattle.vk_spec.specs.Earlies.{Early}
 use Rattle.vk_opening.specs.TripletFiles.{Triplets, triplet_at, triplets_at}
@@ -32,7 +31,7 @@ after_first host folders first files = triplet_at host folders files >>= λ seco
 
 -- a triplet that was read is also that of the same name
 pub read_twice : (name : List ℕ) (folders : List Path) (first second : Triplet) (a b : Held) → second ≡ first
-    → ReadsAs early_view triplet_view (Ok first) (triplet_at name folders) a b
+    → ReadsAs early_view (λ t. t) (Ok first) (triplet_at name folders) a b
     → ReadsAs early_view triplets_view (Ok (record { target = first; host = second })) (triplets_at name name folders) a b
 unfolding triplets_at
 read_twice name folders first second a b same read = record {
@@ -40,7 +39,7 @@ read_twice name folders first second a b same read = record {
   content = of_both a.tree.told read.content read.content (λ t is _ old. both t.files (is old));
 }
   where
-    both : (files : Files) → triplet_at name folders files ≡ Ok (triplet_view first) → triplets_at name name folders files ≡ Ok (triplets_view (record { target = first; host = second }))
+    both : (files : Files) → triplet_at name folders files ≡ Ok first → triplets_at name name folders files ≡ Ok (triplets_view (record { target = first; host = second }))
     both files is = rw (is, same) refl
 
 -- what is read for one name is read for two that are one

@@ -4,11 +4,10 @@ use Rattle.vk_model.specs.Views.{override_view}
 use Rattle.vk_model.specs.SettingViews.{setting_view}
 use Rattle.vk_config.specs.Views.{config_view}
 use Rattle.vk_files.specs.declared.caches.FileCache.{FileCache}
-use Rattle.vk_files.specs.declared.stops.Stop.{Stop}
-use Rattle.vk_files.specs.declared.stops.Stop.TheVariants as stop
+use Rattle.vk_base.specs.declared.stops.Stop.{Stop}
+use Rattle.vk_base.specs.declared.stops.Stop.TheVariants as stop
 use Rattle.vk_base.specs.FeatureViews.{feature_view}
 use Rattle.vk_config.specs.Configs.{Config}
-use Rattle.vk_triplet.specs.TripletViews.{triplet_view}
 use Rattle.vk_triplet.specs.Meanings.{meaning_of}
 use Rattle.vk_model.specs.declared.projects.Project.{Project}
 use Rattle.vk_opening.specs.Roots.{Root}
@@ -31,8 +30,8 @@ abbrev pub opening_found : Project → Root → Config → Found → plain.Openi
 opening_found project root config found = record {
   setting = record {
     root = root.manifest;
-    target = meaning_of (triplet_view found.triplets.target);
-    host = meaning_of (triplet_view found.triplets.host);
+    target = meaning_of found.triplets.target;
+    host = meaning_of found.triplets.host;
     features = map feature_view found.own.features;
     defaults = project.defaults;
     off = [];
@@ -56,6 +55,6 @@ ready o files = opened.Ready o.setting (record { folder = o.folder; config = o.c
 
 abbrev pub answer_of : Result Opening (Stop Early) → FileCache → Result Opened OpenStop
 answer_of (Ok o) files = Ok (ready o files)
-answer_of (Err (stop.Refused early)) files = Ok (opened.Refused early)
-answer_of (Err stop.TreeFailed) files = Err open_stop.TreeFailed
-answer_of (Err stop.Memory) files = Err open_stop.Memory
+answer_of (Err (stop.Fault early)) files = Ok (opened.Refused early)
+answer_of (Err stop.Failed) files = Err open_stop.TreeFailed
+answer_of (Err (stop.Memory m)) files = Err open_stop.Memory

@@ -6,9 +6,10 @@ use Rattle.vk_spec.specs.Paths.{Path}
 use Rattle.vk_spec.specs.Files.{Files}
 use Rattle.vk_json.specs.declared.faults.Why.{Why}
 use Rattle.vk_json.specs.declared.faults.Why.TheVariants as why
-use Rattle.vk_json.specs.Documents.{Fault}
-use Rattle.vk_fields.specs.Texts.{said_here}
-use Rattle.vk_triplet.specs.TripletReadings as triplet
+use Rattle.vk_json.specs.declared.faults.FileFault.{FileFault}
+use Rattle.vk_fields.specs.Saying.{said_here}
+use Rattle.vk_triplet.specs.declared.faults.TripletFault.{TripletFault}
+use Rattle.vk_triplet.specs.declared.faults.TripletFault.TheVariants as triplet_fault
 use Rattle.vk_triplet.specs.TripletReadings.{Triplet, triplet_of}
 use Rattle.vk_files.specs.Readings.{is_at}
 use Rattle.vk_spec.specs.Earlies.{Early, no_triplet}
@@ -16,12 +17,12 @@ use Rattle.vk_opening.specs.Roots.{early_at}
 use Rattle.vk_opening.specs.Projects.{triplet_path}
 
 -- the word for what is wrong with a triplet file
-abbrev pub triplet_word : triplet.Fault → Why
-triplet_word (triplet.line n) = why.Line n
-triplet_word triplet.not_text = why.Utf8
+abbrev pub triplet_word : TripletFault → Why
+triplet_word (triplet_fault.Line n) = why.Line n
+triplet_word triplet_fault.NotText = why.Utf8
 
 -- the triplet that a file of this name is; its faults are told of the whole
-unfoldable pub triplet_in : List ℕ → List ℕ → Result Triplet Fault
+unfoldable pub triplet_in : List ℕ → List ℕ → Result Triplet FileFault
 triplet_in name bytes = said_here triplet_word (triplet_of name bytes)
 
 -- the first of the folders' files of a triplet that is there

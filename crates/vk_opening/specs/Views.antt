@@ -1,7 +1,6 @@
 -- What contracts see of a start and of a setting: plain data.
 use Rattle.std.specs.Prelude.{map}
 use Rattle.vk_json.specs.DocumentView.{doc_data}
-use Rattle.vk_triplet.specs.TripletViews.{triplet_view}
 use Rattle.vk_model.specs.Views.{manifest_view, override_view}
 use Rattle.vk_model.specs.SettingViews.{setting_view}
 use Rattle.vk_config.specs.Views.{config_view}
@@ -29,7 +28,7 @@ abbrev pub root_view : Root → plain_root.Root
 root_view r = record { manifest = manifest_view r.manifest; document = doc_data r.document }
 
 abbrev pub triplets_view : Triplets → plain_triplets.Triplets
-triplets_view t = record { target = triplet_view t.target; host = triplet_view t.host }
+triplets_view t = record { target = t.target; host = t.host }
 
 -- a setting and a start, together
 abbrev pub ready_view : Setting → Start → plain_opening.Opening

@@ -7,7 +7,8 @@ ghost use Rattle.vk_config.specs.Readings.{config_of};
 ghost use Rattle.vk_config.specs.Embedding.{embedded_at};
 ghost use Rattle.vk_config.specs.Views.{config_view, embedded_view};
 ghost use Rattle.vk_files.specs.Views.{held};
-ghost use Rattle.vk_files.specs.StopViews.{refusal_in, has_tree_failed};
+ghost use Rattle.vk_base.specs.Stops.{has_failed};
+ghost use Rattle.vk_files.specs.StopViews.{fault_seen};
 ghost use Rattle.vk_files.specs.StandingViews.{standing_view};
 ghost use Rattle.vk_files.specs.Readings.{ReadsAs, told_at};
 ghost use Rattle.vk_model.specs.EarlyViews.{early_view};
@@ -19,9 +20,9 @@ use crate::projects::{config_path, manifest_path};
 use crate::readings::{bad_file, read_early, standing};
 use serde_json::Value;
 use std::alloc::Global;
-use vk_base::{List, TreePath};
+use vk_base::{List, Stop, TreePath, Unread};
 use vk_config::{Config, Embedded, read_config};
-use vk_files::{FileCache, FileReader, Standing, Stop};
+use vk_files::{FileCache, FileReader, Standing};
 use vk_json::{FileFault, member};
 use vk_model::Early;
 use vk_tree::Tree;
@@ -39,7 +40,7 @@ impl FileReader for ConfigFile {
 
     ghost reads = { λ r. config_of };
 
-    fn read(&self, alloc: Global, bytes: &[u8]) -> Result<Config, FileFault> {
+    fn read(&self, alloc: Global, bytes: &[u8]) -> Result<Config, Unread<FileFault>> {
         read_config(alloc, bytes)
     }
 }
@@ -52,8 +53,8 @@ fn has_configuration(document: &Value) -> bool
 
 // The configuration that counts, by what the root manifest has of it.
 fn only_of(alloc: Global, embedded: Embedded) -> Result<Config, Stop<Early>>
-    ensures given { Gives config_view (refusal_in early_view) result (only_of (embedded_view embedded)) }
-    ensures calm { has_tree_failed result ≡ false }
+    ensures given { Gives config_view (fault_seen early_view) result (only_of (embedded_view embedded)) }
+    ensures calm { has_failed result ≡ false }
 {
     match embedded {
         Embedded::Nothing => Ok(Config {
@@ -63,7 +64,7 @@ fn only_of(alloc: Global, embedded: Embedded) -> Result<Config, Stop<Early>>
             overlay_triplets: List::new(alloc),
         }),
         Embedded::One(config) => Ok(config),
-        Embedded::Two => Err(Stop::Refused(Early::TwoConfigurations)),
+        Embedded::Two => Err(Stop::Fault(Early::TwoConfigurations)),
     }
 }
 
@@ -73,20 +74,20 @@ fn read_embedded(
     folder: &TreePath,
     document: &Value,
 ) -> Result<Embedded, Stop<Early>>
-    ensures given { Gives embedded_view (refusal_in early_view) result (or_early (told_at (manifest_path folder.now) (embedded_at (view document.now)))) }
-    ensures calm { has_tree_failed result ≡ false }
+    ensures given { Gives embedded_view (fault_seen early_view) result (or_early (told_at (manifest_path folder.now) (embedded_at (view document.now)))) }
+    ensures calm { has_failed result ≡ false }
 {
     let path = manifest_path(alloc, folder)?;
     match vk_config::embedded_in(alloc, document) {
         Ok(embedded) => Ok(embedded),
-        Err(fault) => Err(bad_file(path, fault)),
+        Err(unread) => Err(bad_file(path, unread)),
     }
 }
 
 // The configuration in the root manifest.
 fn embedded_in(alloc: Global, folder: &TreePath, document: &Value) -> Result<Config, Stop<Early>>
-    ensures given { Gives config_view (refusal_in early_view) result (embedded_in folder.now (view document.now)) }
-    ensures calm { has_tree_failed result ≡ false }
+    ensures given { Gives config_view (fault_seen early_view) result (embedded_in folder.now (view document.now)) }
+    ensures calm { has_failed result ≡ false }
 {
     only_of(alloc, read_embedded(alloc, folder, document)?)
 }
@@ -115,7 +116,7 @@ fn alone_in<T: Tree>(
     ensures { ReadsAs early_view config_view result (alone_in folder.now (view document.now)) (held files.old (T.state tree.old)) (held files.new (T.state tree.new)) }
 {
     if has_configuration(document) {
-        return Err(Stop::Refused(Early::TwoConfigurations));
+        return Err(Stop::Fault(Early::TwoConfigurations));
     }
     config_file(alloc, files, tree, folder)
 }

@@ -21,9 +21,9 @@ use crate::roots::{Root, RootFile};
 use crate::starts::{Overlay, Start};
 use crate::triplet_files::{Triplets, read_triplets};
 use std::alloc::Global;
-use vk_base::{FeatureName, List, Memory, TreePath};
+use vk_base::{FeatureName, List, Memory, Stop, TreePath};
 use vk_config::Config;
-use vk_files::{FileCache, Stop};
+use vk_files::FileCache;
 use vk_model::{Early, Override, Project, Setting};
 use vk_tree::Tree;
 
@@ -250,9 +250,9 @@ fn answer(read: Result<Opening, Stop<Early>>, files: FileCache) -> Result<Opened
 {
     match read {
         Ok(opening) => Ok(ready(opening, files)),
-        Err(Stop::Refused(early)) => Ok(Opened::Refused(early)),
-        Err(Stop::TreeFailed) => Err(OpenStop::TreeFailed),
-        Err(Stop::Memory) => Err(OpenStop::Memory),
+        Err(Stop::Fault(early)) => Ok(Opened::Refused(early)),
+        Err(Stop::Failed) => Err(OpenStop::TreeFailed),
+        Err(Stop::Memory(_)) => Err(OpenStop::Memory),
     }
 }
 

@@ -15,8 +15,8 @@ use crate::roots::PortFile;
 use crate::starts::Overlay;
 use std::alloc::Global;
 use std::rc::Rc;
-use vk_base::{List, TreePath};
-use vk_files::{FileCache, Standing, Stop};
+use vk_base::{List, Stop, TreePath};
+use vk_files::{FileCache, Standing};
 use vk_model::{Early, Manifest};
 use vk_tree::Tree;
 

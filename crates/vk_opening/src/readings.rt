@@ -1,43 +1,43 @@
 //! A file that is read, and its fault as an early line.
 ghost use Rattle.std.specs.Prelude.{◌≡◌, false, Ok, option_map};
-ghost use Rattle.vk_json.specs.DocumentView.{file_fault_of};
 ghost use Rattle.vk_files.specs.Views.{held};
-ghost use Rattle.vk_files.specs.StopViews.{refusal_in, is_tree_failed};
+ghost use Rattle.vk_base.specs.Stops.{fault_in, is_failure};
+ghost use Rattle.vk_files.specs.StopViews.{fault_seen};
 ghost use Rattle.vk_files.specs.StandingViews.{standing_view};
 ghost use Rattle.vk_files.specs.Readings.{ReadsAs, bad_view, standing_at};
 ghost use Rattle.vk_opening.specs.Roots.{line_of, early_at, line_at};
 ghost use Rattle.vk_model.specs.EarlyViews.{early_view};
 
 use std::alloc::Global;
-use vk_base::TreePath;
+use vk_base::{Stop, TreePath, Unread};
 use vk_files as files;
-use vk_files::{BadFile, FileCache, FileReader, Standing, Stop};
+use vk_files::{BadFile, FileCache, FileReader, Standing};
 use vk_json::FileFault;
 use vk_model::Early;
 use vk_tree::Tree;
 
 /// The fault of a file, with the file.
-pub fn bad_file(path: TreePath, fault: FileFault) -> Stop<Early>
-    ensures told { refusal_in early_view result ≡ option_map (line_at path) (file_fault_of fault) }
-    ensures calm { is_tree_failed result ≡ false }
+pub fn bad_file(path: TreePath, unread: Unread<FileFault>) -> Stop<Early>
+    ensures told { fault_seen early_view result ≡ option_map (line_at path) (fault_in unread) }
+    ensures calm { is_failure result ≡ false }
 {
-    match fault {
-        FileFault::Wrong { place, why } => Stop::Refused(Early::BadFile { path, place, why }),
-        FileFault::Memory => Stop::Memory,
+    match unread {
+        Unread::Fault(FileFault { place, why }) => Stop::Fault(Early::BadFile { path, place, why }),
+        Unread::Memory(memory) => Stop::Memory(memory),
     }
 }
 
 // A stop at a bad file as a stop at an early line.
 fn early(stop: Stop<BadFile>) -> Stop<Early>
-    ensures told { refusal_in early_view result ≡ option_map line_of (refusal_in bad_view stop) }
-    ensures failed { is_tree_failed result ≡ is_tree_failed stop }
+    ensures told { fault_seen early_view result ≡ option_map line_of (fault_seen bad_view stop) }
+    ensures failed { is_failure result ≡ is_failure stop }
 {
     match stop {
-        Stop::Refused(BadFile { path, place, why }) => {
-            Stop::Refused(Early::BadFile { path, place, why })
+        Stop::Fault(BadFile { path, place, why }) => {
+            Stop::Fault(Early::BadFile { path, place, why })
         }
-        Stop::TreeFailed => Stop::TreeFailed,
-        Stop::Memory => Stop::Memory,
+        Stop::Failed => Stop::Failed,
+        Stop::Memory(memory) => Stop::Memory(memory),
     }
 }
 

@@ -7,6 +7,7 @@ ghost use Rattle.vk_opening.specs.Roots.{root_in, port_in};
 ghost use Rattle.vk_opening.specs.Views.{root_view};
 
 use std::alloc::Global;
+use vk_base::Unread;
 use vk_files::FileReader;
 use vk_json::{Doc, FileFault};
 use vk_manifest::{read_manifest, read_manifest_in};
@@ -33,7 +34,7 @@ impl FileReader for RootFile {
 
     ghost reads = { λ r. root_in };
 
-    fn read(&self, alloc: Global, bytes: &[u8]) -> Result<Root, FileFault> {
+    fn read(&self, alloc: Global, bytes: &[u8]) -> Result<Root, Unread<FileFault>> {
         let document = Doc::read(alloc, bytes)?;
         let manifest = read_manifest_in(alloc, document.value(), true)?;
         Ok(Root { manifest, document })
@@ -53,7 +54,7 @@ impl FileReader for PortFile {
 
     ghost reads = { λ r. port_in };
 
-    fn read(&self, alloc: Global, bytes: &[u8]) -> Result<Manifest, FileFault> {
+    fn read(&self, alloc: Global, bytes: &[u8]) -> Result<Manifest, Unread<FileFault>> {
         read_manifest(alloc, bytes, false)
     }
 }

@@ -1,13 +1,11 @@
 //! The triplets of a project, each the first file of its name in folders of triplets.
 ghost use Rattle.std.specs.Prelude.{◌≡◌, ◌↔◌, false, Ok, Err, IsTrue, option_map};
 ghost use Rattle.vk_spec.specs.Reading.{Fails};
-ghost use Rattle.vk_json.specs.DocumentView.{file_fault_of};
 ghost use Rattle.vk_json.specs.Places.{here};
 ghost use Rattle.vk_triplet.specs.TripletReadings as plain;
-ghost use Rattle.vk_triplet.specs.TripletViews.{triplet_view};
-ghost use Rattle.vk_triplet.specs.Views.{triplet_fault_of};
 ghost use Rattle.vk_files.specs.Views.{held};
-ghost use Rattle.vk_files.specs.StopViews.{refusal_in, is_tree_failed};
+ghost use Rattle.vk_base.specs.Stops.{fault_in, is_failure};
+ghost use Rattle.vk_files.specs.StopViews.{fault_seen};
 ghost use Rattle.vk_files.specs.Readings.{ReadsAs, is_at};
 ghost use Rattle.vk_spec.specs.Earlies as early;
 ghost use Rattle.vk_model.specs.EarlyViews.{early_view};
@@ -18,21 +16,21 @@ ghost use Rattle.vk_opening.specs.Views.{triplets_view};
 use crate::projects::triplet_path;
 use crate::readings::{read_early, standing};
 use std::alloc::Global;
-use vk_base::{TreePath, TripletName};
-use vk_files::{FileCache, FileReader, Stop};
+use vk_base::{Stop, TreePath, TripletName, Unread};
+use vk_files::{FileCache, FileReader};
 use vk_json::{FileFault, Why, wrong};
 use vk_model::Early;
 use vk_tree::Tree;
 use vk_triplet::{Triplet, TripletFault};
 
 // What is wrong with a triplet file, told of the whole.
-fn wrong_triplet(alloc: Global, fault: TripletFault) -> FileFault
-    ensures { file_fault_of result ≡ option_map (λ f. here (triplet_word f)) (triplet_fault_of fault) }
+fn wrong_triplet(alloc: Global, unread: Unread<TripletFault>) -> Unread<FileFault>
+    ensures { fault_in result ≡ option_map (λ f. here (triplet_word f)) (fault_in unread) }
 {
-    match fault {
-        TripletFault::Line { n } => wrong(alloc, Why::Line(n)),
-        TripletFault::NotText => wrong(alloc, Why::Utf8),
-        TripletFault::Memory => FileFault::Memory,
+    match unread {
+        Unread::Fault(TripletFault::Line { n }) => wrong(alloc, Why::Line(n)),
+        Unread::Fault(TripletFault::NotText) => wrong(alloc, Why::Utf8),
+        Unread::Memory(memory) => Unread::Memory(memory),
     }
 }
 
@@ -46,14 +44,14 @@ impl FileReader for TripletFile<'_> {
 
     ghost Plain = { plain.Triplet };
 
-    ghost plain = { triplet_view };
+    ghost plain = { λ t. t };
 
     ghost reads = { λ r. triplet_in r.0.now };
 
-    fn read(&self, alloc: Global, bytes: &[u8]) -> Result<Triplet, FileFault> {
+    fn read(&self, alloc: Global, bytes: &[u8]) -> Result<Triplet, Unread<FileFault>> {
         match vk_triplet::read(alloc, self.0, bytes) {
             Ok(triplet) => Ok(triplet),
-            Err(fault) => Err(wrong_triplet(alloc, fault)),
+            Err(unread) => Err(wrong_triplet(alloc, unread)),
         }
     }
 }
@@ -88,12 +86,12 @@ fn triplet_file<T: Tree>(
 }
 
 fn no_triplet(name: &TripletName) -> Stop<Early>
-    ensures told { Fails {Y = plain.Triplet} (refusal_in early_view result) (Err (early.no_triplet name.now)) }
-    ensures calm { is_tree_failed result ≡ false }
+    ensures told { Fails {Y = plain.Triplet} (fault_seen early_view result) (Err (early.no_triplet name.now)) }
+    ensures calm { is_failure result ≡ false }
 {
     match name.clone() {
-        Ok(name) => Stop::Refused(Early::NoTriplet { name }),
-        Err(_) => Stop::Memory,
+        Ok(name) => Stop::Fault(Early::NoTriplet { name }),
+        Err(lack) => Stop::from(lack),
     }
 }
 
@@ -104,7 +102,7 @@ fn triplet_from<T: Tree>(
     name: &TripletName,
     path: Option<TreePath>,
 ) -> Result<Triplet, Stop<Early>>
-    ensures { ReadsAs early_view triplet_view result (triplet_from name.now path)
+    ensures { ReadsAs early_view (λ t. t) result (triplet_from name.now path)
         (held files.old (T.state tree.old)) (held files.new (T.state tree.new)) }
 {
     match path {
@@ -121,7 +119,7 @@ fn read_triplet<T: Tree>(
     name: &TripletName,
     folders: &[TreePath],
 ) -> Result<Triplet, Stop<Early>>
-    ensures { ReadsAs early_view triplet_view result (triplet_at name.now folders.now)
+    ensures { ReadsAs early_view (λ t. t) result (triplet_at name.now folders.now)
         (held files.old (T.state tree.old)) (held files.new (T.state tree.new)) }
 {
     let path = triplet_file(alloc, files, tree, name, folders)?;

@@ -8,13 +8,14 @@ use Rattle.vk_spec.specs.Pages as page
 use Rattle.vk_registry.specs.Baselines.{Entry}
 use Rattle.vk_registry.specs.declared.baselines.Baseline.{Baseline}
 use Rattle.vk_catalogue.specs.Views.{given_view, wrong_view}
-use Rattle.vk_catalogue.specs.declared.wrongs.Given.{Given}
-use Rattle.vk_catalogue.specs.declared.wrongs.Wrong.{Wrong}
+use Rattle.vk_model.specs.declared.wrongs.Given.{Given}
+use Rattle.vk_model.specs.declared.wrongs.Wrong.{Wrong}
 use Rattle.vk_files.specs.Kept.{Held}
-use Rattle.vk_files.specs.StopViews.{refusal_in, has_tree_failed}
+use Rattle.vk_base.specs.Stops.{has_failed}
+use Rattle.vk_files.specs.StopViews.{fault_seen}
 use Rattle.vk_files.specs.Readings.{Bad, ReadsAs, ReadsNoting}
-use Rattle.vk_files.specs.declared.stops.BadFile.{BadFile}
-use Rattle.vk_files.specs.declared.stops.Stop.{Stop}
+use Rattle.vk_files.specs.declared.bad_files.BadFile.{BadFile}
+use Rattle.vk_base.specs.declared.stops.Stop.{Stop}
 use Rattle.vk_files.proofs.FirstLemmas.{never}
 use Rattle.vk_files.proofs.NoteLemmas.{right_more, right_found}
 use Rattle.vk_files.proofs.NotingLemmas.{noting_pure, noting_then}
@@ -47,7 +48,7 @@ pub noted_none : (Known : Files → Type 0) (s : Stop Wrong) (served : Served) (
     → ReadsAs {X = Result Baseline BadFile} wrong_view read_view (Err s) (λ f. Ok (baseline_file served f)) a b → ReadsNoting {X = Unit {0}} wrong_view (λ done. tt {0}) (Err s) nothing_said Known Known a b
 noted_none Known s served a b one = record {
   once = one.once;
-  content = of_both a.tree.told one.content one.content (λ t fails _ old known. (known, never (refusal_in wrong_view s) (baseline_file served t.files) (tt {0}) (fails old)));
+  content = of_both a.tree.told one.content one.content (λ t fails _ old known. (known, never (fault_seen wrong_view s) (baseline_file served t.files) (tt {0}) (fails old)));
 }
 
 -- what is noted is what the file says
@@ -61,7 +62,7 @@ note_right start f served place read notes is known found =
 
 -- what a note gives is what the file gives
 pub note_gives : (start : Start) (served : Served) (place : ℕ) (port : List ℕ) (read : Result (List Entry) Bad) (notes before : BaselineNotes) (answer : Result Given (Stop Wrong)) (a b : Held) → served_at start place ≡ Ok served
-    → note_at place notes ≡ Some read → has_tree_failed answer ≡ false → Gives given_view (refusal_in wrong_view) answer (baseline_given port read)
+    → note_at place notes ≡ Some read → has_failed answer ≡ false → Gives given_view (fault_seen wrong_view) answer (baseline_given port read)
     → ReadsNoting {F = Wrong} wrong_view (λ done. tt {0}) (Ok (tt {0})) nothing_said (AreBaselines start before) (AreBaselines start notes) a b
     → ReadsNoting wrong_view given_view answer (baseline_for served port) (AreBaselines start before) (AreBaselines start notes) a b
 note_gives start served place port read notes before answer a b is found calm gives looked =

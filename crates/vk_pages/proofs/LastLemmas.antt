@@ -4,7 +4,7 @@ use Rattle.std.specs.Prelude.{IfSome, Result, Ok, Err}
 use Rattle.vk_spec.specs.Files.{Files}
 use Rattle.vk_files.specs.Kept.{IsOf, Held}
 use Rattle.vk_files.specs.Readings.{ReadsNoting}
-use Rattle.vk_files.specs.declared.stops.Stop.{Stop}
+use Rattle.vk_base.specs.declared.stops.Stop.{Stop}
 
 module _ {X Y Z F P : Type 0} {refusal : F → P} {view : X → Y} {meaning : Files → Result Y P} {a b : Held} where
   -- a stop is the same under any view

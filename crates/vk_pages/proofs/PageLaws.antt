@@ -14,7 +14,7 @@ use Rattle.vk_spec.proofs.ListLemmas.{contains_nothing, contains_cases}
 use Rattle.vk_spec.specs.Catalogues.{CanBeOfGiven, CanBeOfRow, HasOwnAlone, IsPage}
 use Rattle.vk_config.specs.Configs.{Source, filesystem, git, builtin, artifact}
 use Rattle.vk_spec.specs.Conditions.{Condition}
-use Rattle.vk_json.specs.Documents.{Fault}
+use Rattle.vk_json.specs.declared.faults.FileFault.{FileFault}
 use Rattle.vk_json.specs.Words.{word_of}
 use Rattle.vk_json.specs.declared.faults.Why.TheVariants as why
 use Rattle.vk_registry.specs.Baselines.{Entry, ask_for}
@@ -130,7 +130,7 @@ by_set (Some ask) served port files = tt
 by_set None served port files = given_set port (baseline_file served files)
 
 -- what is read as a table is one
-read_is : (path : Path) (r : Result (List Row) Fault) → ((rows : List Row) → r ≡ Ok rows → IsTable rows) → IfOk (or_wrong (told_at path r)) IsTable
+read_is : (path : Path) (r : Result (List Row) FileFault) → ((rows : List Row) → r ≡ Ok rows → IsTable rows) → IfOk (or_wrong (told_at path r)) IsTable
 read_is path (Ok rows) each = each rows refl
 read_is path (Err fault) each = tt
 

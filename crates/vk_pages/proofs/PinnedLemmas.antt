@@ -16,7 +16,7 @@ use Rattle.vk_spec.specs.Pages as the
 use Rattle.vk_spec.specs.Pages.{Wrong, bad_file, disagrees, Given, override, baseline, has_override, is_overlay_file, is_pinned_by}
 use Rattle.vk_spec.specs.Conditions.{Condition}
 use Rattle.vk_spec.specs.Earlies.{Early}
-use Rattle.vk_json.specs.Documents.{Fault}
+use Rattle.vk_json.specs.declared.faults.FileFault.{FileFault}
 use Rattle.vk_json.specs.Words.{word_of}
 use Rattle.vk_manifest.specs.Manifests.{manifest_of}
 use Rattle.vk_manifest.proofs.DocumentLemmas.{is_read}
@@ -65,7 +65,7 @@ each_then Q (Ok x) f each = each x
 each_then Q (Err e) f each = tt
 
 -- what a port's reader gives has a version
-port_has : (bytes : List ℕ) (r : Result (Manifest Condition) Fault) → manifest_of bytes false ≡ r → IfOk r (λ m. IsSome m.version)
+port_has : (bytes : List ℕ) (r : Result (Manifest Condition) FileFault) → manifest_of bytes false ≡ r → IfOk r (λ m. IsSome m.version)
 port_has bytes (Ok m) e = (is_read bytes false m e).1.versioned
 port_has bytes (Err fault) e = tt
 
@@ -74,7 +74,7 @@ seen_has absent = tt
 seen_has too_large = tt
 seen_has (holds bytes) = port_has bytes (port_in bytes) refl
 
-early_has : (path : Path) (r : Result (Manifest Condition) Fault) → IfOk r (λ m. IsSome m.version) → IfOk (or_early (told_at path r)) (λ m. IsSome m.version)
+early_has : (path : Path) (r : Result (Manifest Condition) FileFault) → IfOk r (λ m. IsSome m.version) → IfOk (or_early (told_at path r)) (λ m. IsSome m.version)
 early_has path (Ok m) is = is
 early_has path (Err fault) is = tt
 
@@ -209,9 +209,9 @@ module _ (overrides : List Override) (port : List ℕ) (files : Files) where
   says_each b (Ok x) f one each = each x
   says_each b (Err wrong) f one each = one
 
-  file_says : {A : Type 0} (b : Bool) (path : Path) (r : Result A Fault) → ((place word : List ℕ) → SaysWrong b (bad_file path place word)) → IfErr (or_wrong (told_at path r)) (SaysWrong b)
+  file_says : {A : Type 0} (b : Bool) (path : Path) (r : Result A FileFault) → ((place word : List ℕ) → SaysWrong b (bad_file path place word)) → IfErr (or_wrong (told_at path r)) (SaysWrong b)
   file_says b path (Ok x) each = tt
-  file_says b path (Err fault) each = each fault.0 (word_of fault.1)
+  file_says b path (Err fault) each = each fault.place (word_of fault.why)
 
   -- overlays
   version_says : (folder : Path) (m : Manifest Condition) (wrong : Wrong) (v : Option Version) → IsSome v → Says true (or_fault wrong v >>= λ v. Ok (in_overlay folder v m))
@@ -233,7 +233,7 @@ module _ (overrides : List Override) (port : List ℕ) (files : Files) where
   unfolding named_home
   named_says folder m is = says_each true (named (manifest_path folder) port m) (λ same. overlay_home folder m) (name_says (bytes_eq port (name_text m.name)) (manifest_path folder) port (name_text m.name)) (λ same. port_says folder m is)
 
-  wrong_has : (path : Path) (r : Result (Manifest Condition) Fault) → IfOk r (λ m. IsSome m.version) → IfOk (or_wrong (told_at path r)) (λ m. IsSome m.version)
+  wrong_has : (path : Path) (r : Result (Manifest Condition) FileFault) → IfOk r (λ m. IsSome m.version) → IfOk (or_wrong (told_at path r)) (λ m. IsSome m.version)
   wrong_has path (Ok m) is = is
   wrong_has path (Err fault) is = tt
 

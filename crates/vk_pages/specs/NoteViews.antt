@@ -3,7 +3,7 @@ use Rattle.std.specs.Prelude.{List, map, Result, Ok, Err}
 use Rattle.vk_registry.specs.Baselines.{Entry}
 use Rattle.vk_registry.specs.declared.baselines.Baseline.{Baseline}
 use Rattle.vk_files.specs.Readings.{Bad, bad_view}
-use Rattle.vk_files.specs.declared.stops.BadFile.{BadFile}
+use Rattle.vk_files.specs.declared.bad_files.BadFile.{BadFile}
 use Rattle.vk_pages.specs.BaselineNotes.{BaselineNotes}
 use Rattle.vk_pages.specs.declared.baselines.Baselines.{Baselines}
 

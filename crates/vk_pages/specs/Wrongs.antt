@@ -7,7 +7,7 @@ use Rattle.vk_spec.specs.Versions.{Version}
 use Rattle.vk_spec.specs.Manifests.{Manifest}
 use Rattle.vk_spec.specs.Pages.{Wrong, bad_file}
 use Rattle.vk_spec.specs.Conditions.{Condition}
-use Rattle.vk_json.specs.Documents.{Fault}
+use Rattle.vk_json.specs.declared.faults.FileFault.{FileFault}
 use Rattle.vk_json.specs.Words.{word_of}
 use Rattle.vk_json.specs.declared.faults.Why.TheVariants as why
 use Rattle.vk_files.specs.Readings.{Bad, file_at}
@@ -22,7 +22,7 @@ or_wrong (Ok x) = Ok x
 or_wrong (Err bad) = Err (wrong_of bad)
 
 -- what the file at a path means, or what is wrong with it
-abbrev pub file_or_wrong : {A : Type 0} → (List ℕ → Result A Fault) → Path → Files → Result A Wrong
+abbrev pub file_or_wrong : {A : Type 0} → (List ℕ → Result A FileFault) → Path → Files → Result A Wrong
 file_or_wrong reading path files = or_wrong (file_at reading path files)
 
 -- a port's manifest

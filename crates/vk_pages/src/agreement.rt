@@ -8,14 +8,14 @@ ghost use Rattle.vk_json.specs.declared.faults.Why.TheVariants as why;
 ghost use Rattle.vk_version.specs.Views.{class_view};
 ghost use Rattle.vk_model.specs.Views.{manifest_view};
 ghost use Rattle.vk_catalogue.specs.Views.{field_view, wrong_view};
-ghost use Rattle.vk_files.specs.StopViews.{refusal_in, has_tree_failed};
+ghost use Rattle.vk_base.specs.Stops.{has_failed};
+ghost use Rattle.vk_files.specs.StopViews.{fault_seen};
 ghost use Rattle.vk_pages.specs.Wrongs.{stated_version};
 ghost use Rattle.vk_pages.specs.Agreement.{class_word, name_text, same_in, named, version_agrees, agreeing};
 
 use std::alloc::Global;
-use vk_base::{Memory, PortName, Text, TreePath};
+use vk_base::{Memory, PortName, Stop, Text, TreePath};
 use vk_catalogue::{Field, Wrong};
-use vk_files::Stop;
 use vk_json::Why;
 use vk_model::Manifest;
 use vk_version::{Class, Version};
@@ -56,13 +56,13 @@ fn same_in(
     said: &str,
     found: &str,
 ) -> Result<(), Stop<Wrong>>
-    ensures told { Gives (λ done. tt) (refusal_in wrong_view) result (same_in path.now (field_view field) said.now found.now) }
-    ensures calm { has_tree_failed result ≡ false }
+    ensures told { Gives (λ done. tt) (fault_seen wrong_view) result (same_in path.now (field_view field) said.now found.now) }
+    ensures calm { has_failed result ≡ false }
 {
     if said == found {
         return Ok(());
     }
-    Err(Stop::Refused(disagreement(alloc, path, field, said, found)?))
+    Err(Stop::Fault(disagreement(alloc, path, field, said, found)?))
 }
 
 fn name_text(manifest: &Manifest) -> &str
@@ -81,8 +81,8 @@ pub fn named(
     port: &PortName,
     manifest: &Manifest,
 ) -> Result<(), Stop<Wrong>>
-    ensures told { Gives (λ done. tt) (refusal_in wrong_view) result (named path.now port.now (manifest_view manifest.now)) }
-    ensures calm { has_tree_failed result ≡ false }
+    ensures told { Gives (λ done. tt) (fault_seen wrong_view) result (named path.now port.now (manifest_view manifest.now)) }
+    ensures calm { has_failed result ≡ false }
 {
     same_in(alloc, path, Field::Name, port.as_str(), name_text(manifest))
 }
@@ -104,18 +104,18 @@ pub fn stated_version<'a>(
     path: &TreePath,
     manifest: &'a Manifest,
 ) -> Result<&'a Version, Stop<Wrong>>
-    ensures told { Gives (λ v. v.now) (refusal_in wrong_view) result (stated_version path.now (manifest_view manifest.now)) }
-    ensures calm { has_tree_failed result ≡ false }
+    ensures told { Gives (λ v. v.now) (fault_seen wrong_view) result (stated_version path.now (manifest_view manifest.now)) }
+    ensures calm { has_failed result ≡ false }
 {
     match &manifest.version {
         Some(version) => Ok(version),
-        None => Err(Stop::Refused(no_version(alloc, path)?)),
+        None => Err(Stop::Fault(no_version(alloc, path)?)),
     }
 }
 
 fn same_port(alloc: Global, path: &TreePath, said: u32, found: u32) -> Result<(), Stop<Wrong>>
-    ensures told { Gives (λ done. tt) (refusal_in wrong_view) result (same_in path.now the.port (decimal said) (decimal found)) }
-    ensures calm { has_tree_failed result ≡ false }
+    ensures told { Gives (λ done. tt) (fault_seen wrong_view) result (same_in path.now the.port (decimal said) (decimal found)) }
+    ensures calm { has_failed result ≡ false }
 {
     let said = format!(in alloc; "{said}")?;
     let found = format!(in alloc; "{found}")?;
@@ -130,8 +130,8 @@ fn version_agrees(
     said: &Version,
     found: &Version,
 ) -> Result<(), Stop<Wrong>>
-    ensures told { Gives (λ done. tt) (refusal_in wrong_view) result (version_agrees path.now said.now found.now) }
-    ensures calm { has_tree_failed result ≡ false }
+    ensures told { Gives (λ done. tt) (fault_seen wrong_view) result (version_agrees path.now said.now found.now) }
+    ensures calm { has_failed result ≡ false }
 {
     let class = class_word(said.class());
     same_in(alloc, path, Field::Class, class, class_word(found.class()))?;
@@ -151,8 +151,8 @@ pub fn agree(
     version: &Version,
     manifest: &Manifest,
 ) -> Result<(), Stop<Wrong>>
-    ensures told { Gives (λ done. tt) (refusal_in wrong_view) result (agreeing path.now port.now version.now (manifest_view manifest.now)) }
-    ensures calm { has_tree_failed result ≡ false }
+    ensures told { Gives (λ done. tt) (fault_seen wrong_view) result (agreeing path.now port.now version.now (manifest_view manifest.now)) }
+    ensures calm { has_failed result ≡ false }
 {
     named(alloc, path, port, manifest)?;
     let found = stated_version(alloc, path, manifest)?;

@@ -6,7 +6,8 @@ ghost use Rattle.vk_spec.specs.Reading.{Gives, Fails};
 ghost use Rattle.vk_registry.specs.Baselines.{Entry};
 ghost use Rattle.vk_catalogue.specs.Views.{wrong_view, given_view};
 ghost use Rattle.vk_files.specs.Views.{held};
-ghost use Rattle.vk_files.specs.StopViews.{refusal_in, is_tree_failed, has_tree_failed};
+ghost use Rattle.vk_base.specs.Stops.{is_failure, has_failed};
+ghost use Rattle.vk_files.specs.StopViews.{fault_seen};
 ghost use Rattle.vk_files.specs.Readings.{Bad, bad_view, ReadsAs, ReadsNoting};
 ghost use Rattle.vk_opening.specs.Starts as plain;
 ghost use Rattle.vk_pages.specs.Homes.{served_at, baseline_file, baseline_given, baseline_for};
@@ -19,9 +20,9 @@ use crate::paths::baseline_path;
 use crate::served::Served;
 use indexmap::IndexMap;
 use std::alloc::Global;
-use vk_base::PortName;
+use vk_base::{PortName, Stop};
 use vk_catalogue::{Given, Wrong};
-use vk_files::{BadFile, FileCache, Stop, read_file};
+use vk_files::{BadFile, FileCache, read_file};
 use vk_registry::{Baseline, baseline_of};
 use vk_tree::Tree;
 
@@ -34,13 +35,13 @@ pub struct Baselines {
 
 // A stop, which at a bad file is none.
 fn or_bad(stop: Stop<BadFile>) -> Result<Result<Baseline, BadFile>, Stop<Wrong>>
-    ensures told { (meaning : Result (List Entry) Bad) → Fails (refusal_in bad_view stop) meaning → Gives read_view (refusal_in wrong_view) result (Ok meaning) }
-    ensures failed { has_tree_failed result ≡ is_tree_failed stop }
+    ensures told { (meaning : Result (List Entry) Bad) → Fails (fault_seen bad_view stop) meaning → Gives read_view (fault_seen wrong_view) result (Ok meaning) }
+    ensures failed { has_failed result ≡ is_failure stop }
 {
     match stop {
-        Stop::Refused(bad) => Ok(Err(bad)),
-        Stop::TreeFailed => Err(Stop::TreeFailed),
-        Stop::Memory => Err(Stop::Memory),
+        Stop::Fault(bad) => Ok(Err(bad)),
+        Stop::Failed => Err(Stop::Failed),
+        Stop::Memory(memory) => Err(Stop::Memory(memory)),
     }
 }
 
@@ -65,23 +66,23 @@ fn read_baseline<T: Tree>(
 
 // What a baseline has for a port.
 fn given_by_baseline(baseline: &Baseline, port: &PortName) -> Result<Given, Stop<Wrong>>
-    ensures told { Gives given_view (refusal_in wrong_view) result (baseline_given port.now (Ok baseline.now)) }
-    ensures calm { has_tree_failed result ≡ false }
+    ensures told { Gives given_view (fault_seen wrong_view) result (baseline_given port.now (Ok baseline.now)) }
+    ensures calm { has_failed result ≡ false }
 {
     match baseline_of(baseline, port) {
         Some(ask) => Ok(Given::Baseline(ask.clone()?)),
-        None => Err(Stop::Refused(Wrong::NoBaseline)),
+        None => Err(Stop::Fault(Wrong::NoBaseline)),
     }
 }
 
 // What a baseline that was read has for a port, or what is wrong with its file.
 fn given_in(read: &Result<Baseline, BadFile>, port: &PortName) -> Result<Given, Stop<Wrong>>
-    ensures told { Gives given_view (refusal_in wrong_view) result (baseline_given port.now (read_view read.now)) }
-    ensures calm { has_tree_failed result ≡ false }
+    ensures told { Gives given_view (fault_seen wrong_view) result (baseline_given port.now (read_view read.now)) }
+    ensures calm { has_failed result ≡ false }
 {
     match read {
         Ok(baseline) => given_by_baseline(baseline, port),
-        Err(bad) => Err(Stop::Refused(wrong_of(bad.clone()?))),
+        Err(bad) => Err(Stop::Fault(wrong_of(bad.clone()?))),
     }
 }
 

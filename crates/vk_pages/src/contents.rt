@@ -6,14 +6,15 @@ ghost use Rattle.vk_registry.specs.Tables as plain_table;
 ghost use Rattle.vk_registry.specs.Tables.{table_of};
 ghost use Rattle.vk_catalogue.specs.Views.{wrong_view};
 ghost use Rattle.vk_files.specs.Views.{held};
-ghost use Rattle.vk_files.specs.StopViews.{refusal_in, is_tree_failed};
+ghost use Rattle.vk_base.specs.Stops.{is_failure};
+ghost use Rattle.vk_files.specs.StopViews.{fault_seen};
 ghost use Rattle.vk_files.specs.Readings.{ReadsAs, bad_view, is_at};
 ghost use Rattle.vk_pages.specs.Wrongs.{wrong_of, file_or_wrong};
 
 use std::alloc::Global;
-use vk_base::{Text, TreePath};
+use vk_base::{Stop, Text, TreePath, Unread};
 use vk_catalogue::Wrong;
-use vk_files::{BadFile, FileCache, FileReader, Stop, file_standing, read_file};
+use vk_files::{BadFile, FileCache, FileReader, file_standing, read_file};
 use vk_json::FileFault;
 use vk_registry::{Baseline, Table, read_baseline, read_table};
 use vk_tree::Tree;
@@ -34,7 +35,7 @@ impl<'a> FileReader for NamedBaseline<'a> {
 
     ghost reads = { λ r. baseline_by r.name.now };
 
-    fn read(&self, alloc: Global, bytes: &[u8]) -> Result<Baseline, FileFault> {
+    fn read(&self, alloc: Global, bytes: &[u8]) -> Result<Baseline, Unread<FileFault>> {
         read_baseline(alloc, bytes, self.name.as_str())
     }
 }
@@ -52,7 +53,7 @@ impl FileReader for PortTable {
 
     ghost reads = { λ r. table_of };
 
-    fn read(&self, alloc: Global, bytes: &[u8]) -> Result<Table, FileFault> {
+    fn read(&self, alloc: Global, bytes: &[u8]) -> Result<Table, Unread<FileFault>> {
         read_table(alloc, bytes)
     }
 }
@@ -67,13 +68,13 @@ pub fn wrong_of(bad: BadFile) -> Wrong
 
 // A stop at such a file, as a stop at what is wrong.
 fn at_wrong(stop: Stop<BadFile>) -> Stop<Wrong>
-    ensures told { refusal_in wrong_view result ≡ option_map wrong_of (refusal_in bad_view stop) }
-    ensures failed { is_tree_failed result ≡ is_tree_failed stop }
+    ensures told { fault_seen wrong_view result ≡ option_map wrong_of (fault_seen bad_view stop) }
+    ensures failed { is_failure result ≡ is_failure stop }
 {
     match stop {
-        Stop::Refused(bad) => Stop::Refused(wrong_of(bad)),
-        Stop::TreeFailed => Stop::TreeFailed,
-        Stop::Memory => Stop::Memory,
+        Stop::Fault(bad) => Stop::Fault(wrong_of(bad)),
+        Stop::Failed => Stop::Failed,
+        Stop::Memory(memory) => Stop::Memory(memory),
     }
 }
 

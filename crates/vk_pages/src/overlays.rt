@@ -4,7 +4,8 @@ ghost use Rattle.vk_spec.specs.Reading.{Gives};
 ghost use Rattle.vk_model.specs.Views.{manifest_view};
 ghost use Rattle.vk_catalogue.specs.Views.{wrong_view};
 ghost use Rattle.vk_files.specs.Views.{held};
-ghost use Rattle.vk_files.specs.StopViews.{refusal_in, has_tree_failed};
+ghost use Rattle.vk_base.specs.Stops.{has_failed};
+ghost use Rattle.vk_files.specs.StopViews.{fault_seen};
 ghost use Rattle.vk_files.specs.Readings.{ReadsAs, is_at};
 ghost use Rattle.vk_opening.specs.Projects.{manifest_path};
 ghost use Rattle.vk_opening.specs.Views.{overlay_view};
@@ -18,9 +19,9 @@ use crate::homes::Home;
 use crate::paths::port_folder;
 use std::alloc::Global;
 use std::rc::Rc;
-use vk_base::{PortName, TreePath};
+use vk_base::{PortName, Stop, TreePath};
 use vk_catalogue::Wrong;
-use vk_files::{FileCache, Stop};
+use vk_files::FileCache;
 use vk_model::Manifest;
 use vk_opening::{Overlay, PortFile, manifest_path};
 use vk_tree::Tree;
@@ -91,8 +92,8 @@ fn own_version(
     manifest: &Manifest,
 ) -> Result<Version, Stop<Wrong>>
     ensures told { Gives (λ v. in_overlay folder.now v (manifest_view manifest.now))
-        (refusal_in wrong_view) result (overlay_home folder.now (manifest_view manifest.now)) }
-    ensures calm { has_tree_failed result ≡ false }
+        (fault_seen wrong_view) result (overlay_home folder.now (manifest_view manifest.now)) }
+    ensures calm { has_failed result ≡ false }
 {
     let path = manifest_path(alloc, folder)?;
     Ok(stated_version(alloc, &path, manifest)?.clone()?)
@@ -100,9 +101,9 @@ fn own_version(
 
 // The home of a port in its folder, whose manifest is lent.
 fn port_home(alloc: Global, folder: &TreePath, manifest: &Rc<Manifest>) -> Result<Home, Stop<Wrong>>
-    ensures told { Gives home_view (refusal_in wrong_view) result
+    ensures told { Gives home_view (fault_seen wrong_view) result
         (overlay_home folder.now (manifest_view manifest.now.value)) }
-    ensures calm { has_tree_failed result ≡ false }
+    ensures calm { has_failed result ≡ false }
 {
     let version = own_version(alloc, folder, manifest)?;
     Ok(Home::Overlay {
@@ -123,9 +124,9 @@ fn named_version(
 ) -> Result<Version, Stop<Wrong>>
     requires { path.now ≡ manifest_path folder.now }
     ensures told { Gives (λ v. in_overlay folder.now v (manifest_view manifest.now))
-        (refusal_in wrong_view) result
+        (fault_seen wrong_view) result
         (named_home port.now folder.now (manifest_view manifest.now)) }
-    ensures calm { has_tree_failed result ≡ false }
+    ensures calm { has_failed result ≡ false }
 {
     named(alloc, path, port, manifest)?;
     own_version(alloc, folder, manifest)
@@ -136,6 +137,26 @@ fn named_version(
 struct OwnVersion {
     version: Version,
     manifest: Rc<Manifest>,
+}
+
+// The version of a manifest that has to have the port's name, with the manifest.
+fn named_own(
+    alloc: Global,
+    path: &TreePath,
+    folder: &TreePath,
+    manifest: Manifest,
+    port: &PortName,
+) -> Result<OwnVersion, Stop<Wrong>>
+    requires { path.now ≡ manifest_path folder.now }
+    ensures told { Gives (own_home folder.now) (fault_seen wrong_view) result
+        (named_home port.now folder.now (manifest_view manifest)) }
+    ensures calm { has_failed result ≡ false }
+{
+    let version = named_version(alloc, path, folder, &manifest, port)?;
+    Ok(OwnVersion {
+        version,
+        manifest: Rc::new(alloc, manifest)?,
+    })
 }
 
 // The version of a port in its folder of an overlay.
@@ -151,11 +172,7 @@ fn version_in<T: Tree>(
 {
     let path = manifest_path(alloc, folder)?;
     let manifest = content(alloc, files, tree, &path, &PortFile)?;
-    let version = named_version(alloc, &path, folder, &manifest, port)?;
-    Ok(OwnVersion {
-        version,
-        manifest: Rc::new(alloc, manifest)?,
-    })
+    named_own(alloc, &path, folder, manifest, port)
 }
 
 // A port in its folder of an overlay.

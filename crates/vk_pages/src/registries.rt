@@ -6,7 +6,8 @@ ghost use Rattle.vk_version.specs.AskViews.{ask_view};
 ghost use Rattle.vk_model.specs.Views.{override_view};
 ghost use Rattle.vk_catalogue.specs.Views.{wrong_view, given_view};
 ghost use Rattle.vk_files.specs.Views.{held};
-ghost use Rattle.vk_files.specs.StopViews.{refusal_in, has_tree_failed};
+ghost use Rattle.vk_base.specs.Stops.{has_failed};
+ghost use Rattle.vk_files.specs.StopViews.{fault_seen};
 ghost use Rattle.vk_files.specs.Readings.{ReadsAs, ReadsNoting};
 ghost use Rattle.vk_opening.specs.Starts as plain;
 ghost use Rattle.vk_pages.specs.Homes.{served_at, override_for, given_by, table_in, served_home, registry_home};
@@ -20,9 +21,9 @@ use crate::homes::{Home, Layout};
 use crate::paths::table_path;
 use crate::served::{Served, served_for};
 use std::alloc::Global;
-use vk_base::PortName;
+use vk_base::{PortName, Stop};
 use vk_catalogue::{Given, Wrong};
-use vk_files::{FileCache, Stop};
+use vk_files::FileCache;
 use vk_model::Override;
 use vk_registry::Table;
 use vk_tree::Tree;
@@ -41,8 +42,8 @@ fn override_for<'a>(overrides: &'a [Override], port: &PortName) -> Option<&'a As
 }
 
 fn override_given(ask: &Ask) -> Result<Given, Stop<Wrong>>
-    ensures told { Gives given_view (refusal_in wrong_view) result (Ok (override (ask_view ask.now))) }
-    ensures calm { has_tree_failed result ≡ false }
+    ensures told { Gives given_view (fault_seen wrong_view) result (Ok (override (ask_view ask.now))) }
+    ensures calm { has_failed result ≡ false }
 {
     Ok(Given::Override(ask.clone()?))
 }

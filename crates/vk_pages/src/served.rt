@@ -3,16 +3,16 @@ ghost use Rattle.std.specs.Prelude.{◌≡◌, Ok, Some, IfOk, false, option_map
 ghost use Rattle.vk_spec.specs.Reading.{Gives};
 ghost use Rattle.vk_config.specs.Views.{config_view, source_view};
 ghost use Rattle.vk_catalogue.specs.Views.{wrong_view};
-ghost use Rattle.vk_files.specs.StopViews.{refusal_in, has_tree_failed};
+ghost use Rattle.vk_base.specs.Stops.{has_failed};
+ghost use Rattle.vk_files.specs.StopViews.{fault_seen};
 ghost use Rattle.vk_pages.specs.Homes.{source_at, served_by, served_at, served_for};
 ghost use Rattle.vk_pages.specs.HomeViews.{layout_view, served_view};
 
 use crate::homes::Layout;
 use std::alloc::Global;
-use vk_base::{PortName, Text, TreePath};
+use vk_base::{PortName, Stop, Text, TreePath};
 use vk_catalogue::Wrong;
 use vk_config::{Config, Source, registry_of};
-use vk_files::Stop;
 use vk_opening::from_folder;
 
 /// A registry in a folder.
@@ -46,9 +46,9 @@ fn served_by<'a>(
     place: usize,
     source: &'a Source,
 ) -> Result<Served<'a>, Stop<Wrong>>
-    ensures told { Gives served_view (refusal_in wrong_view) result (served_by project.now (Some (source_view source.now))) }
+    ensures told { Gives served_view (fault_seen wrong_view) result (served_by project.now (Some (source_view source.now))) }
     ensures place { IfOk result (λ s. s.place ≡ place) }
-    ensures calm { has_tree_failed result ≡ false }
+    ensures calm { has_failed result ≡ false }
 {
     match source {
         Source::Filesystem { path, baseline } => Ok(Served {
@@ -56,7 +56,7 @@ fn served_by<'a>(
             folder: from_folder(alloc, project, path)?,
             baseline,
         }),
-        Source::Git | Source::Builtin | Source::Artifact => Err(Stop::Refused(Wrong::NoRegistry)),
+        Source::Git | Source::Builtin | Source::Artifact => Err(Stop::Fault(Wrong::NoRegistry)),
     }
 }
 
@@ -66,15 +66,15 @@ pub fn served_for<'a>(
     layout: &'a Layout,
     port: &PortName,
 ) -> Result<Served<'a>, Stop<Wrong>>
-    ensures told { Gives served_view (refusal_in wrong_view) result (served_for (layout_view layout.now) port.now) }
+    ensures told { Gives served_view (fault_seen wrong_view) result (served_for (layout_view layout.now) port.now) }
     ensures place { IfOk result (λ s. served_at (layout_view layout.now) s.place ≡ Ok (served_view s)) }
-    ensures calm { has_tree_failed result ≡ false }
+    ensures calm { has_failed result ≡ false }
 {
     let Some(place) = registry_of(&layout.config, port) else {
-        return Err(Stop::Refused(Wrong::NoRegistry));
+        return Err(Stop::Fault(Wrong::NoRegistry));
     };
     let Some(source) = source_at(&layout.config, place) else {
-        return Err(Stop::Refused(Wrong::NoRegistry));
+        return Err(Stop::Fault(Wrong::NoRegistry));
     };
     served_by(alloc, &layout.folder, place, source)
 }

@@ -3,10 +3,10 @@
 #![tactic(auto)]
 
 mod configurations;
-mod decimals;
 mod documents;
 mod expressions;
 mod fields;
+mod kinds;
 mod manifests;
 mod names;
 mod paths;

@@ -97,13 +97,7 @@ fn tell_manifest(bytes: &List<u8>, is_root: bool, reply: &mut Reply) {
 }
 
 /// - `root FILE`, `port FILE`: the manifest of a root or of a port, or the fault.
-pub fn answer(question: &str, rest: &str, reply: &mut Reply) {
-    let Some(bytes) = reply.bytes(rest) else {
-        return;
-    };
-    match question {
-        "root" => tell_manifest(&bytes, true, reply),
-        "port" => tell_manifest(&bytes, false, reply),
-        _ => reply.refuse(),
-    }
+pub fn answer(is_root: bool, rest: &str, reply: &mut Reply) {
+    let bytes = reply.bytes(rest);
+    tell_manifest(&bytes, is_root, reply);
 }

@@ -4,3 +4,4 @@ mod AskLemmas
 mod FolderLemmas
 pub mod TableLemmas
 mod EntryLemmas
+mod TellingLemmas

@@ -1,5 +1,6 @@
 -- A baseline: what is asked for of each port where nothing else says so.
-use Rattle.std.specs.Prelude.{◌==◌, ℕ, Bool, List, [], ◌∷◌, Option, Some, None, IfSome, Result, Ok, codes, map, slice_index, if◌then◌else◌}
+use Rattle.std.specs.Prelude.{◌==◌, ℕ, Bool, List, [], ◌∷◌, Option, Some, None, IfSome, Result, Ok}
+use Rattle.std.specs.Prelude.{codes, map, slice_index, if◌then◌else◌}
 use Rattle.std.specs.List.{flat_map}
 use Rattle.std.specs.List.Sorted.{IsStrictlySortedBy}
 use Rattle.std.specs.Option.{option_to_list}
@@ -10,10 +11,11 @@ use Rattle.serde_json.specs.Data.{Data}
 use Rattle.vk_spec.specs.Reading.{◌>>=◌}
 use Rattle.vk_spec.specs.Versions.{Ask}
 use Rattle.vk_base.specs.Names.{reads_name, port_rule}
-use Rattle.vk_json.specs.Documents.{Fault, json_of}
+use Rattle.vk_json.specs.Documents.{json_of}
+use Rattle.vk_json.specs.declared.faults.FileFault.{FileFault}
 use Rattle.vk_json.specs.Looks.{keys_of}
 use Rattle.vk_json.specs.Readings.{Reading, MemberReading, object_at, wanted, each_member}
-use Rattle.vk_fields.specs.Texts.{said_here}
+use Rattle.vk_fields.specs.Saying.{said_here}
 use Rattle.vk_fields.specs.Wording.{name_word}
 use Rattle.vk_fields.specs.Versions.{ask_under}
 
@@ -36,7 +38,8 @@ entry_at key d = do
 
 -- an entry, or nothing where the member is a note
 unfoldable pub entry_unless_note : MemberReading (Option Entry)
-entry_unless_note key d = if is_note key then Ok None else (entry_at key d >>= λ entry. Ok (Some entry))
+entry_unless_note key d =
+    if is_note key then Ok None else (entry_at key d >>= λ entry. Ok (Some entry))
 
 -- those that are there
 abbrev pub those_there : {A : Type 0} → List (Option A) → List A
@@ -51,7 +54,7 @@ unfoldable pub baseline_at : List ℕ → Reading (List Entry)
 baseline_at name d = object_at d >>= λ object. wanted entries_at name d
 
 -- the baseline of this name, by the file's bytes
-abbrev pub baseline_by : List ℕ → List ℕ → Result (List Entry) Fault
+abbrev pub baseline_by : List ℕ → List ℕ → Result (List Entry) FileFault
 baseline_by name bytes = json_of bytes >>= baseline_at name
 
 -- the keys of an object ascend

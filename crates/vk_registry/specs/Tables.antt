@@ -1,12 +1,14 @@
 -- A versions file: the versions of a port that a registry has, each with the port's folder.
-use Rattle.std.specs.Prelude.{◌≡◌, [], ℕ, List, Some, Result, Ok, Err, codes, map, slice_get, if◌then◌else◌}
+use Rattle.std.specs.Prelude.{◌≡◌, [], ℕ, List, Some, Result, Ok, Err, codes, map, slice_get}
+use Rattle.std.specs.Prelude.{if◌then◌else◌}
 use Rattle.std.specs.List.{All, Contains, list_any}
 use Rattle.vk_spec.specs.Lists.{NoRepeats}
 use Rattle.vk_spec.specs.Paths.{Path}
 use Rattle.vk_spec.specs.Reading.{◌>>=◌, or_fault, read_after}
 use Rattle.vk_spec.specs.Versions.{Version, Ask, ask_of, same_ask}
 use Rattle.vk_json.specs.declared.faults.Why.TheVariants as why
-use Rattle.vk_json.specs.Documents.{Fault, json_of}
+use Rattle.vk_json.specs.Documents.{json_of}
+use Rattle.vk_json.specs.declared.faults.FileFault.{FileFault}
 use Rattle.vk_json.specs.Looks.{items_of}
 use Rattle.vk_json.specs.Places.{here, inside, item_step}
 use Rattle.vk_json.specs.Readings.{Reading, object_at, wanted}
@@ -31,7 +33,7 @@ row_at d = do
   Ok (record { version = version; path = path })
 
 -- an ask that is none of these
-abbrev pub new_ask : List Ask → Ask → Result (Unit {0}) Fault
+abbrev pub new_ask : List Ask → Ask → Result (Unit {0}) FileFault
 new_ask asks ask = if list_any (same_ask ask) asks then Err (here why.Twice) else Ok tt
 
 -- a row whose ask is none of these
@@ -55,7 +57,7 @@ unfoldable pub table_at : Reading (List Row)
 table_at d = object_at d >>= λ object. wanted rows_at (codes "versions") d
 
 -- the rows of a versions file, by its bytes
-abbrev pub table_of : List ℕ → Result (List Row) Fault
+abbrev pub table_of : List ℕ → Result (List Row) FileFault
 table_of bytes = json_of bytes >>= table_at
 
 -- what every table keeps

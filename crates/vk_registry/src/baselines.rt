@@ -1,24 +1,24 @@
 //! A baseline: what is asked for of each port where nothing else says so.
-ghost use Rattle.std.specs.Prelude.{◌≡◌, ◌==◌, ◌↔◌, List, ℕ, Option, Some, None, Ok, map, option_map, slice_index, IfOk, IfSome, OnOk};
+ghost use Rattle.std.specs.Prelude.{◌≡◌, ◌==◌, ◌↔◌, List, ℕ, Option, Some, None, Ok, map};
+ghost use Rattle.std.specs.Prelude.{option_map, slice_index, IfOk, IfSome, OnOk};
 ghost use Rattle.std.specs.List.{Contains};
 ghost use Rattle.serde_json.specs.View.{view};
 ghost use Rattle.vk_spec.specs.Reading.{Gives};
 ghost use Rattle.vk_spec.specs.Versions as plain_version;
-ghost use Rattle.vk_base.specs.Names.{reads_name, port_rule};
 ghost use Rattle.vk_version.specs.AskViews.{ask_view};
 ghost use Rattle.vk_json.specs.Looks.{keys_of};
-ghost use Rattle.vk_json.specs.DocumentView.{file_fault_of};
-ghost use Rattle.vk_fields.specs.Texts.{said_here};
-ghost use Rattle.vk_fields.specs.Wording.{name_word};
+ghost use Rattle.vk_base.specs.Stops.{fault_in};
 ghost use Rattle.vk_registry.specs.Baselines as plain;
-ghost use Rattle.vk_registry.specs.Baselines.{is_note, entry_at, entry_unless_note, those_there, entries_at, baseline_at, baseline_by, IsInOrder, KeysAscend, ask_for};
+ghost use Rattle.vk_registry.specs.Baselines.{is_note, entry_at, entry_unless_note, those_there};
+ghost use Rattle.vk_registry.specs.Baselines.{entries_at, baseline_at, baseline_by, IsInOrder};
+ghost use Rattle.vk_registry.specs.Baselines.{KeysAscend, ask_for};
 ghost use Rattle.vk_registry.specs.BaselineViews.{entry_view};
 
 use serde_json::Value;
 use std::alloc::{AllocError, Global};
 use std::marker::Model;
-use vk_base::{List, Memory, PortName};
-use vk_fields::{ask_under, wrong_name};
+use vk_base::{List, Memory, PortName, Unread};
+use vk_fields::{ask_under, port_name_of};
 use vk_json::{Doc, FileFault, MemberReader, Reader, each_member, object, wanted};
 use vk_version::Ask;
 
@@ -31,8 +31,8 @@ pub struct BaselineEntry {
     pub ask: Ask,
 }
 
-/// What is asked for of each port where nothing else says so. The entries stand in byte order of the
-/// ports, each port once.
+/// What is asked for of each port where nothing else says so. The entries stand in byte order of
+/// the ports, each port once.
 #[derive(Drop)]
 pub struct Baseline {
     entries: List<BaselineEntry>,
@@ -69,21 +69,11 @@ fn is_note(key: &str) -> bool
     }
 }
 
-#[tactic(auto, using(vk_fields::proofs::Saying::said_fails))]
-fn port_in(alloc: Global, key: &str) -> Result<PortName, FileFault>
-    ensures { Gives (λ n. n) file_fault_of result (said_here name_word (reads_name port_rule key.now)) }
-{
-    match PortName::read(alloc, key) {
-        Ok(name) => Ok(name),
-        Err(fault) => Err(wrong_name(alloc, fault)),
-    }
-}
-
 #[tactic(auto, unfolding(crate::specs::Baselines::entry_at))]
-fn read_entry(alloc: Global, key: &str, value: &Value) -> Result<BaselineEntry, FileFault>
-    ensures { Gives entry_view file_fault_of result (entry_at key.now (view value.now)) }
+fn read_entry(alloc: Global, key: &str, value: &Value) -> Result<BaselineEntry, Unread<FileFault>>
+    ensures { Gives entry_view fault_in result (entry_at key.now (view value.now)) }
 {
-    let port = port_in(alloc, key)?;
+    let port = port_name_of(alloc, key)?;
     object(alloc, value)?;
     let ask = ask_under(alloc, value, "baseline")?;
     Ok(BaselineEntry { port, ask })
@@ -108,7 +98,7 @@ impl MemberReader for EntryUnlessNote {
         alloc: Global,
         key: &str,
         value: &Value,
-    ) -> Result<Option<BaselineEntry>, FileFault> {
+    ) -> Result<Option<BaselineEntry>, Unread<FileFault>> {
         if is_note(key) {
             return Ok(None);
         }
@@ -151,7 +141,7 @@ impl Reader for Entries {
 
     ghost reads = { λ r. entries_at };
 
-    fn read(&self, alloc: Global, value: &Value) -> Result<Baseline, FileFault> {
+    fn read(&self, alloc: Global, value: &Value) -> Result<Baseline, Unread<FileFault>> {
         keys_ascend(value);
         let found = each_member(alloc, value, &EntryUnlessNote)?;
         let entries = those_there(alloc, found)?;
@@ -159,9 +149,11 @@ impl Reader for Entries {
     }
 }
 
+/// Reads the baseline of this name in a baseline file that is read already; its faults are those of
+/// `read_baseline`, but for bytes that are no document.
 #[tactic(auto, unfolding(crate::specs::Baselines::baseline_at))]
-fn baseline_in(alloc: Global, value: &Value, name: &str) -> Result<Baseline, FileFault>
-    ensures { Gives (λ b. b) file_fault_of result (baseline_at name.now (view value.now)) }
+pub fn baseline_in(alloc: Global, value: &Value, name: &str) -> Result<Baseline, Unread<FileFault>>
+    ensures { Gives (λ b. b) fault_in result (baseline_at name.now (view value.now)) }
 {
     object(alloc, value)?;
     wanted(alloc, value, name, &Entries)
@@ -170,8 +162,8 @@ fn baseline_in(alloc: Global, value: &Value, name: &str) -> Result<Baseline, Fil
 /// Reads the baseline of this name in a baseline file. `Missing` comes at its place where there is
 /// none, `Name` at a key that is no port's name and doesn't begin with `$`; else the first fault of
 /// the entries, in byte order of the ports.
-pub fn read_baseline(alloc: Global, bytes: &[u8], name: &str) -> Result<Baseline, FileFault>
-    ensures { Gives (λ b. b) file_fault_of result (baseline_by name.now bytes.now) }
+pub fn read_baseline(alloc: Global, bytes: &[u8], name: &str) -> Result<Baseline, Unread<FileFault>>
+    ensures { Gives (λ b. b) fault_in result (baseline_by name.now bytes.now) }
 {
     let doc = Doc::read(alloc, bytes)?;
     baseline_in(alloc, doc.value(), name)
@@ -191,6 +183,8 @@ pub fn baseline_of<'a>(baseline: &'a Baseline, port: &PortName) -> Option<&'a As
 
 /// A baseline asks for something of a port exactly where an entry of the port says so.
 pub fn baseline_rule()
-    ensures found { (entries : List plain.Entry) (entry : plain.Entry) → IsInOrder entries → Contains entries entry → ask_for entry.port entries ≡ Some entry.ask }
-    ensures only { (entries : List plain.Entry) (port : List ℕ) (ask : plain_version.Ask) → ask_for port entries ≡ Some ask → Contains entries (record { port = port; ask = ask }) }
+    ensures found { (entries : List plain.Entry) (entry : plain.Entry) → IsInOrder entries
+        → Contains entries entry → ask_for entry.port entries ≡ Some entry.ask }
+    ensures only { (entries : List plain.Entry) (port : List ℕ) (ask : plain_version.Ask)
+        → ask_for port entries ≡ Some ask → Contains entries (record { port = port; ask = ask }) }
 {}

@@ -1,13 +1,15 @@
 //! A versions file: the versions of a port that a registry has, each with the port's folder.
-ghost use Rattle.std.specs.Prelude.{◌≡◌, ◌↔◌, ◌++◌, ◌∷◌, [], List, ℕ, Ok, None, map, IfOk, IfSome, OnOk};
+ghost use Rattle.std.specs.Prelude.{◌≡◌, ◌↔◌, ◌++◌, ◌∷◌, [], List, ℕ, Ok, None, map, IfOk, IfSome};
+ghost use Rattle.std.specs.Prelude.{OnOk};
 ghost use Rattle.serde_json.specs.View.{view};
 ghost use Rattle.vk_spec.specs.Reading.{Gives, read_after};
 ghost use Rattle.vk_spec.specs.Versions as plain;
 ghost use Rattle.vk_version.specs.AskViews.{ask_view};
-ghost use Rattle.vk_json.specs.DocumentView.{file_fault_of};
+ghost use Rattle.vk_base.specs.Stops.{fault_in};
 ghost use Rattle.vk_json.specs.Places.{inside, item_step};
 ghost use Rattle.vk_registry.specs.Tables as plain_table;
-ghost use Rattle.vk_registry.specs.Tables.{ask_in, row_at, new_ask, row_from, row_item, rows_at, table_at, table_of, IsTable, IsRowAt, HasNoRow};
+ghost use Rattle.vk_registry.specs.Tables.{ask_in, row_at, new_ask, row_from, row_item, rows_at};
+ghost use Rattle.vk_registry.specs.Tables.{table_at, table_of, IsTable, IsRowAt, HasNoRow};
 ghost use Rattle.vk_registry.specs.TableViews.{row_view};
 
 use crate::folders::FolderText;
@@ -15,7 +17,7 @@ use indexmap::IndexSet;
 use serde_json::Value;
 use std::alloc::Global;
 use std::marker::Model;
-use vk_base::{List, TreePath};
+use vk_base::{List, TreePath, Unread};
 use vk_fields::version_needed;
 use vk_json::{Doc, FileFault, Reader, Why, in_item, items, object, wanted, wrong};
 use vk_version::{Ask, Version};
@@ -47,7 +49,8 @@ impl Model for Table {
 
     ghost view = { λ t. map row_view t.rows };
 
-    ghost invariant = { λ t. (map ask_view t.asks.keys ≡ asks_of (map row_view t.rows)) × IsTable (map row_view t.rows) };
+    ghost invariant = { λ t. (map ask_view t.asks.keys ≡ asks_of (map row_view t.rows))
+        × IsTable (map row_view t.rows) };
 }
 
 impl Table {
@@ -61,8 +64,8 @@ impl Table {
 }
 
 #[tactic(auto, unfolding(crate::specs::Tables::row_at))]
-fn read_row(alloc: Global, value: &Value) -> Result<Row, FileFault>
-    ensures { Gives row_view file_fault_of result (row_at (view value.now)) }
+fn read_row(alloc: Global, value: &Value) -> Result<Row, Unread<FileFault>>
+    ensures { Gives row_view fault_in result (row_at (view value.now)) }
 {
     object(alloc, value)?;
     let version = version_needed(alloc, value)?;
@@ -71,9 +74,11 @@ fn read_row(alloc: Global, value: &Value) -> Result<Row, FileFault>
 }
 
 // That no row before has the text and the port-version of this one, which are then noted.
-fn note_ask(alloc: Global, asks: &mut IndexSet<Ask>, row: &Row) -> Result<(), FileFault>
-    ensures new { Gives (λ done. tt) file_fault_of result (new_ask (map ask_view asks.old.keys) (ask_in (row_view row.now))) }
-    ensures noted { OnOk result (map ask_view asks.new.keys ≡ map ask_view asks.old.keys ++ ask_in (row_view row.now) ∷ []) }
+fn note_ask(alloc: Global, asks: &mut IndexSet<Ask>, row: &Row) -> Result<(), Unread<FileFault>>
+    ensures new { Gives (λ done. tt) fault_in result
+        (new_ask (map ask_view asks.old.keys) (ask_in (row_view row.now))) }
+    ensures noted { OnOk result (map ask_view asks.new.keys ≡ map ask_view asks.old.keys
+        ++ ask_in (row_view row.now) ∷ []) }
 {
     let ask = row.version.ask().clone()?;
     let new = asks.insert(ask)?;
@@ -84,9 +89,15 @@ fn note_ask(alloc: Global, asks: &mut IndexSet<Ask>, row: &Row) -> Result<(), Fi
 }
 
 #[tactic(auto, unfolding(crate::specs::Tables::row_from))]
-fn read_new_row(alloc: Global, value: &Value, asks: &mut IndexSet<Ask>) -> Result<Row, FileFault>
-    ensures row { Gives row_view file_fault_of result (row_from (map ask_view asks.old.keys) (view value.now)) }
-    ensures noted { IfOk result (λ row. map ask_view asks.new.keys ≡ map ask_view asks.old.keys ++ ask_in (row_view row) ∷ []) }
+fn read_new_row(
+    alloc: Global,
+    value: &Value,
+    asks: &mut IndexSet<Ask>,
+) -> Result<Row, Unread<FileFault>>
+    ensures row { Gives row_view fault_in result
+        (row_from (map ask_view asks.old.keys) (view value.now)) }
+    ensures noted { IfOk result (λ row. map ask_view asks.new.keys ≡ map ask_view asks.old.keys
+        ++ ask_in (row_view row) ∷ []) }
 {
     let row = read_row(alloc, value)?;
     note_ask(alloc, asks, &row)?;
@@ -98,9 +109,11 @@ fn read_item(
     n: usize,
     value: &Value,
     asks: &mut IndexSet<Ask>,
-) -> Result<Row, FileFault>
-    ensures row { Gives row_view file_fault_of result (inside (item_step n) (row_from (map ask_view asks.old.keys) (view value.now))) }
-    ensures noted { IfOk result (λ row. map ask_view asks.new.keys ≡ map ask_view asks.old.keys ++ ask_in (row_view row) ∷ []) }
+) -> Result<Row, Unread<FileFault>>
+    ensures row { Gives row_view fault_in result
+        (inside (item_step n) (row_from (map ask_view asks.old.keys) (view value.now))) }
+    ensures noted { IfOk result (λ row. map ask_view asks.new.keys ≡ map ask_view asks.old.keys
+        ++ ask_in (row_view row) ∷ []) }
 {
     match read_new_row(alloc, value, asks) {
         Ok(row) => Ok(row),
@@ -108,8 +121,8 @@ fn read_item(
     }
 }
 
-fn read_rows(alloc: Global, values: &[Value]) -> Result<Table, FileFault>
-    ensures { Gives (λ t. t) file_fault_of result (read_after row_item [] 0 (map view values.now)) }
+fn read_rows(alloc: Global, values: &[Value]) -> Result<Table, Unread<FileFault>>
+    ensures { Gives (λ t. t) fault_in result (read_after row_item [] 0 (map view values.now)) }
 {
     let mut rows = List::new(alloc);
     let mut asks = IndexSet::new(alloc);
@@ -134,7 +147,7 @@ impl Reader for Rows {
 
     ghost reads = { λ r. rows_at };
 
-    fn read(&self, alloc: Global, value: &Value) -> Result<Table, FileFault> {
+    fn read(&self, alloc: Global, value: &Value) -> Result<Table, Unread<FileFault>> {
         match items(value) {
             Some(values) => read_rows(alloc, values),
             None => Err(wrong(alloc, Why::List)),
@@ -142,26 +155,28 @@ impl Reader for Rows {
     }
 }
 
+/// Reads a port's versions file that is read already; its faults are those of `read_table`, but for
+/// bytes that are no document.
 #[tactic(auto, unfolding(crate::specs::Tables::table_at))]
-fn table_in(alloc: Global, value: &Value) -> Result<Table, FileFault>
-    ensures { Gives (λ t. t) file_fault_of result (table_at (view value.now)) }
+pub fn table_in(alloc: Global, value: &Value) -> Result<Table, Unread<FileFault>>
+    ensures { Gives (λ t. t) fault_in result (table_at (view value.now)) }
 {
     object(alloc, value)?;
     wanted(alloc, value, "versions", &Rows)
 }
 
 /// Reads a port's versions file. `Missing` and `List` come where `versions` isn't there or is no
-/// list, `NoVersion` at an item without a version, `Twice` at an item whose text and port-version an
-/// item before has; else the first fault of the items, in order.
-pub fn read_table(alloc: Global, bytes: &[u8]) -> Result<Table, FileFault>
-    ensures { Gives (λ t. t) file_fault_of result (table_of bytes.now) }
+/// list, `NoVersion` at an item without a version, `Twice` at an item whose text and port-version
+/// an item before has; else the first fault of the items, in order.
+pub fn read_table(alloc: Global, bytes: &[u8]) -> Result<Table, Unread<FileFault>>
+    ensures { Gives (λ t. t) fault_in result (table_of bytes.now) }
 {
     let doc = Doc::read(alloc, bytes)?;
     table_in(alloc, doc.value())
 }
 
-/// The place of the row with the text and the port-version of an ask; `None` exactly where no row has
-/// them. Takes no memory.
+/// The place of the row with the text and the port-version of an ask; `None` exactly where no row
+/// has them. Takes no memory.
 pub fn find(table: &Table, ask: &Ask) -> Option<usize>
     ensures found { IfSome result (IsRowAt table.now (ask_view ask.now)) }
     ensures none { (result ≡ None) ↔ HasNoRow table.now (ask_view ask.now) }
@@ -172,6 +187,8 @@ pub fn find(table: &Table, ask: &Ask) -> Option<usize>
 /// What a versions file says is a table: no two rows have the same text and port-version, and each
 /// folder is below the registry. At most one row has an ask.
 pub fn table_rule()
-    ensures table { (bytes : List ℕ) (rows : List plain_table.Row) → table_of bytes ≡ Ok rows → IsTable rows }
-    ensures one { (rows : List plain_table.Row) (ask : plain.Ask) (place other : ℕ) → IsTable rows → IsRowAt rows ask place → IsRowAt rows ask other → place ≡ other }
+    ensures table { (bytes : List ℕ) (rows : List plain_table.Row)
+        → table_of bytes ≡ Ok rows → IsTable rows }
+    ensures one { (rows : List plain_table.Row) (ask : plain.Ask) (place other : ℕ) → IsTable rows
+        → IsRowAt rows ask place → IsRowAt rows ask other → place ≡ other }
 {}

@@ -9,8 +9,8 @@ use std::alloc::Global;
 use std::str::FromStr;
 use vk_base::{List, Text, TreePath, Unread, read_token};
 
-/// A row's first word, and what stands after the blank behind it, which is nothing where the row has
-/// no blank.
+/// A row's first word, and what stands after the blank behind it, which is nothing where the row
+/// has no blank.
 pub fn cut(row: &str) -> (&str, &str)
     ensures first { result.0.now ≡ before_first is_blank row.now }
     ensures rest { result.1.now ≡ after_first is_blank row.now }

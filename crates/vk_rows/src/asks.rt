@@ -1,5 +1,5 @@
-//! What a catalogue is asked. A version is asked only of a port with a given one, and a manifest only
-//! of a version that is there: a row that asks otherwise isn't answered.
+//! What a catalogue is asked. A version is asked only of a port with a given one, and a manifest
+//! only of a version that is there: a row that asks otherwise isn't answered.
 ghost use Rattle.std.specs.Prelude.{IfOk, IsTrue};
 ghost use Rattle.vk_spec.specs.Catalogues.{OnPage, CanAskVersion, CanAskManifest};
 ghost use Rattle.vk_version.specs.AskViews.{ask_view};
@@ -22,10 +22,10 @@ fn stopped(stop: CatStop, reply: &mut Reply) {
 
 // Whether a port has a given version.
 #[tactic(auto, using(vk_spec::proofs::AskLemmas::can_ask_version))]
-fn has_given<C: Catalogue>(catalogue: &mut C, port: &PortName) -> Result<bool, CatStop>
-    ensures { IfOk result (λ yes. IsTrue yes → OnPage port.now CanAskVersion (C.state catalogue.new)) }
+fn has_given<C: Catalogue>(cat: &mut C, port: &PortName) -> Result<bool, CatStop>
+    ensures { IfOk result (λ yes. IsTrue yes → OnPage port.now CanAskVersion (C.state cat.new)) }
 {
-    match catalogue.given(port) {
+    match cat.given(port) {
         Ok(Ok(_)) => Ok(true),
         Ok(Err(_)) => Ok(false),
         Err(stop) => Err(stop),

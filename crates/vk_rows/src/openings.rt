@@ -64,9 +64,10 @@ fn tell_folder(world: &World<MemTree>, port: &PortName, version: &Version, reply
 /// `folder PORT VERSION`: where a version stands that the world answered.
 pub fn folder(world: &World<MemTree>, row: &str, reply: &mut Reply) {
     let (port, version) = cut(row);
-    let port = port_of(port, reply);
-    let version = version_of(version, reply);
-    if let (Some(port), Some(version)) = (&port, &version) {
-        tell_folder(world, port, version, reply);
+    let Some(port) = port_of(port, reply) else {
+        return;
+    };
+    if let Some(version) = version_of(version, reply) {
+        tell_folder(world, &port, &version, reply);
     }
 }

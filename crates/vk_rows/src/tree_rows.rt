@@ -26,15 +26,18 @@ fn read(tree: &mut MemTree, row: &str, reply: &mut Reply) {
     let (path, limit) = cut(row);
     let limit = reply.number(limit);
     let path = reply.path(path);
-    if let (Some(path), Some(limit)) = (&path, limit) {
-        tell_read(tree, path, limit, reply);
+    if !reply.is_stopped() {
+        tell_read(tree, &path, limit, reply);
     }
 }
 
+fn room(tree: &MemTree, row: &str, reply: &mut Reply) {
+    let path = reply.path(row);
+    reply.push_test(tree.has_room(&path));
+}
+
 fn file(tree: &MemTree, row: &str, reply: &mut Reply) {
-    let Some(path) = reply.path(row) else {
-        return;
-    };
+    let path = reply.path(row);
     match tree.file(&path) {
         Some(bytes) => reply.push_token(bytes),
         None => reply.push("none"),
@@ -43,9 +46,7 @@ fn file(tree: &MemTree, row: &str, reply: &mut Reply) {
 
 fn stop(tree: &mut MemTree, row: &str, reply: &mut Reply) {
     reply.silence();
-    if let Some(call) = reply.number(row) {
-        tree.stop_at(call);
-    }
+    tree.stop_at(reply.number(row));
 }
 
 /// - `read PATH LIMIT`: the bytes that a call reads, or the fault;
@@ -61,11 +62,7 @@ pub fn answer(tree: &mut MemTree, row: &str, reply: &mut Reply) {
         "log" => tell_paths(tree.logged(), reply),
         "changes" => reply.push_number(tree.changed()),
         "faults" => reply.push_number(tree.faults()),
-        "room" => {
-            if let Some(path) = reply.path(rest) {
-                reply.push_test(tree.has_room(&path));
-            }
-        }
+        "room" => room(tree, rest, reply),
         _ => reply.refuse(),
     }
 }

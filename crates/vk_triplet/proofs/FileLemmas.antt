@@ -1,4 +1,4 @@
--- Which line is told, and what the settings of a file are.
+-- Which line is told, and what the variables of a file are.
 use Rattle.std.proofs.Common.{◌≡◌, ◌≢◌, ◌+◌, ◌-◌, ◌<◌, ℕ, zero, suc, Bool, true, false, List, [], ◌∷◌, length, get_or, refl, ap, sym, ◌∙◌, arith}
 use Rattle.std.specs.Prelude.{Option, Some, None, Result, Ok, Err, if◌then◌else◌}
 use Rattle.std.specs.List.{filter}
@@ -43,9 +43,9 @@ each_says n (text ∷ lines) said e =
     let same : first.0 ∷ later.0 ≡ said = cc in
     rw (← same) (says_found text first.0 (found_ok n text first.0 first.1), each_says (n + 1) lines later.0 later.1)
 
-pub has_settings : (bytes : List ℕ) (variables : List Variable) → reads_triplet bytes ≡ Ok variables → HasVariables bytes variables
+pub has_variables : (bytes : List ℕ) (variables : List Variable) → reads_triplet bytes ≡ Ok variables → HasVariables bytes variables
 unfolding reads_triplet
-has_settings bytes variables e =
+has_variables bytes variables e =
     let text = ok_if (is_utf8 bytes) (variables_from 1 (lines_of bytes)) variables e in
     let said = bind_ok (read_each line_said 1 (lines_of bytes)) (λ said. Ok (variables_in said)) variables text.1 in
     let same : variables_in said.0 ≡ variables = cc in
@@ -140,7 +140,7 @@ no_utf8 bytes e text =
     let clash : true ≡ false = sym is ∙ no in
     (cc)
 
--- settings of other variables are left out
+-- lines that set other variables are left out
 none_kept : (name : List ℕ) (variables : List Variable) → LeavesAlone name variables → filter (sets name) variables ≡ []
 none_kept name [] other = refl
 none_kept name (s ∷ variables) other =

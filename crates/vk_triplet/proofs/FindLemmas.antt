@@ -212,9 +212,9 @@ command_begins command variable more s =
     rw (s.split, append_assoc s.word (s.outside ++ 40 ∷ (s.inside ++ (variable.name ++ (s.given ++ (s.end ++ 41 ∷ []))))) more)
     (word_begins s.word ((s.outside ++ 40 ∷ (s.inside ++ (variable.name ++ (s.given ++ (s.end ++ 41 ∷ []))))) ++ more) s.set)
 
-find_setting : (before command : List ℕ) (variable : Variable) (after comment : List ℕ) → IsBlanks before → IsSet command variable → IsBlanks after → IsComment comment
+find_variable : (before command : List ℕ) (variable : Variable) (after comment : List ℕ) → IsBlanks before → IsSet command variable → IsBlanks after → IsComment comment
     → said_by (before ++ (command ++ (after ++ comment))) ≡ Some (Some variable)
-find_setting before command variable after comment front set blank c =
+find_variable before command variable after comment front set blank c =
     let begins = command_begins command variable (after ++ comment) set in
     let rest = past_front is_blank before (command ++ (after ++ comment)) front begins.stops in
     rw (rest, begins.other, find_only command variable after comment set blank c) refl
@@ -227,7 +227,7 @@ find_none before after comment front blank c =
 
 found_form : (line : List ℕ) (said : Option Variable) (s : Says line said) → said_by (s.before ++ (s.command ++ (s.after ++ s.comment))) ≡ Some said
 found_form line None s = rw s.form (find_none s.before s.after s.comment s.blank.0 s.blank.1 s.rest)
-found_form line (Some variable) s = find_setting s.before s.command variable s.after s.comment s.blank.0 s.form s.blank.1 s.rest
+found_form line (Some variable) s = find_variable s.before s.command variable s.after s.comment s.blank.0 s.form s.blank.1 s.rest
 
 -- what a line says is what is found in it
 pub found_says : (line : List ℕ) (said : Option Variable) → Says line said → said_by line ≡ Some said

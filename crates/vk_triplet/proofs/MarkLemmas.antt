@@ -1,4 +1,4 @@
--- The last setting of a variable, as a loop finds it.
+-- The last value of a variable, as a loop finds it.
 use Rattle.std.proofs.Common.{◌≡◌, ◌+◌, ◌<◌, ◌++◌, ℕ, Bool, true, false, List, [], ◌∷◌, length, take, get_or, inl, inr, refl, ap, sym, ◌∙◌}
 use Rattle.std.specs.Prelude.{codes, if◌then◌else◌}
 use Rattle.std.specs.List.{filter, flat_map}

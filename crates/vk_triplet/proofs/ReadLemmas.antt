@@ -15,11 +15,11 @@ use Rattle.vk_triplet.specs.TripletReadings.{line_said, variables_in, variables_
 use Rattle.vk_triplet.specs.declared.faults.TripletFault.{TripletFault}
 use Rattle.vk_triplet.specs.declared.faults.TripletFault.TheVariants as wrong
 
--- the settings that were read before, and those that are still read
+-- the variables that were read before, and those that are still read
 abbrev pub with_variables : List Variable → Result (List Variable) TripletFault → Result (List Variable) TripletFault
 with_variables front read = read >>= λ more. Ok (front ++ more)
 
--- the settings of what is left go on to those of the whole; each line before stands for one byte at least
+-- the variables of what is left go on to those of the whole; each line before stands for one byte at least
 pub record Leaves (whole : List ℕ) (vars : List Variable) (n : ℕ) (left : List ℕ) : Type 0 where
   pub read : with_variables vars (variables_from n (lines_of left)) ≡ variables_from 1 (lines_of whole)
   pub count : n + length left ≤ length whole + 1

@@ -1,5 +1,6 @@
 -- What it means that a triplet file has a reading, and which line is told where it has none.
-use Rattle.std.specs.Prelude.{◌≡◌, ◌≢◌, ◌<◌, ◌≤◌, ◌+◌, ◌-◌, ◌++◌, ◌∷◌, [], ℕ, List, length, Option, slice_index_or}
+use Rattle.std.specs.Prelude.{◌≡◌, ◌≢◌, ◌<◌, ◌≤◌, ◌+◌, ◌-◌, ◌++◌, ◌∷◌, [], ℕ, List, length, Option}
+use Rattle.std.specs.Prelude.{slice_index_or}
 use Rattle.std.specs.List.{All}
 use Rattle.std.specs.Str.{IsUtf8}
 use Rattle.vk_triplet.specs.Lines.{Says, lines_of}
@@ -12,7 +13,7 @@ EachSays [] [] = Unit {0}
 EachSays (line ∷ lines) (what ∷ more) = Says line what × EachSays lines more
 EachSays lines said = ⊥
 
--- the bytes are UTF-8, each line says something, and these are the settings that were said
+-- the bytes are UTF-8, each line says something, and these are the variables that were said
 pub record HasVariables (bytes : List ℕ) (variables : List Variable) : Type 0 where
   pub text : IsUtf8 bytes
   pub said : List (Option Variable)
@@ -30,11 +31,11 @@ pub record IsFirstUnread (lines : List (List ℕ)) (n : ℕ) : Type 0 where
   pub before : (k : ℕ) → k + 1 < n → HasReading (slice_index_or lines k [])
   pub here : HasReading (slice_index_or lines (n - 1) []) → ⊥
 
--- none of these settings is of this variable
+-- none of these lines sets this variable
 abbrev pub LeavesAlone : List ℕ → List Variable → Type 0
 LeavesAlone name variables = All (λ s. s.name ≢ name) variables
 
--- a setting of this variable to this value, and no later one of it
+-- a line sets this variable to this value, and no later one sets it
 pub record IsSetLast (name value : List ℕ) (variables : List Variable) : Type 0 where
   pub front : List Variable
   pub back : List Variable

@@ -1,5 +1,6 @@
 -- What a line says, found from the left.
-use Rattle.std.specs.Prelude.{◌==◌, ℕ, Bool, true, List, [], ◌∷◌, take, drop, Option, Some, None, codes, if◌then◌else◌}
+use Rattle.std.specs.Prelude.{◌==◌, ℕ, Bool, true, List, [], ◌∷◌, take, drop, Option, Some, None}
+use Rattle.std.specs.Prelude.{codes, if◌then◌else◌}
 use Rattle.std.specs.List.{prefix_len}
 use Rattle.std.specs.Str.{str_eq_ignore_ascii_case}
 use Rattle.vk_triplet.specs.Lines.{is_blank, is_name_byte, is_bare_byte, is_quoted_byte}
@@ -91,6 +92,6 @@ is_done text = begins_comment (past is_blank text)
 abbrev pub only_set : List ℕ → Option Variable
 only_set text = set_at text >>= λ cut. if is_done cut.1 then Some cut.0 else None
 
--- what a line says: nothing, or a setting; none where it says neither
+-- what a line says: nothing, or a variable; none where it says neither
 abbrev pub said_by : List ℕ → Option (Option Variable)
 said_by line = if is_done line then Some None else (only_set (past is_blank line) >>= λ variable. Some (Some variable))

@@ -1,5 +1,6 @@
 -- The lines of a triplet file, and what a line says.
-use Rattle.std.specs.Prelude.{◌≡◌, ◌<◌, ◌==◌, ◌&&◌, ◌||◌, ◌++◌, ◌∷◌, [], ◌⊎◌, ℕ, Bool, true, not, List, length, map, Option, MatchOption, codes}
+use Rattle.std.specs.Prelude.{◌≡◌, ◌<◌, ◌==◌, ◌&&◌, ◌||◌, ◌++◌, ◌∷◌, [], ◌⊎◌, ℕ, Bool, true, not}
+use Rattle.std.specs.Prelude.{List, length, map, Option, MatchOption, codes}
 use Rattle.std.specs.Char.{is_ascii_alphanumeric, is_ascii_graphic, to_ascii_lowercase}
 use Rattle.std.specs.List.{list_all, list_any, slice_split}
 use Rattle.std.specs.Str.Lines.{strip_carriage_return}

@@ -1,5 +1,6 @@
--- The marks of a triplet: by the last settings of four variables.
-use Rattle.std.specs.Prelude.{◌≡◌, ◌||◌, ◌==◌, ◌++◌, ℕ, Bool, true, false, List, [], ◌∷◌, length, codes, if◌then◌else◌}
+-- The marks of a triplet: by the last values of four variables.
+use Rattle.std.specs.Prelude.{◌≡◌, ◌||◌, ◌==◌, ◌++◌, ℕ, Bool, true, false, List, [], ◌∷◌, length}
+use Rattle.std.specs.Prelude.{codes, if◌then◌else◌}
 use Rattle.std.specs.List.{flat_map}
 use Rattle.std.specs.Str.{bytes_eq}
 use Rattle.vk_triplet.specs.declared.triplets.Variable.{Variable}

@@ -14,33 +14,34 @@ use Rattle.vk_triplet.specs.declared.faults.TripletFault.TheVariants as fault
 abbrev pub line_said : ℕ → List ℕ → Result (Option Variable) TripletFault
 line_said n text = or_fault (fault.Line n) (said_by text)
 
--- the settings among what lines say, in order
+-- the variables among what lines say, in order
 abbrev pub variables_in : List (Option Variable) → List Variable
 variables_in said = flat_map option_to_list said
 
--- the settings of these lines, the first of which has this number
+-- the variables of these lines, the first of which has this number
 abbrev pub variables_from : ℕ → List (List ℕ) → Result (List Variable) TripletFault
 variables_from n lines = read_each line_said n lines >>= λ said. Ok (variables_in said)
 
--- the settings of a triplet file, in its order: first the bytes are UTF-8, then each line has a reading
+-- the variables of a triplet file, in its order: first the bytes are UTF-8, then each line has a
+-- reading
 unfoldable pub reads_triplet : List ℕ → Result (List Variable) TripletFault
 reads_triplet bytes = if is_utf8 bytes then variables_from 1 (lines_of bytes) else Err fault.NotText
 
--- the value of the last of these settings; empty where there is none
+-- the value of the last of these; empty where there is none
 abbrev pub last_value : List Variable → List ℕ
 last_value [] = []
 last_value (s ∷ []) = s.value
 last_value (s ∷ t ∷ more) = last_value (t ∷ more)
 
--- whether this setting is of this variable
+-- whether this line sets the variable of this name
 abbrev pub sets : List ℕ → Variable → Bool
 sets name s = bytes_eq s.name name
 
--- the value of a variable: the last setting of it counts, and one that is never set is empty
+-- the value of a variable: the last line that sets it counts, and one that is never set is empty
 abbrev pub value_of : List ℕ → List Variable → List ℕ
 value_of name variables = last_value (filter (sets name) variables)
 
--- what a triplet is: its name, the file's bytes, and the settings in the file's order
+-- what a triplet is: its name, the file's bytes, and the variables in the file's order
 pub record Triplet : Type 0 where
   pub name : List ℕ
   pub bytes : List ℕ

@@ -1,4 +1,4 @@
--- What contracts see of triplets, settings and faults.
+-- What contracts see of kinds of bytes, commands and what stands after them.
 use Rattle.std.specs.Prelude.{◌==◌, ℕ, Bool, Option, Some, None, List, []}
 use Rattle.std.specs.List.{slice_split}
 use denote.Ref.{Bor}

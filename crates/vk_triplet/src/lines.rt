@@ -3,7 +3,10 @@ ghost use Rattle.std.specs.Prelude.{◌≡◌, ◌≤◌, ℕ, not, List, length
 ghost use Rattle.std.specs.List.{prefix_len, position};
 ghost use Rattle.vk_triplet.specs.declared.triplets.Variable.{Variable};
 ghost use Rattle.vk_triplet.specs.Lines.{Says};
-ghost use Rattle.vk_triplet.specs.LineReadings.{past, after_byte, after_set, some_front, quoted_value, value_at, blank_value, closed, written_at, given_at, opened, set_at, is_done, only_set, said_by};
+ghost use Rattle.vk_triplet.specs.LineReadings.{past, after_byte, after_set, some_front};
+ghost use Rattle.vk_triplet.specs.LineReadings.{quoted_value, value_at, blank_value, closed};
+ghost use Rattle.vk_triplet.specs.LineReadings.{written_at, given_at, opened, set_at, is_done};
+ghost use Rattle.vk_triplet.specs.LineReadings.{only_set, said_by};
 ghost use Rattle.vk_triplet.specs.Views.{is_in, command_view, pair_view, cut_view};
 
 /// What a byte may be part of.
@@ -197,6 +200,8 @@ pub(crate) fn said_by(line: &[u8]) -> Option<Option<Command<'_>>>
 /// What is found in a line, read from the left, is what the line says by the grammar, and nothing
 /// else; so a line has at most one reading.
 pub fn line_rule()
-    ensures found { (line : List ℕ) (said : Option Variable) → said_by line ≡ Some said → Says line said }
-    ensures only { (line : List ℕ) (said : Option Variable) → Says line said → said_by line ≡ Some said }
+    ensures found { (line : List ℕ) (said : Option Variable) → said_by line ≡ Some said
+        → Says line said }
+    ensures only { (line : List ℕ) (said : Option Variable) → Says line said
+        → said_by line ≡ Some said }
 {}

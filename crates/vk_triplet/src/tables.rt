@@ -51,7 +51,7 @@ fn value_after<'a>(variable: &'a Variable, name: &str, value: &'a str) -> &'a st
     value
 }
 
-// The value of a variable: that of its last setting, and empty where it is never set.
+// The value of a variable: that of the last line that sets it, and empty where it is never set.
 fn value_of<'a>(vars: &'a [Variable], name: &str) -> &'a str
     ensures { result.now ≡ value_of name.now vars.now }
 {
@@ -90,7 +90,8 @@ fn push_rows(
     vars: &[Variable],
     rows: &[Row],
 ) -> Result<(), Memory>
-    ensures { OnOk result (names.new ≡ names.old ++ flat_map (λ r. marks_by vars.now (row_view r)) rows.now) }
+    ensures { OnOk result (names.new
+        ≡ names.old ++ flat_map (λ r. marks_by vars.now (row_view r)) rows.now) }
 {
     for row in rows {
         push_all(alloc, names, marks_by(vars, *row))?;
@@ -149,5 +150,6 @@ pub(crate) fn both_marks(alloc: Global, vars: &[Variable]) -> Result<BothMarks, 
 
 /// What holds for the host triplet is what its file says, and `native` besides.
 pub fn native_rule()
-    ensures { (variables : List Variable) → marks_of variables true ≡ with_native (marks_of variables false) }
+    ensures { (variables : List Variable)
+        → marks_of variables true ≡ with_native (marks_of variables false) }
 {}

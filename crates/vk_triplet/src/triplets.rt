@@ -1,4 +1,5 @@
-ghost use Rattle.std.specs.Prelude.{◌≡◌, ℕ, List, Err, ◌∷◌, ◌++◌, ◌+◌, ◌<◌, ◌≤◌, ◌^◌, ◌==◌, [], length, Ok, OnOk, IfOk, IfSome, option_map, MatchOption};
+ghost use Rattle.std.specs.Prelude.{◌≡◌, ℕ, List, Err, ◌∷◌, ◌++◌, ◌+◌, ◌<◌, ◌≤◌, ◌^◌, ◌==◌, []};
+ghost use Rattle.std.specs.Prelude.{length, Ok, OnOk, IfOk, IfSome, option_map, MatchOption};
 ghost use Rattle.std.specs.List.{slice_split};
 ghost use Rattle.std.specs.Option.{option_to_list};
 ghost use Rattle.std.specs.Str.{IsUtf8};
@@ -113,7 +114,8 @@ fn without_return(line: &[u8]) -> &[u8]
 /// What stands before the first line feed, and what stands after it, if there is one.
 fn cut_line(text: &str) -> (&str, Option<&str>)
     ensures whole { slice_split (λ b. b == 10) text.now ≡ result.0.now ∷ parts_in result.1 }
-    ensures shorter { MatchOption result.1 (length result.0.now ≤ length text.now) (λ rest. length result.0.now + length rest.now + 1 ≤ length text.now) }
+    ensures shorter { MatchOption result.1 (length result.0.now ≤ length text.now)
+        (λ rest. length result.0.now + length rest.now + 1 ≤ length text.now) }
     ensures text { IfSome result.1 (λ rest. IsUtf8 rest.now) }
 {
     match text.split_once('\n') {
@@ -230,13 +232,18 @@ fn triplet_with(
 /// A file that is read has the variables that its lines say; a line that is told is the first that
 /// has no reading, in bytes that are UTF-8; and no bytes that are UTF-8 are told as none.
 pub fn triplet_rule()
-    ensures variables { (bytes : List ℕ) (vars : List Variable) → reads_triplet bytes ≡ Ok vars → HasVariables bytes vars }
-    ensures line { (bytes : List ℕ) (n : ℕ) → reads_triplet bytes ≡ Err (fault.Line n) → IsUtf8 bytes × IsFirstUnread (lines_of bytes) n }
-    ensures not_text { (bytes : List ℕ) → reads_triplet bytes ≡ Err fault.NotText → IsUtf8 bytes → ⊥ }
+    ensures variables { (bytes : List ℕ) (vars : List Variable) → reads_triplet bytes ≡ Ok vars
+        → HasVariables bytes vars }
+    ensures line { (bytes : List ℕ) (n : ℕ) → reads_triplet bytes ≡ Err (fault.Line n)
+        → IsUtf8 bytes × IsFirstUnread (lines_of bytes) n }
+    ensures not_text { (bytes : List ℕ) → reads_triplet bytes ≡ Err fault.NotText → IsUtf8 bytes
+        → ⊥ }
 {}
 
 /// The value of a variable is that of the last line that sets it, and empty where none does.
 pub fn value_rule()
-    ensures last { (name value : List ℕ) (vars : List Variable) → IsSetLast name value vars → value_of name vars ≡ value }
-    ensures never { (name : List ℕ) (vars : List Variable) → LeavesAlone name vars → value_of name vars ≡ [] }
+    ensures last { (name value : List ℕ) (vars : List Variable) → IsSetLast name value vars
+        → value_of name vars ≡ value }
+    ensures never { (name : List ℕ) (vars : List Variable) → LeavesAlone name vars
+        → value_of name vars ≡ [] }
 {}

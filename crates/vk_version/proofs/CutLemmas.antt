@@ -1,35 +1,46 @@
 -- A list cut at the first element that passes a test.
-use Rattle.std.proofs.Common.{◌≡◌, ◌+◌, ltb, ◌-◌, length-drop, ◌<◌, ◌≤◌, ℕ, Bool, true, false, List, [], ◌∷◌, length, take, drop, inl, inr, refl, ap, sym, ◌∙◌, suc, arith}
+use Rattle.std.proofs.Common.{◌≡◌, ◌+◌, ltb, ◌-◌, length-drop, ◌<◌, ◌≤◌, ℕ, Bool, true, false, List}
+use Rattle.std.proofs.Common.{[], ◌∷◌, length, take, drop, inl, inr, refl, ap, sym, ◌∙◌, suc, arith}
 use Rattle.std.specs.Prelude.{Some, None}
-use Rattle.std.specs.List.{list_any, position, position_or_len, before_first, after_first, slice_split}
+use Rattle.std.specs.List.{list_any, position, position_or_len, before_first, after_first}
+use Rattle.std.specs.List.{slice_split}
 use Rattle.std.proofs.lemmas.Bool.{cases_lt, cases_Bool, lt-ltb, le-ltb, ltb-true}
 use Rattle.std.proofs.lemmas.Bool.Decides.{nat_tests}
 use Rattle.std.proofs.lemmas.List.{take_all, drop_all}
 use Rattle.std.proofs.lemmas.List.Sums.{fails_before_first}
 use Rattle.std.proofs.lemmas.List.Splits.{slice_split_none, slice_split_first}
 
-pub position-None : {X : Type 0} (p : X → Bool) (xs : List X) → position p xs ≡ None → length xs ≤ position_or_len p xs
+pub position-None : {X : Type 0} (p : X → Bool) (xs : List X) → position p xs ≡ None
+    → length xs ≤ position_or_len p xs
 position-None p xs e =
     elim (cases_lt (position_or_len p xs) (length xs)) [
       | inl at ↦ (let yes = lt-ltb _ _ at in let e2 = rw yes at e in (cc))
       | inr past ↦ past
     ]
 
-pub position-Some : {X : Type 0} (p : X → Bool) (xs : List X) (i : ℕ) → position p xs ≡ Some i → (position_or_len p xs ≡ i) × (i < length xs)
+pub position-Some : {X : Type 0} (p : X → Bool) (xs : List X) (i : ℕ) → position p xs ≡ Some i
+    → (position_or_len p xs ≡ i) × (i < length xs)
 position-Some p xs i e =
     elim (cases_lt (position_or_len p xs) (length xs)) [
-      | inl at ↦ (let yes = lt-ltb _ _ at in let e2 = rw yes at e in let same : position_or_len p xs ≡ i = cc in (same, rw (← same) at))
+      | inl at ↦
+          (let yes =
+          lt-ltb _ _ at in let e2 =
+          rw yes at e in let same : position_or_len p xs ≡ i = cc in (same, rw (← same) at))
       | inr past ↦ (let no_place = le-ltb _ _ past in let e2 = rw no_place at e in (cc))
     ]
 
 -- nothing passes: the list is the one part
-pub uncut : {X : Type 0} (p : X → Bool) (xs : List X) → position p xs ≡ None → (before_first p xs ≡ xs) × (slice_split p xs ≡ xs ∷ [])
+pub uncut : {X : Type 0} (p : X → Bool) (xs : List X) → position p xs ≡ None
+    → (before_first p xs ≡ xs) × (slice_split p xs ≡ xs ∷ [])
 uncut p xs e =
-    let past = position-None p xs e in
-    (take_all (position_or_len p xs) xs past, slice_split_none p xs (λ k d within. fails_before_first p xs k d (omega arith)))
+    let past = position-None p xs e in (
+      take_all (position_or_len p xs) xs past,
+      slice_split_none p xs (λ k d within. fails_before_first p xs k d (omega arith)),
+    )
 
 -- something passes: the first part ends there
-pub cut_at : {X : Type 0} (p : X → Bool) (xs : List X) (i : ℕ) (d : X) → position p xs ≡ Some i → slice_split p xs ≡ take i xs ∷ slice_split p (drop (i + 1) xs)
+pub cut_at : {X : Type 0} (p : X → Bool) (xs : List X) (i : ℕ) (d : X) → position p xs ≡ Some i
+    → slice_split p xs ≡ take i xs ∷ slice_split p (drop (i + 1) xs)
 cut_at p xs i d e =
     let at = position-Some p xs i e in
     let within : position_or_len p xs < length xs = rw at.0 at.1 in
@@ -40,7 +51,8 @@ pub rest_from : {X : Type 0} (n : ℕ) (xs : List X) → take (length xs - n) (d
 rest_from n xs = take_all (length xs - n) (drop n xs) (rw length-drop (omega arith))
 
 -- an element passes exactly where there is a first one
-pub any_at : {X : Type 0} (p : X → Bool) (xs : List X) → list_any p xs ≡ ltb (position_or_len p xs) (length xs)
+pub any_at : {X : Type 0} (p : X → Bool) (xs : List X)
+    → list_any p xs ≡ ltb (position_or_len p xs) (length xs)
 any_at p [] = refl
 any_at p (x ∷ xs) =
     elim (cases_Bool (p x)) [
@@ -48,18 +60,29 @@ any_at p (x ∷ xs) =
       | inr other ↦ rw (other, any_at p xs) (grind (arith, nat_tests))
     ]
 
-pub none_passes : {X : Type 0} (p : X → Bool) (xs : List X) → position_or_len p xs ≡ length xs → (before_first p xs ≡ xs) × (list_any p xs ≡ false)
-none_passes p xs e = (take_all (position_or_len p xs) xs (omega (arith, e)), any_at p xs ∙ le-ltb _ _ (omega (arith, e)))
+pub none_passes : {X : Type 0} (p : X → Bool) (xs : List X) → position_or_len p xs ≡ length xs
+    → (before_first p xs ≡ xs) × (list_any p xs ≡ false)
+none_passes p xs e = (
+  take_all (position_or_len p xs) xs (omega (arith, e)),
+  any_at p xs
+      ∙ le-ltb _ _ (omega (arith, e)),
+)
 
-pub one_passes : {X : Type 0} (p : X → Bool) (xs : List X) → position_or_len p xs < length xs → list_any p xs ≡ true
+pub one_passes : {X : Type 0} (p : X → Bool) (xs : List X) → position_or_len p xs < length xs
+    → list_any p xs ≡ true
 one_passes p xs at = any_at p xs ∙ lt-ltb _ _ at
 
 -- nothing passes: nothing is cut off
-pub nothing_cut : {X : Type 0} (p : X → Bool) (xs : List X) → list_any p xs ≡ false → (before_first p xs ≡ xs) × (drop (position_or_len p xs) xs ≡ []) × (after_first p xs ≡ [])
+pub nothing_cut : {X : Type 0} (p : X → Bool) (xs : List X) → list_any p xs ≡ false
+    → (before_first p xs ≡ xs) × (drop (position_or_len p xs) xs ≡ []) × (after_first p xs ≡ [])
 nothing_cut p xs none =
     elim (cases_lt (position_or_len p xs) (length xs)) [
       | inl at ↦ (let clash : true ≡ false = sym (one_passes p xs at) ∙ none in (cc))
-      | inr past ↦ (take_all (position_or_len p xs) xs past, drop_all (position_or_len p xs) xs past, drop_all (position_or_len p xs + 1) xs (omega arith))
+      | inr past ↦ (
+        take_all (position_or_len p xs) xs past,
+        drop_all (position_or_len p xs) xs past,
+        drop_all (position_or_len p xs + 1) xs (omega arith),
+      )
     ]
 
 -- the first element doesn't pass: the cut is further on
@@ -71,12 +94,14 @@ pub record IsLater {X : Type 0} (p : X → Bool) (x : X) (xs : List X) : Type 0 
 pub later : {X : Type 0} (p : X → Bool) (x : X) (xs : List X) → p x ≡ false → IsLater p x xs
 later p x xs other =
     let at : position_or_len p (x ∷ xs) ≡ suc (position_or_len p xs) = rw other (omega arith) in
-    let next : position_or_len p (x ∷ xs) + 1 ≡ suc (position_or_len p xs + 1) = omega (arith, at) in
+    let next : position_or_len p (x ∷ xs) + 1 ≡ suc (position_or_len p xs + 1) =
+    omega (arith, at) in
     record {
       before = ap (λ n. take n (x ∷ xs)) at;
       from_there = ap (λ n. drop n (x ∷ xs)) at;
       after = ap (λ n. drop n (x ∷ xs)) next;
     }
 
-pub any_within : {X : Type 0} (p : X → Bool) (xs : List X) → list_any p xs ≡ true → position_or_len p xs < length xs
+pub any_within : {X : Type 0} (p : X → Bool) (xs : List X) → list_any p xs ≡ true
+    → position_or_len p xs < length xs
 any_within p xs e = ltb-true _ _ (sym (any_at p xs) ∙ e)

@@ -1,5 +1,6 @@
 -- The order on versions, by the rank of numbers and pre-release and then by ties.
-use Rattle.std.proofs.Common.{◌≡◌, ◌<◌, ◌≤◌, ◌++◌, ◌⊎◌, ℕ, List, [], ◌∷◌, length, inl, inr, refl, ap, sym, ◌∙◌, arith}
+use Rattle.std.proofs.Common.{◌≡◌, ◌<◌, ◌≤◌, ◌++◌, ◌⊎◌, ℕ, List, [], ◌∷◌, length, inl, inr, refl}
+use Rattle.std.proofs.Common.{ap, sym, ◌∙◌, arith}
 use Rattle.std.specs.declared.cmp.Ordering.{Ordering}
 use Rattle.std.specs.declared.cmp.Ordering.TheVariants.{Less, Equal, Greater}
 use Rattle.std.specs.Ordering.{nat_cmp, ordering_then}
@@ -14,7 +15,9 @@ use Rattle.semver.specs.OrderLaws.{pre_total}
 use Rattle.vk_spec.specs.Versions.{Class, Version}
 use Rattle.vk_spec.specs.Versions as plain
 use Rattle.vk_version.specs.Texts.{day_of, later_numbers}
-use Rattle.vk_version.specs.Orders.{IsLess, at_number, at_end, numbers_of, pre_of, AtMost, less_numbers, lower_pre, same_dotted, earlier_day, less_later, same_date, same_string, numbers_by, pre_by, rank_cmp}
+use Rattle.vk_version.specs.Orders.{IsLess, at_number, at_end, numbers_of, pre_of, AtMost}
+use Rattle.vk_version.specs.Orders.{less_numbers, lower_pre, same_dotted, earlier_day, less_later}
+use Rattle.vk_version.specs.Orders.{same_date, same_string, numbers_by, pre_by, rank_cmp}
 
 -- ---- lists of numbers
 
@@ -28,7 +31,8 @@ nat_greater : (x y : ℕ) → y < x → nat_cmp x y ≡ Greater
 nat_greater x y gt = grind (arith, nat_tests)
 
 less_cons : (x y : ℕ) (xs ys : List ℕ) → x ≡ y → IsLess xs ys → IsLess (x ∷ xs) (y ∷ ys)
-less_cons x y xs ys e (at_number same a b l r p q lt) = at_number (x ∷ same) a b l r (ap (λ t. x ∷ t) p) (rw (e, q) refl) lt
+less_cons x y xs ys e (at_number same a b l r p q lt) =
+    at_number (x ∷ same) a b l r (ap (λ t. x ∷ t) p) (rw (e, q) refl) lt
 less_cons x y xs ys e (at_end b r q) = at_end b r (rw (e, q) refl)
 
 pub less_from : (xs ys : List ℕ) → slice_cmp nat_cmp xs ys ≡ Less → IsLess xs ys
@@ -44,7 +48,8 @@ less_from (x ∷ xs) (y ∷ ys) e =
       ]
     ]
 
-number_first : (same : List ℕ) (x y : ℕ) (l r : List ℕ) → x < y → slice_cmp nat_cmp (same ++ x ∷ l) (same ++ y ∷ r) ≡ Less
+number_first : (same : List ℕ) (x y : ℕ) (l r : List ℕ) → x < y
+    → slice_cmp nat_cmp (same ++ x ∷ l) (same ++ y ∷ r) ≡ Less
 number_first [] x y l r lt = rw (nat_less x y lt) refl
 number_first (s ∷ same) x y l r lt = rw (nat_same s s refl) (number_first same x y l r lt)
 
@@ -56,7 +61,8 @@ pub less_to : (xs ys : List ℕ) → IsLess xs ys → slice_cmp nat_cmp xs ys �
 less_to xs ys (at_number same x y l r p q lt) = rw (p, q) (number_first same x y l r lt)
 less_to xs ys (at_end y r q) = rw q (end_first xs y r)
 
-then_assoc : (a b c : Ordering) → ordering_then a (ordering_then b c) ≡ ordering_then (ordering_then a b) c
+then_assoc : (a b c : Ordering)
+    → ordering_then a (ordering_then b c) ≡ ordering_then (ordering_then a b) c
 then_assoc Less b c = refl
 then_assoc Equal b c = refl
 then_assoc Greater b c = refl
@@ -67,7 +73,8 @@ then_Equal Equal = refl
 then_Equal Greater = refl
 
 slice_cmp-append : (xs ys xs_left ys_left : List ℕ) → length xs ≡ length ys
-    → slice_cmp nat_cmp (xs ++ xs_left) (ys ++ ys_left) ≡ ordering_then (slice_cmp nat_cmp xs ys) (slice_cmp nat_cmp xs_left ys_left)
+    → slice_cmp nat_cmp (xs ++ xs_left) (ys ++ ys_left) ≡ ordering_then (slice_cmp nat_cmp xs ys)
+    (slice_cmp nat_cmp xs_left ys_left)
 slice_cmp-append [] [] l r e = refl
 slice_cmp-append [] (y ∷ ys) l r e = absurd (omega arith)
 slice_cmp-append (x ∷ xs) [] l r e = absurd (omega arith)
@@ -109,14 +116,20 @@ same_pre p q e = rw e (pre_self q)
 -- ---- versions
 
 pub rank_total : IsTotalOrder rank_cmp
-rank_total = then_total (on_total (λ (v : Version). numbers_by v.class v.text) nat_list_cmp_total) (on_total (λ (v : Version). pre_by v.class v.text) pre_total)
+rank_total =
+    then_total (on_total (λ (v : Version). numbers_by v.class v.text) nat_list_cmp_total)
+    (on_total (λ (v : Version). pre_by v.class v.text) pre_total)
 
 pub date_rank : (v w : Version) → v.class ≡ plain.date → w.class ≡ plain.date
-    → rank_cmp v w ≡ ordering_then (slice_cmp nat_cmp (day_of v.text) (day_of w.text)) (slice_cmp nat_cmp (later_numbers v.text) (later_numbers w.text))
+    → rank_cmp v w ≡ ordering_then (slice_cmp nat_cmp (day_of v.text) (day_of w.text))
+    (slice_cmp nat_cmp (later_numbers v.text) (later_numbers w.text))
 date_rank v w p q =
-    rw (p, q) (then_Equal _ ∙ slice_cmp-append (day_of v.text) (day_of w.text) (later_numbers v.text) (later_numbers w.text) refl)
+    rw (p, q) (then_Equal _
+    ∙ slice_cmp-append (day_of v.text) (day_of w.text) (later_numbers v.text)
+    (later_numbers w.text) refl)
 
-pub date_parts : (v w : Version) → v.class ≡ plain.date → w.class ≡ plain.date → rank_cmp v w ≡ Equal
+pub date_parts : (v w : Version) → v.class ≡ plain.date → w.class ≡ plain.date
+    → rank_cmp v w ≡ Equal
     → (day_of v.text ≡ day_of w.text) × (later_numbers v.text ≡ later_numbers w.text)
 date_parts v w p q e =
     let both = then_same _ _ (sym (date_rank v w p q) ∙ e) in
@@ -127,30 +140,44 @@ pub data Ordered (v w : Version) : Type 0 where
   tied : v.class ≡ w.class → rank_cmp v w ≡ Equal → v.text ≡ w.text → v.port ≤ w.port → Ordered v w
 
 pub ordered_from : (v w : Version) → AtMost v w → Ordered v w
-ordered_from v w (less_numbers b l) = lower (b.first ∙ sym b.second) (rw (b.first, b.second, less_to _ _ l) refl)
-ordered_from v w (lower_pre b n p) = lower (b.first ∙ sym b.second) (rw (b.first, b.second, n, list_self (numbers_of w)) p)
-ordered_from v w (same_dotted b n p t le) = tied (b.first ∙ sym b.second) (rw (b.first, b.second, n, p, list_self (numbers_of w), pre_self (pre_of w)) refl) t le
-ordered_from v w (earlier_day b l) = lower (b.first ∙ sym b.second) (date_rank v w b.first b.second ∙ then_first _ _ (less_to _ _ l))
-ordered_from v w (less_later b d l) = lower (b.first ∙ sym b.second) (date_rank v w b.first b.second ∙ then_by _ _ _ (same_list _ _ d) (less_to _ _ l))
+ordered_from v w (less_numbers b l) =
+    lower (b.first ∙ sym b.second) (rw (b.first, b.second, less_to _ _ l) refl)
+ordered_from v w (lower_pre b n p) =
+    lower (b.first ∙ sym b.second) (rw (b.first, b.second, n, list_self (numbers_of w)) p)
+ordered_from v w (same_dotted b n p t le) =
+    tied (b.first ∙ sym b.second)
+    (rw (b.first, b.second, n, p, list_self (numbers_of w), pre_self (pre_of w)) refl) t le
+ordered_from v w (earlier_day b l) =
+    lower (b.first ∙ sym b.second) (date_rank v w b.first b.second ∙ then_first _ _ (less_to _ _ l))
+ordered_from v w (less_later b d l) =
+    lower (b.first ∙ sym b.second)
+    (date_rank v w b.first b.second ∙ then_by _ _ _ (same_list _ _ d) (less_to _ _ l))
 ordered_from v w (same_date b d l t le) =
-    tied (b.first ∙ sym b.second) (date_rank v w b.first b.second ∙ then_by _ _ _ (same_list _ _ d) (same_list _ _ l)) t le
-ordered_from v w (same_string b t le) = tied (b.first ∙ sym b.second) (rw (b.first, b.second) refl) t le
+    tied (b.first ∙ sym b.second)
+    (date_rank v w b.first b.second ∙ then_by _ _ _ (same_list _ _ d) (same_list _ _ l)) t le
+ordered_from v w (same_string b t le) =
+    tied (b.first ∙ sym b.second) (rw (b.first, b.second) refl) t le
 
-from_lower : (c : Class) (v w : Version) → v.class ≡ c → w.class ≡ c → rank_cmp v w ≡ Less → AtMost v w
+from_lower : (c : Class) (v w : Version) → v.class ≡ c → w.class ≡ c → rank_cmp v w ≡ Less
+    → AtMost v w
 from_lower plain.dot v w p q e =
-    elim (then_less (slice_cmp nat_cmp (numbers_of v) (numbers_of w)) (pre_cmp (pre_of v) (pre_of w)) (rw (p, q) at e)) [
+    elim (then_less (slice_cmp nat_cmp (numbers_of v) (numbers_of w))
+    (pre_cmp (pre_of v) (pre_of w)) (rw (p, q) at e)) [
       | inl n ↦ less_numbers (record { first = p; second = q }) (less_from _ _ n)
       | inr b ↦ lower_pre (record { first = p; second = q }) (list_anti _ _ b.0) b.1
     ]
 from_lower plain.date v w p q e =
     elim (then_less _ _ (sym (date_rank v w p q) ∙ e)) [
       | inl n ↦ earlier_day (record { first = p; second = q }) (less_from _ _ n)
-      | inr b ↦ less_later (record { first = p; second = q }) (list_anti _ _ b.0) (less_from _ _ b.1)
+      | inr b ↦
+          less_later (record { first = p; second = q }) (list_anti _ _ b.0) (less_from _ _ b.1)
     ]
 from_lower plain.text v w p q e = (let clash = rw (p, q) at e in (cc))
 
-from_tied : (c : Class) (v w : Version) → v.class ≡ c → w.class ≡ c → rank_cmp v w ≡ Equal → v.text ≡ w.text → v.port ≤ w.port → AtMost v w
-from_tied plain.dot v w p q e t le = same_dotted (record { first = p; second = q }) (rw t refl) (rw t refl) t le
+from_tied : (c : Class) (v w : Version) → v.class ≡ c → w.class ≡ c → rank_cmp v w ≡ Equal
+    → v.text ≡ w.text → v.port ≤ w.port → AtMost v w
+from_tied plain.dot v w p q e t le =
+    same_dotted (record { first = p; second = q }) (rw t refl) (rw t refl) t le
 from_tied plain.date v w p q e t le =
     let both = date_parts v w p q e in
     same_date (record { first = p; second = q }) both.0 both.1 t le
@@ -167,9 +194,12 @@ AtMost-refl v = from_tied v.class v v refl refl (tied_itself rank_total v) refl 
 
 ordered_trans : (u v w : Version) → Ordered u v → Ordered v w → Ordered u w
 ordered_trans u v w (lower c r) (lower d s) = lower (c ∙ d) (rank_total.trans u v w r s)
-ordered_trans u v w (lower c r) (tied d s t le) = lower (c ∙ d) (sym (alike_right rank_total v w u s) ∙ r)
+ordered_trans u v w (lower c r) (tied d s t le) =
+    lower (c ∙ d) (sym (alike_right rank_total v w u s) ∙ r)
 ordered_trans u v w (tied c r t le) (lower d s) = lower (c ∙ d) (rank_total.congr u v w r ∙ s)
-ordered_trans u v w (tied c r t le) (tied d s t2 le2) = tied (c ∙ d) (rank_total.congr u v w r ∙ s) (t ∙ t2) (omega arith)
+ordered_trans u v w (tied c r t le) (tied d s t2 le2) =
+    tied (c ∙ d) (rank_total.congr u v w r ∙ s) (t ∙ t2) (omega arith)
 
 pub AtMost-trans : (u v w : Version) → AtMost u v → AtMost v w → AtMost u w
-AtMost-trans u v w h k = ordered_to u w (ordered_trans u v w (ordered_from u v h) (ordered_from v w k))
+AtMost-trans u v w h k =
+    ordered_to u w (ordered_trans u v w (ordered_from u v h) (ordered_from v w k))

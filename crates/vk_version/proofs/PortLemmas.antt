@@ -7,7 +7,9 @@ use Rattle.vk_version.specs.Schemes.{Scheme}
 use Rattle.vk_version.specs.Readings.{unless, class_of, fault_under, reads_version, IsVersion}
 use Rattle.vk_version.specs.Parsed.{version_of, Keeps}
 
-unless_with : (wrong : Option VersionFault) (class : Class) (v : Version) (port : ℕ) → unless wrong (version_of class v.text v.port) ≡ Ok v → unless wrong (version_of class v.text port) ≡ Ok (record v { port = port })
+unless_with : (wrong : Option VersionFault) (class : Class) (v : Version) (port : ℕ)
+    → unless wrong (version_of class v.text v.port) ≡ Ok v
+    → unless wrong (version_of class v.text port) ≡ Ok (record v { port = port })
 unless_with (Some f) class v port e = let no : Err f ≡ Ok v = e in (cc)
 unless_with None class v port e =
     let is : version_of class v.text v.port ≡ v = (cc) in
@@ -20,7 +22,8 @@ with_port_is v port is = record {
 }
 
 -- what a version keeps, it keeps with any port-version
-pub kept_with_port : (v : Version) (numbers : List ℕ) (pre : List ℕ) (port : ℕ) → Keeps v numbers pre → Keeps (record v { port = port }) numbers pre
+pub kept_with_port : (v : Version) (numbers : List ℕ) (pre : List ℕ) (port : ℕ)
+    → Keeps v numbers pre → Keeps (record v { port = port }) numbers pre
 kept_with_port v numbers pre port kept = record {
   version = with_port_is v port kept.version;
   numbers = kept.numbers;

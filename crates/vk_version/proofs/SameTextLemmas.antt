@@ -1,5 +1,7 @@
 -- Two dates with the same day and numbers have the same text.
-use Rattle.std.proofs.Common.{◌≡◌, ◌<◌, ◌≤◌, ◌+◌, ◌*◌, ◌-◌, ◌^◌, ◌==◌, ◌++◌, ◌||◌, ℕ, not, true, List, [], ◌∷◌, length, map, take, drop, get_or, Option, Some, None, Ok, inl, inr, refl, ap, sym, ◌∙◌, arith}
+use Rattle.std.proofs.Common.{◌≡◌, ◌<◌, ◌≤◌, ◌+◌, ◌*◌, ◌-◌, ◌^◌, ◌==◌, ◌++◌, ◌||◌, ℕ, not, true}
+use Rattle.std.proofs.Common.{List, [], ◌∷◌, length, map, take, drop, get_or, Option, Some, None}
+use Rattle.std.proofs.Common.{Ok, inl, inr, refl, ap, sym, ◌∙◌, arith}
 use Rattle.std.specs.Prelude.{slice_range, nat_lt}
 use Rattle.std.specs.Char.{is_ascii_digit, digit_value}
 use Rattle.std.specs.List.{list_all, position}
@@ -17,7 +19,9 @@ use Rattle.vk_spec.specs.Versions as plain
 use Rattle.vk_version.specs.declared.faults.VersionFault.{VersionFault}
 use Rattle.vk_version.specs.Schemes.{Scheme}
 use Rattle.vk_version.specs.Schemes as the
-use Rattle.vk_version.specs.Texts.{is_number, number_of, all_fit, are_digits, is_day, numbers_of_day, first_part, later_parts, later_numbers, day_of, is_dated, has_day}
+use Rattle.vk_version.specs.Texts.{is_number, number_of, all_fit, are_digits, is_day}
+use Rattle.vk_version.specs.Texts.{numbers_of_day, first_part, later_parts, later_numbers, day_of}
+use Rattle.vk_version.specs.Texts.{is_dated, has_day}
 use Rattle.vk_version.specs.Readings.{IsVersion, reads_version, unless, fault_under}
 use Rattle.vk_version.proofs.DigitLemmas.{own}
 use Rattle.vk_version.proofs.CutLemmas.{uncut, cut_at, position-Some}
@@ -28,7 +32,8 @@ digit_is : (c : ℕ) → is_ascii_digit c ≡ true → (digit_value c ≡ c - 48
 digit_is c e = (grind (arith, nat_tests), grind (arith, nat_tests), grind (arith, nat_tests))
 
 -- as many digits that say the same after the same
-same_digits : (m n : ℕ) (ds es : List ℕ) → list_all is_ascii_digit ds ≡ true → list_all is_ascii_digit es ≡ true → length ds ≡ length es
+same_digits : (m n : ℕ) (ds es : List ℕ) → list_all is_ascii_digit ds ≡ true
+    → list_all is_ascii_digit es ≡ true → length ds ≡ length es
     → digits_value_after 10 m ds ≡ digits_value_after 10 n es → (m ≡ n) × (ds ≡ es)
 same_digits m n [] [] p q l e = (e, refl)
 same_digits m n [] (d ∷ es) p q l e = absurd (omega arith)
@@ -36,7 +41,9 @@ same_digits m n (c ∷ ds) [] p q l e = absurd (omega arith)
 same_digits m n (c ∷ ds) (d ∷ es) p q l e =
     let ps = and_parts (is_ascii_digit c) (list_all is_ascii_digit ds) p in
     let qs = and_parts (is_ascii_digit d) (list_all is_ascii_digit es) q in
-    let ih = same_digits (m * 10 + digit_value c) (n * 10 + digit_value d) ds es ps.1 qs.1 (omega arith) e in
+    let ih =
+    same_digits (m * 10 + digit_value c) (n * 10 + digit_value d) ds es ps.1 qs.1
+    (omega arith) e in
     let dc = digit_is c ps.0 in
     let dd = digit_is d qs.0 in
     let step : m * 10 + (c - 48) ≡ n * 10 + (d - 48) = rw (← dc.0, ← dd.0) ih.0 in
@@ -44,18 +51,24 @@ same_digits m n (c ∷ ds) (d ∷ es) p q l e =
     let head : c ≡ d = omega arith in
     (front, rw (head, ih.1) refl)
 
-pub same_number : (p q : List ℕ) → is_number p ≡ true → is_number q ≡ true → nat_lt (number_of p) (2 ^ 64) ≡ true → number_of p ≡ number_of q → p ≡ q
+pub same_number : (p q : List ℕ) → is_number p ≡ true → is_number q ≡ true
+    → nat_lt (number_of p) (2 ^ 64) ≡ true → number_of p ≡ number_of q → p ≡ q
 same_number [] q e f fit same = (cc)
 same_number (b ∷ bs) [] e f fit same = (cc)
 same_number (b ∷ bs) (c ∷ cs) e f fit same =
     let es = and_parts (not (b == 48) || length bs == 0) (list_all is_ascii_digit (b ∷ bs)) e in
     let fs = and_parts (not (c == 48) || length cs == 0) (list_all is_ascii_digit (c ∷ cs)) f in
     let small : number_of (b ∷ bs) < 2 ^ 64 = ltb-true _ _ fit in
-    let one : decimal (number_of (b ∷ bs)) ≡ b ∷ bs = decimal-digits_value own (b ∷ bs) es.1 (omega arith) (λ z. grind (arith, nat_tests)) small in
-    let two : decimal (number_of (c ∷ cs)) ≡ c ∷ cs = decimal-digits_value own (c ∷ cs) fs.1 (omega arith) (λ z. grind (arith, nat_tests)) (rw same at small) in
+    let one : decimal (number_of (b ∷ bs)) ≡ b ∷ bs =
+    decimal-digits_value own (b ∷ bs) es.1 (omega arith)
+    (λ z. grind (arith, nat_tests)) small in
+    let two : decimal (number_of (c ∷ cs)) ≡ c ∷ cs =
+    decimal-digits_value own (c ∷ cs) fs.1 (omega arith) (λ z. grind (arith, nat_tests))
+    (rw same at small) in
     sym one ∙ ap decimal same ∙ two
 
-same_numbers : (ps qs : List (List ℕ)) → list_all is_number ps ≡ true → list_all is_number qs ≡ true → all_fit (map number_of ps) ≡ true → map number_of ps ≡ map number_of qs → ps ≡ qs
+same_numbers : (ps qs : List (List ℕ)) → list_all is_number ps ≡ true → list_all is_number qs ≡ true
+    → all_fit (map number_of ps) ≡ true → map number_of ps ≡ map number_of qs → ps ≡ qs
 same_numbers [] [] e f fit same = refl
 same_numbers [] (q ∷ qs) e f fit same = (cc)
 same_numbers (p ∷ ps) [] e f fit same = (cc)
@@ -70,16 +83,22 @@ same_numbers (p ∷ ps) (q ∷ qs) e f fit same =
 -- ---- days
 
 -- ten bytes, from the pieces that are read
-rebuilt : (t : List ℕ) → length t ≡ 10 → t ≡ slice_range t 0 4 ++ (get_or t 4 0 ∷ (slice_range t 5 7 ++ (get_or t 7 0 ∷ slice_range t 8 10)))
+rebuilt : (t : List ℕ) → length t ≡ 10 → t ≡ slice_range t 0 4
+    ++ (get_or t 4 0 ∷ (slice_range t 5 7 ++ (get_or t 7 0 ∷ slice_range t 8 10)))
 rebuilt t ten =
     let a : drop 4 t ≡ get_or t 4 0 ∷ drop 5 t = drop_more t 4 0 (omega arith) in
-    let b : drop 5 t ≡ take 2 (drop 5 t) ++ drop 7 t = sym (rw drop-drop at (take-append-drop 2 (drop 5 t))) in
+    let b : drop 5 t ≡ take 2 (drop 5 t) ++ drop 7 t =
+    sym (rw drop-drop at (take-append-drop 2 (drop 5 t))) in
     let c : drop 7 t ≡ get_or t 7 0 ∷ drop 8 t = drop_more t 7 0 (omega arith) in
-    let d : drop 8 t ≡ take 2 (drop 8 t) = sym (take_all 2 (drop 8 t) (rw length-drop (omega arith))) in
+    let d : drop 8 t ≡ take 2 (drop 8 t) =
+    sym (take_all 2 (drop 8 t) (rw length-drop (omega arith))) in
     sym (take-append-drop 4 t)
-    ∙ ap (λ r. take 4 t ++ r) (a ∙ ap (λ r. get_or t 4 0 ∷ r) (b ∙ ap (λ r. take 2 (drop 5 t) ++ r) (c ∙ ap (λ r. get_or t 7 0 ∷ r) d)))
+    ∙ ap (λ r. take 4 t ++ r)
+    (a ∙ ap (λ r. get_or t 4 0 ∷ r)
+    (b ∙ ap (λ r. take 2 (drop 5 t) ++ r) (c ∙ ap (λ r. get_or t 7 0 ∷ r) d)))
 
-same_pieces : (a b c x y z : List ℕ) (h k m n : ℕ) → a ≡ x → h ≡ m → b ≡ y → k ≡ n → c ≡ z → a ++ (h ∷ (b ++ (k ∷ c))) ≡ x ++ (m ∷ (y ++ (n ∷ z)))
+same_pieces : (a b c x y z : List ℕ) (h k m n : ℕ) → a ≡ x → h ≡ m → b ≡ y → k ≡ n → c ≡ z → a
+    ++ (h ∷ (b ++ (k ∷ c))) ≡ x ++ (m ∷ (y ++ (n ∷ z)))
 same_pieces a b c x y z h k m n e f g i j = rw (e, f, g, i, j) refl
 
 pub record IsDay (t : List ℕ) : Type 0 where
@@ -106,17 +125,20 @@ day_form t e =
       day = f.1;
     }
 
-same_field : (n : ℕ) (ds es : List ℕ) → are_digits n ds ≡ true → are_digits n es ≡ true → number_of ds ≡ number_of es → ds ≡ es
+same_field : (n : ℕ) (ds es : List ℕ) → are_digits n ds ≡ true → are_digits n es ≡ true
+    → number_of ds ≡ number_of es → ds ≡ es
 same_field n ds es p q same =
     let ps = and_parts (length ds == n) (list_all is_ascii_digit ds) p in
     let qs = and_parts (length es == n) (list_all is_ascii_digit es) q in
     let l : length ds ≡ length es = eqb-true _ _ ps.0 ∙ sym (eqb-true _ _ qs.0) in
     (same_digits 0 0 ds es ps.1 qs.1 l same).1
 
-same_three : (a b c x y z : ℕ) → ◌≡◌ {A = List ℕ} (a ∷ b ∷ c ∷ []) (x ∷ y ∷ z ∷ []) → (a ≡ x) × (b ≡ y) × (c ≡ z)
+same_three : (a b c x y z : ℕ) → ◌≡◌ {A = List ℕ} (a ∷ b ∷ c ∷ []) (x ∷ y ∷ z ∷ []) → (a ≡ x)
+    × (b ≡ y) × (c ≡ z)
 same_three a b c x y z e = ((cc), (cc), (cc))
 
-same_day : (t u : List ℕ) → is_day t ≡ true → is_day u ≡ true → numbers_of_day t ≡ numbers_of_day u → t ≡ u
+same_day : (t u : List ℕ) → is_day t ≡ true → is_day u ≡ true → numbers_of_day t ≡ numbers_of_day u
+    → t ≡ u
 same_day t u et eu same =
     let p = day_form t et in
     let q = day_form u eu in
@@ -130,25 +152,30 @@ same_day t u et eu same =
 
 -- ---- texts
 
-parts_cut : (t : List ℕ) (place : Option ℕ) → position (λ b. b == 46) t ≡ place → parts t ≡ first_part t ∷ later_parts t
+parts_cut : (t : List ℕ) (place : Option ℕ) → position (λ b. b == 46) t ≡ place
+    → parts t ≡ first_part t ∷ later_parts t
 parts_cut t None e = let c = uncut (λ b. b == 46) t e in rw (c.1, c.0) refl
 parts_cut t (Some i) e =
     let c = cut_at (λ b. b == 46) t i 0 e in
     let at = position-Some (λ b. b == 46) t i e in
     rw (c, at.0) refl
 
-pub same_text : (t u : List ℕ) → is_dated t ≡ true → is_dated u ≡ true → all_fit (later_numbers t) ≡ true → day_of t ≡ day_of u → later_numbers t ≡ later_numbers u → t ≡ u
+pub same_text : (t u : List ℕ) → is_dated t ≡ true → is_dated u ≡ true
+    → all_fit (later_numbers t) ≡ true → day_of t ≡ day_of u → later_numbers t ≡ later_numbers u
+    → t ≡ u
 same_text t u dt du fit days later =
     let p = and_parts (is_day (first_part t)) (list_all is_number (later_parts t)) dt in
     let q = and_parts (is_day (first_part u)) (list_all is_number (later_parts u)) du in
     let front = same_day (first_part t) (first_part u) p.0 q.0 days in
     let back = same_numbers (later_parts t) (later_parts u) p.1 q.1 fit later in
-    let same : parts t ≡ parts u = parts_cut t _ refl ∙ rw (front, back) refl ∙ sym (parts_cut u _ refl) in
+    let same : parts t ≡ parts u = parts_cut t _ refl ∙ rw (front, back) refl
+    ∙ sym (parts_cut u _ refl) in
     sym (join-parts t) ∙ ap join_dots same ∙ join-parts u
 
 -- ---- versions
 
-reads_Ok : (fault : Option VersionFault) (v w : Version) → unless fault v ≡ Ok w → (fault ≡ None) × (v ≡ w)
+reads_Ok : (fault : Option VersionFault) (v w : Version) → unless fault v ≡ Ok w → (fault ≡ None)
+    × (v ≡ w)
 reads_Ok None v w e = (refl, (cc))
 reads_Ok (Some fault) v w e = (cc)
 
@@ -168,13 +195,25 @@ sound text e =
       | inr other ↦ (let clash = rw other at e in (cc))
     ]
 
-date_by : (scheme : Scheme) (v : Version) → reads_version scheme v.text v.port ≡ Ok v → v.class ≡ plain.date → IsSound v.text
-date_by the.relaxed v e c = let r = reads_Ok (fault_under the.relaxed v.text) _ v e in let clash : plain.dot ≡ plain.date = ap (λ (w : Version). w.class) r.1 ∙ c in (cc)
-date_by the.semver v e c = let r = reads_Ok (fault_under the.semver v.text) _ v e in let clash : plain.dot ≡ plain.date = ap (λ (w : Version). w.class) r.1 ∙ c in (cc)
-date_by the.string v e c = let r = reads_Ok (fault_under the.string v.text) _ v e in let clash : plain.text ≡ plain.date = ap (λ (w : Version). w.class) r.1 ∙ c in (cc)
+date_by : (scheme : Scheme) (v : Version) → reads_version scheme v.text v.port ≡ Ok v
+    → v.class ≡ plain.date → IsSound v.text
+date_by the.relaxed v e c =
+    let r =
+    reads_Ok (fault_under the.relaxed v.text) _ v e in let clash : plain.dot ≡ plain.date =
+    ap (λ (w : Version). w.class) r.1 ∙ c in (cc)
+date_by the.semver v e c =
+    let r =
+    reads_Ok (fault_under the.semver v.text) _ v e in let clash : plain.dot ≡ plain.date =
+    ap (λ (w : Version). w.class) r.1 ∙ c in (cc)
+date_by the.string v e c =
+    let r =
+    reads_Ok (fault_under the.string v.text) _ v e in let clash : plain.text ≡ plain.date =
+    ap (λ (w : Version). w.class) r.1 ∙ c in (cc)
 date_by the.date v e c = let r = reads_Ok (fault_under the.date v.text) _ v e in sound v.text r.0
 
-pub same_dates : (v w : Version) → IsVersion v → IsVersion w → v.class ≡ plain.date → w.class ≡ plain.date → day_of v.text ≡ day_of w.text → later_numbers v.text ≡ later_numbers w.text → v.text ≡ w.text
+pub same_dates : (v w : Version) → IsVersion v → IsVersion w → v.class ≡ plain.date
+    → w.class ≡ plain.date → day_of v.text ≡ day_of w.text
+    → later_numbers v.text ≡ later_numbers w.text → v.text ≡ w.text
 same_dates v w iv iw c d days later =
     let p = date_by iv.scheme v iv.reads c in
     let q = date_by iw.scheme w iw.reads d in

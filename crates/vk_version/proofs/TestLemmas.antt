@@ -1,5 +1,6 @@
 -- The order and its test say the same, and what each answer of the test says.
-use Rattle.std.proofs.Common.{◌≡◌, ◌≤◌, ◌↔◌, ℕ, true, false, List, Option, Some, None, inl, inr, refl, ap, sym, ◌∙◌, arith}
+use Rattle.std.proofs.Common.{◌≡◌, ◌≤◌, ◌↔◌, ℕ, true, false, List, Option, Some, None, inl, inr}
+use Rattle.std.proofs.Common.{refl, ap, sym, ◌∙◌, arith}
 use Rattle.std.specs.Prelude.{nat_eq}
 use Rattle.std.specs.declared.cmp.Ordering.{Ordering}
 use Rattle.std.specs.declared.cmp.Ordering.TheVariants.{Less, Equal, Greater}
@@ -12,8 +13,10 @@ use Rattle.std.proofs.lemmas.Cmp.{tied_back}
 use Rattle.std.proofs.lemmas.Slice.Eq.{slice_eq-Decides}
 use Rattle.vk_spec.specs.Versions.{Class, Version, same_class, IsOrder}
 use Rattle.vk_spec.proofs.VersionLemmas.{class_decides}
-use Rattle.vk_version.specs.Orders.{AtMost, Below, Unrelated, rank_cmp, tie_cmp, unless_tied, order_of, at_most}
-use Rattle.vk_version.proofs.OrderLemmas.{Ordered, lower, tied, ordered_from, ordered_to, rank_total, AtMost-refl, AtMost-trans}
+use Rattle.vk_version.specs.Orders.{AtMost, Below, Unrelated, rank_cmp, tie_cmp, unless_tied}
+use Rattle.vk_version.specs.Orders.{order_of, at_most}
+use Rattle.vk_version.proofs.OrderLemmas.{Ordered, lower, tied, ordered_from, ordered_to}
+use Rattle.vk_version.proofs.OrderLemmas.{rank_total, AtMost-refl, AtMost-trans}
 
 -- ---- antisymmetry
 
@@ -21,9 +24,12 @@ same_version : (v w : Version) → v.class ≡ w.class → v.text ≡ w.text →
 same_version v w c t p = λ i. record { class = c i; text = t i; port = p i }
 
 ordered_anti : (v w : Version) → Ordered v w → Ordered w v → v ≡ w
-ordered_anti v w (lower c r) (lower d s) = (let clash : Less ≡ Greater = sym r ∙ rank_total.antisymm v w ∙ ap ordering_reverse s in (cc))
-ordered_anti v w (lower c r) (tied d s t le) = (let clash : Less ≡ Equal = sym r ∙ rank_total.antisymm v w ∙ ap ordering_reverse s in (cc))
-ordered_anti v w (tied c r t le) (lower d s) = (let clash : Equal ≡ Greater = sym r ∙ rank_total.antisymm v w ∙ ap ordering_reverse s in (cc))
+ordered_anti v w (lower c r) (lower d s) =
+    (let clash : Less ≡ Greater = sym r ∙ rank_total.antisymm v w ∙ ap ordering_reverse s in (cc))
+ordered_anti v w (lower c r) (tied d s t le) =
+    (let clash : Less ≡ Equal = sym r ∙ rank_total.antisymm v w ∙ ap ordering_reverse s in (cc))
+ordered_anti v w (tied c r t le) (lower d s) =
+    (let clash : Equal ≡ Greater = sym r ∙ rank_total.antisymm v w ∙ ap ordering_reverse s in (cc))
 ordered_anti v w (tied c r t le) (tied d s t2 le2) = same_version v w c t (omega arith)
 
 pub AtMost-antisym : (v w : Version) → AtMost v w → AtMost w v → v ≡ w
@@ -54,28 +60,42 @@ texts_decide : (xs ys : List ℕ) → Decides (pointwise nat_eq xs ys) (xs ≡ y
 texts_decide xs ys = slice_eq-Decides Decides-eqb xs ys (pointwise nat_eq xs ys) refl
 
 tied_false : (v w : Version) → pointwise nat_eq v.text w.text ≡ false → v.text ≡ w.text → ⊥
-tied_false v w e same = (let clash : true ≡ false = sym ((texts_decide v.text w.text).1 same) ∙ e in (cc))
+tied_false v w e same =
+    (let clash : true ≡ false = sym ((texts_decide v.text w.text).1 same) ∙ e in (cc))
 
 -- ordered first, of one rank: the same text, and the port-version isn't greater
-pub of_one_rank : (v w : Version) → rank_cmp v w ≡ Equal → Ordered v w → (v.text ≡ w.text) × (v.port ≤ w.port)
+pub of_one_rank : (v w : Version) → rank_cmp v w ≡ Equal → Ordered v w → (v.text ≡ w.text)
+    × (v.port ≤ w.port)
 of_one_rank v w r (lower c s) = (let clash : Equal ≡ Less = sym r ∙ s in (cc))
 of_one_rank v w r (tied c s t le) = (t, le)
 
-says_tied : (v w : Version) → v.class ≡ w.class → rank_cmp v w ≡ Equal → v.text ≡ w.text → Says v w (Some (nat_cmp v.port w.port))
+says_tied : (v w : Version) → v.class ≡ w.class → rank_cmp v w ≡ Equal → v.text ≡ w.text
+    → Says v w (Some (nat_cmp v.port w.port))
 says_tied v w c r t =
     let back = tied_back rank_total v w r in
     let t_back = sym t in
     elim (cases_order v.port w.port) [
       | inl same ↦
           let e : nat_cmp v.port w.port ≡ Equal = grind (arith, nat_tests) in
-          rw e (ordered_to v w (tied c r t (omega arith)), ordered_to w v (tied (sym c) back t_back (omega arith)))
+          rw e (
+            ordered_to v w (tied c r t (omega arith)),
+            ordered_to w v (tied (sym c) back t_back (omega arith)),
+          )
       | inr other ↦ elim other [
         | inl lt ↦
             let e : nat_cmp v.port w.port ≡ Less = grind (arith, nat_tests) in
-            rw e (ordered_to v w (tied c r t (omega arith)), (λ h. let le = (of_one_rank w v back (ordered_from w v h)).1 in absurd (omega arith)))
+            rw e (
+              ordered_to v w (tied c r t (omega arith)),
+              (λ h. let le =
+                  (of_one_rank w v back (ordered_from w v h)).1 in absurd (omega arith)),
+            )
         | inr gt ↦
             let e : nat_cmp v.port w.port ≡ Greater = grind (arith, nat_tests) in
-            rw e ((λ h. let le = (of_one_rank v w r (ordered_from v w h)).1 in absurd (omega arith)), ordered_to w v (tied (sym c) back t_back (omega arith)))
+            rw e (
+              (λ h. let le =
+                  (of_one_rank v w r (ordered_from v w h)).1 in absurd (omega arith)),
+              ordered_to w v (tied (sym c) back t_back (omega arith)),
+            )
       ]
     ]
 
@@ -91,7 +111,8 @@ says_tie v w c r =
           )
     ]
 
-says_rank : (o : Ordering) (v w : Version) → v.class ≡ w.class → rank_cmp v w ≡ o → Says v w (unless_tied o (tie_cmp v w))
+says_rank : (o : Ordering) (v w : Version) → v.class ≡ w.class → rank_cmp v w ≡ o
+    → Says v w (unless_tied o (tie_cmp v w))
 says_rank Less v w c r =
     let back : rank_cmp w v ≡ Greater = rank_total.antisymm w v ∙ ap ordering_reverse r in
     (ordered_to v w (lower c r), (λ h. not_later w v back (ordered_from w v h)))
@@ -103,7 +124,8 @@ says_rank Greater v w c r =
 pub says : (v w : Version) → Says v w (order_of v w)
 says v w =
     elim (cases_Bool (same_class v.class w.class)) [
-      | inl same ↦ rw same (says_rank (rank_cmp v w) v w ((class_decides v.class w.class).0 same) refl)
+      | inl same ↦
+          rw same (says_rank (rank_cmp v w) v w ((class_decides v.class w.class).0 same) refl)
       | inr other ↦ rw other (
         (λ h. class_false v.class w.class other (ordered_class v w (ordered_from v w h))),
         (λ h. class_false v.class w.class other (sym (ordered_class w v (ordered_from w v h)))),
@@ -112,7 +134,8 @@ says v w =
 
 -- ---- the test and the relation
 
-test_says : (v w : Version) (answer : Option Ordering) → Says v w answer → (is_some_and is_le answer ≡ true) ↔ AtMost v w
+test_says : (v w : Version) (answer : Option Ordering) → Says v w answer
+    → (is_some_and is_le answer ≡ true) ↔ AtMost v w
 test_says v w (Some Less) s = ((λ e. s.0), (λ h. refl))
 test_says v w (Some Equal) s = ((λ e. s.0), (λ h. refl))
 test_says v w (Some Greater) s = ((λ e. (cc)), (λ h. absurd (s.0 h)))
@@ -157,7 +180,8 @@ answers_says v w None s = record {
   none = ((λ e. s), (λ u. refl));
 }
 
-pub answers : (v w : Version) (answer : Option Ordering) → answer ≡ order_of v w → Answers v w answer
+pub answers : (v w : Version) (answer : Option Ordering) → answer ≡ order_of v w
+    → Answers v w answer
 answers v w answer e = rw e (answers_says v w (order_of v w) (says v w))
 
 -- ---- an order on all plain versions
@@ -165,6 +189,9 @@ answers v w answer e = rw e (answers_says v w (order_of v w) (says v w))
 pub at_most-IsOrder : IsOrder at_most
 at_most-IsOrder = record {
   reflexive = λ v. (at_most_is v v).1 (AtMost-refl v);
-  transitive = λ u v w one two. (at_most_is u w).1 (AtMost-trans u v w ((at_most_is u v).0 one) ((at_most_is v w).0 two));
-  antisymmetric = λ v w one two. AtMost-antisym v w ((at_most_is v w).0 one) ((at_most_is w v).0 two);
+  transitive =
+      λ u v w one two. (at_most_is u w).1
+      (AtMost-trans u v w ((at_most_is u v).0 one) ((at_most_is v w).0 two));
+  antisymmetric =
+      λ v w one two. AtMost-antisym v w ((at_most_is v w).0 one) ((at_most_is w v).0 two);
 }

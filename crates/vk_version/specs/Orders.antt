@@ -1,5 +1,6 @@
 -- The partial order on versions.
-use Rattle.std.specs.Prelude.{◌≡◌, ◌<◌, ◌≤◌, ◌++◌, ℕ, Bool, List, [], ◌∷◌, Option, Some, None, nat_eq, if◌then◌else◌}
+use Rattle.std.specs.Prelude.{◌≡◌, ◌<◌, ◌≤◌, ◌++◌, ℕ, Bool, List, [], ◌∷◌, Option, Some, None}
+use Rattle.std.specs.Prelude.{nat_eq, if◌then◌else◌}
 use Rattle.std.specs.declared.cmp.Ordering.{Ordering}
 use Rattle.std.specs.declared.cmp.Ordering.TheVariants.{Less, Equal, Greater}
 use Rattle.std.specs.Ordering.{nat_cmp, ordering_then, is_some_and, is_le}
@@ -9,9 +10,11 @@ use Rattle.vk_spec.specs.Versions.{Class, Version, same_class}
 use Rattle.vk_spec.specs.Versions as plain
 use Rattle.vk_version.specs.Texts.{numbers_in, core_of, tail_of, pre_in, day_of, later_numbers}
 
--- numbers compared from the left: the first that differs is less, or they end where the others go on
+-- numbers compared from the left: the first that differs is less, or they end where the others go
+-- on
 pub data IsLess (xs ys : List ℕ) : Type 0 where
-  at_number : (same : List ℕ) (x y : ℕ) (xs_left ys_left : List ℕ) → xs ≡ same ++ x ∷ xs_left → ys ≡ same ++ y ∷ ys_left → x < y → IsLess xs ys
+  at_number : (same : List ℕ) (x y : ℕ) (xs_left ys_left : List ℕ) → xs ≡ same ++ x ∷ xs_left
+      → ys ≡ same ++ y ∷ ys_left → x < y → IsLess xs ys
   at_end : (y : ℕ) (ys_left : List ℕ) → ys ≡ xs ++ y ∷ ys_left → IsLess xs ys
 
 -- lower precedence of pre-releases, where having none is the highest (SemVer 2.0.0, 11.3 and 11.4)
@@ -36,15 +39,20 @@ pub data AtMost (v w : Version) : Type 0 where
   -- dotted: the numbers are less
   less_numbers : BothAre plain.dot v w → IsLess (numbers_of v) (numbers_of w) → AtMost v w
   -- the same numbers, and the pre-release is lower
-  lower_pre : BothAre plain.dot v w → numbers_of v ≡ numbers_of w → IsLower (pre_of v) (pre_of w) → AtMost v w
+  lower_pre : BothAre plain.dot v w → numbers_of v ≡ numbers_of w → IsLower (pre_of v) (pre_of w)
+      → AtMost v w
   -- the same numbers, pre-release and text, and the port-version isn't greater
-  same_dotted : BothAre plain.dot v w → numbers_of v ≡ numbers_of w → pre_of v ≡ pre_of w → v.text ≡ w.text → v.port ≤ w.port → AtMost v w
+  same_dotted : BothAre plain.dot v w → numbers_of v ≡ numbers_of w → pre_of v ≡ pre_of w
+      → v.text ≡ w.text → v.port ≤ w.port → AtMost v w
   -- dates: the day is earlier
   earlier_day : BothAre plain.date v w → IsLess (day_of v.text) (day_of w.text) → AtMost v w
   -- the same day, and the numbers after it are less
-  less_later : BothAre plain.date v w → day_of v.text ≡ day_of w.text → IsLess (later_numbers v.text) (later_numbers w.text) → AtMost v w
-  -- the same day, numbers and text, and the port-version isn't greater; readable dates of the same day and numbers have the same text
-  same_date : BothAre plain.date v w → day_of v.text ≡ day_of w.text → later_numbers v.text ≡ later_numbers w.text → v.text ≡ w.text → v.port ≤ w.port → AtMost v w
+  less_later : BothAre plain.date v w → day_of v.text ≡ day_of w.text
+      → IsLess (later_numbers v.text) (later_numbers w.text) → AtMost v w
+  -- the same day, numbers and text, and the port-version isn't greater; readable dates of the same
+  -- day and numbers have the same text
+  same_date : BothAre plain.date v w → day_of v.text ≡ day_of w.text
+      → later_numbers v.text ≡ later_numbers w.text → v.text ≡ w.text → v.port ≤ w.port → AtMost v w
   -- any texts: they are the same, and the port-version isn't greater
   same_string : BothAre plain.text v w → v.text ≡ w.text → v.port ≤ w.port → AtMost v w
 
@@ -72,7 +80,9 @@ pre_by plain.text text = []
 
 -- which of two versions of one class comes first by numbers and pre-release
 abbrev pub rank_cmp : Version → Version → Ordering
-rank_cmp v w = ordering_then (slice_cmp nat_cmp (numbers_by v.class v.text) (numbers_by w.class w.text)) (pre_cmp (pre_by v.class v.text) (pre_by w.class w.text))
+rank_cmp v w =
+    ordering_then (slice_cmp nat_cmp (numbers_by v.class v.text) (numbers_by w.class w.text))
+    (pre_cmp (pre_by v.class v.text) (pre_by w.class w.text))
 
 -- of one rank: by port-version, where they have the same text
 abbrev pub tie_cmp : Version → Version → Option Ordering

@@ -1,5 +1,6 @@
 -- Which texts are versions under a scheme, which are asks, and the fault of every other text.
-use Rattle.std.specs.Prelude.{◌≡◌, ℕ, ◌^◌, ◌&&◌, not, nat_lt, Bool, List, Option, Some, None, Result, Ok, Err, if◌then◌else◌}
+use Rattle.std.specs.Prelude.{◌≡◌, ℕ, ◌^◌, ◌&&◌, not, nat_lt, Bool, List, Option, Some, None}
+use Rattle.std.specs.Prelude.{Result, Ok, Err, if◌then◌else◌}
 use Rattle.std.specs.List.{list_any, before_first, after_first}
 use Rattle.std.specs.Result.{is_ok}
 use Rattle.semver.specs.Parse.{version_parts}
@@ -10,7 +11,8 @@ use Rattle.vk_version.specs.declared.faults.VersionFault.{VersionFault}
 use Rattle.vk_version.specs.declared.faults.VersionFault.TheVariants as fault
 use Rattle.vk_version.specs.Schemes.{Scheme}
 use Rattle.vk_version.specs.Schemes as the
-use Rattle.vk_version.specs.Texts.{is_relaxed, numbers_in, all_fit, core_of, is_dated, day_of, later_numbers, has_day, is_plain, is_hash, is_number, number_of}
+use Rattle.vk_version.specs.Texts.{is_relaxed, numbers_in, all_fit, core_of, is_dated, day_of}
+use Rattle.vk_version.specs.Texts.{later_numbers, has_day, is_plain, is_hash, is_number, number_of}
 
 -- the class of a scheme's versions
 abbrev pub class_of : Scheme → Class
@@ -28,7 +30,8 @@ abbrev pub unless : {A : Type 0} → Option VersionFault → A → Result A Vers
 unless None x = Ok x
 unless (Some wrong) x = Err wrong
 
--- numbers joined by dots, a pre-release and build metadata: first the form, then how large the numbers are
+-- numbers joined by dots, a pre-release and build metadata: first the form, then how large the
+-- numbers are
 abbrev pub relaxed_fault : List ℕ → Option VersionFault
 relaxed_fault text =
     if is_relaxed text then fault_unless fault.Number (all_fit (numbers_in (core_of text)))
@@ -58,7 +61,8 @@ fault_under the.string text = string_fault text
 
 -- the version that a text is under a scheme
 abbrev pub reads_version : Scheme → List ℕ → ℕ → Result Version VersionFault
-reads_version scheme text port = unless (fault_under scheme text) (record { class = class_of scheme; text = text; port = port })
+reads_version scheme text port =
+    unless (fault_under scheme text) (record { class = class_of scheme; text = text; port = port })
 
 -- some scheme reads it
 pub record IsVersion (v : Version) : Type 0 where
@@ -74,10 +78,12 @@ port_fault digits =
 -- the port-version of an ask: what stands after its first hash, or 0 without one
 abbrev pub reads_port : List ℕ → Result ℕ VersionFault
 reads_port text =
-    if list_any is_hash text then unless (port_fault (after_first is_hash text)) (number_of (after_first is_hash text))
+    if list_any is_hash text then unless (port_fault (after_first is_hash text))
+    (number_of (after_first is_hash text))
     else Ok 0
 
--- an ask: what stands before the first hash, which is all of the text without one, and the port-version
+-- an ask: what stands before the first hash, which is all of the text without one, and the
+-- port-version
 abbrev pub reads_ask : List ℕ → Result Ask VersionFault
 reads_ask text =
     if not (is_plain (before_first is_hash text)) then Err fault.Shape

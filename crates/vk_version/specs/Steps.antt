@@ -6,7 +6,8 @@ use Rattle.semver.specs.Identifiers.{pre_text}
 use Rattle.semver.specs.Order.{parts}
 use Rattle.vk_version.specs.declared.faults.VersionFault.{VersionFault}
 use Rattle.vk_version.specs.declared.faults.VersionFault.TheVariants as fault
-use Rattle.vk_version.specs.Texts.{is_dated, day_of, later_parts, has_day, core_of, tail_of, pre_in, is_tail, is_pre, is_metadata, is_relaxed}
+use Rattle.vk_version.specs.Texts.{is_dated, day_of, later_parts, has_day, core_of, tail_of, pre_in}
+use Rattle.vk_version.specs.Texts.{is_tail, is_pre, is_metadata, is_relaxed}
 use Rattle.vk_version.specs.Readings.{fault_unless, unless}
 
 -- numbers that fit, or a fault
@@ -19,7 +20,8 @@ shape_if holds = unless (fault_unless fault.Shape holds) tt
 
 -- the numbers' part and the pre-release of a text of the relaxed scheme
 abbrev pub reads_form : List ℕ → Result (List ℕ × List ℕ) VersionFault
-reads_form text = unless (fault_unless fault.Shape (is_relaxed text)) (core_of text, pre_in (tail_of text))
+reads_form text =
+    unless (fault_unless fault.Shape (is_relaxed text)) (core_of text, pre_in (tail_of text))
 
 abbrev pub form_view : Bor (List ℕ) × Prerelease → List ℕ × List ℕ
 form_view form = (form.0.now, pre_text form.1)

@@ -1,5 +1,7 @@
 -- What stands in a version text: numbers between dots, a pre-release, build metadata, a day.
-use Rattle.std.specs.Prelude.{◌≡◌, ◌<◌, ◌++◌, ℕ, ◌^◌, ◌==◌, ◌&&◌, ◌||◌, not, nat_lt, nat_le, Bool, true, false, List, [], ◌∷◌, length, map, drop, slice_index, slice_range, pos, if◌then◌else◌}
+use Rattle.std.specs.Prelude.{◌≡◌, ◌<◌, ◌++◌, ℕ, ◌^◌, ◌==◌, ◌&&◌, ◌||◌, not, nat_lt, nat_le, Bool}
+use Rattle.std.specs.Prelude.{true, false, List, [], ◌∷◌, length, map, drop, slice_index}
+use Rattle.std.specs.Prelude.{slice_range, pos, if◌then◌else◌}
 use Rattle.std.specs.Char.{is_ascii_digit, is_ascii_control}
 use Rattle.std.specs.List.{list_all, list_any, position_or_len, before_first, after_first}
 use Rattle.std.specs.Str.Parse.{digits_value}
@@ -63,9 +65,11 @@ is_metadata text = nat_lt 0 (length text) && is_build text
 
 -- build metadata after the first plus, if there is one
 abbrev pub may_have_metadata : List ℕ → Bool
-may_have_metadata text = if list_any is_plus text then is_metadata (after_first is_plus text) else true
+may_have_metadata text =
+    if list_any is_plus text then is_metadata (after_first is_plus text) else true
 
--- what may follow the numbers: a hyphen with a pre-release, a plus with build metadata, both in this order, or nothing
+-- what may follow the numbers: a hyphen with a pre-release, a plus with build metadata, both in
+-- this order, or nothing
 abbrev pub is_tail : List ℕ → Bool
 is_tail [] = true
 is_tail (b ∷ rest) =
@@ -83,7 +87,8 @@ are_digits n text = (length text == n) && list_all is_ascii_digit text
 -- YYYY-MM-DD
 abbrev pub is_day : List ℕ → Bool
 is_day text = (length text == 10) && (slice_index text 4 == 45) && (slice_index text 7 == 45)
-    && are_digits 4 (slice_range text 0 4) && are_digits 2 (slice_range text 5 7) && are_digits 2 (slice_range text 8 10)
+    && are_digits 4 (slice_range text 0 4) && are_digits 2 (slice_range text 5 7)
+    && are_digits 2 (slice_range text 8 10)
 
 -- what stands before the first dot
 abbrev pub first_part : List ℕ → List ℕ
@@ -99,7 +104,9 @@ is_dated text = is_day (first_part text) && list_all is_number (later_parts text
 
 -- the year, the month and the day of YYYY-MM-DD
 abbrev pub numbers_of_day : List ℕ → List ℕ
-numbers_of_day day = number_of (slice_range day 0 4) ∷ number_of (slice_range day 5 7) ∷ number_of (slice_range day 8 10) ∷ []
+numbers_of_day day =
+    number_of (slice_range day 0 4) ∷ number_of (slice_range day 5 7) ∷ number_of
+    (slice_range day 8 10) ∷ []
 
 -- the year, the month and the day that a text begins with
 abbrev pub day_of : List ℕ → List ℕ
@@ -111,7 +118,8 @@ later_numbers text = map number_of (later_parts text)
 
 -- the Gregorian calendar has this year, month and day
 abbrev pub has_day : List ℕ → Bool
-has_day (y ∷ m ∷ d ∷ []) = nat_le 1 m && nat_le m 12 && nat_le 1 d && nat_le d (days_in_month (pos y) m)
+has_day (y ∷ m ∷ d ∷ []) = nat_le 1 m && nat_le m 12 && nat_le 1 d
+    && nat_le d (days_in_month (pos y) m)
 has_day other = false
 
 -- one byte or more, none of them a control character
@@ -126,7 +134,8 @@ pub record IsPadded (part : List ℕ) : Type 0 where
   pub zero : slice_index part 0 ≡ 48
   pub longer : 1 < length part
 
--- numbers, a pre-release and build metadata, of which the last two may be empty; each that isn't stands after its mark
+-- numbers, a pre-release and build metadata, of which the last two may be empty; each that isn't
+-- stands after its mark
 pub record IsWritten (text core pre build : List ℕ) : Type 0 where
   pub whole : text ≡ core ++ (marked 45 pre ++ marked 43 build)
   pub numbers : is_dotted core ≡ true

@@ -50,7 +50,8 @@ impl Clone for Ask {
 
 // Reads what stands before a hash.
 fn read_plain(alloc: Global, text: &str) -> Result<Text, Unread<VersionFault>>
-    ensures { Gives (λ t. t) fault_in result (unless (fault_unless fault.Shape (is_plain text.now)) text.now) }
+    ensures { Gives (λ t. t) fault_in result
+        (unless (fault_unless fault.Shape (is_plain text.now)) text.now) }
 {
     if is_plain(text.as_bytes()) {
         Ok(Text::from_str(alloc, text)?)
@@ -61,7 +62,8 @@ fn read_plain(alloc: Global, text: &str) -> Result<Text, Unread<VersionFault>>
 
 // Reads what stands after a hash.
 fn read_port(digits: &[u8]) -> Result<u32, Unread<VersionFault>>
-    ensures { Gives (λ n. n) fault_in result (unless (port_fault digits.now) (number_of digits.now)) }
+    ensures { Gives (λ n. n) fault_in result
+        (unless (port_fault digits.now) (number_of digits.now)) }
 {
     if !is_number(digits) {
         return Err(Unread::Fault(VersionFault::Shape));

@@ -1,5 +1,6 @@
 //! Days of the calendar, as they stand in a version's text.
-ghost use Rattle.std.specs.Prelude.{◌≡◌, ◌&&◌, ◌<◌, ◌≤◌, ◌∷◌, ◌^◌, [], length, if◌then◌else◌, Some, None, true};
+ghost use Rattle.std.specs.Prelude.{◌≡◌, ◌&&◌, ◌<◌, ◌≤◌, ◌∷◌, ◌^◌, [], length, if◌then◌else◌, Some};
+ghost use Rattle.std.specs.Prelude.{None, true};
 ghost use Rattle.std.specs.List.{list_all};
 ghost use Rattle.std.specs.Char.{is_ascii_digit};
 ghost use Rattle.vk_version.specs.Texts.{are_digits, is_day, number_of, has_day, numbers_of_day};
@@ -54,7 +55,8 @@ fn has_day(year: u64, month: u64, day: u64) -> bool
 // calendar hasn't that day.
 pub(crate) fn day_numbers(day: &[u8]) -> Option<[u64; 3]>
     requires { is_day day.now ≡ true }
-    ensures { result ≡ (if has_day (numbers_of_day day.now) then Some (numbers_of_day day.now) else None) }
+    ensures { result ≡ (if has_day (numbers_of_day day.now) then Some
+        (numbers_of_day day.now) else None) }
 {
     let year = small_number(&day[..4]);
     let month = small_number(&day[5..7]);

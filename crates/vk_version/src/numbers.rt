@@ -1,12 +1,14 @@
 //! Numbers without leading zeros, and such numbers joined by dots.
-ghost use Rattle.std.specs.Prelude.{◌≡◌, ◌==◌, ◌∷◌, ◌++◌, ◌<◌, ◌^◌, [], length, map, nat_lt, Some, None, Ok, OnOk, if◌then◌else◌, IfSome, true, false};
+ghost use Rattle.std.specs.Prelude.{◌≡◌, ◌==◌, ◌∷◌, ◌++◌, ◌<◌, ◌^◌, [], length, map, nat_lt, Some};
+ghost use Rattle.std.specs.Prelude.{None, Ok, OnOk, if◌then◌else◌, IfSome, true, false};
 ghost use Rattle.std.specs.List.{list_all, position};
 ghost use Rattle.std.specs.Char.{is_ascii_digit};
 ghost use Rattle.semver.specs.Order.{parts};
 ghost use Rattle.vk_spec.specs.Reading.{Gives};
 ghost use Rattle.vk_version.specs.Steps.{fits_if, parts_in};
 ghost use Rattle.vk_base.specs.Stops.{fault_in};
-ghost use Rattle.vk_version.specs.Texts.{is_number, is_dotted, number_of, numbers_in, all_fit, first_part};
+ghost use Rattle.vk_version.specs.Texts.{is_number, is_dotted, number_of, numbers_in, all_fit};
+ghost use Rattle.vk_version.specs.Texts.{first_part};
 
 use crate::faults::VersionFault;
 use std::str;
@@ -60,7 +62,8 @@ pub(crate) fn cut(text: &[u8]) -> (&[u8], Option<&[u8]>)
 pub(crate) fn number(digits: &[u8]) -> Option<u64>
     requires some { 0 < length digits.now }
     requires digits { list_all is_ascii_digit digits.now ≡ true }
-    ensures { result ≡ (if nat_lt (number_of digits.now) (2 ^ 64) then Some (number_of digits.now) else None) }
+    ensures { result ≡ (if nat_lt (number_of digits.now) (2 ^ 64) then Some
+        (number_of digits.now) else None) }
 {
     match str::from_utf8(digits) {
         Ok(text) => text.parse().ok(),
@@ -74,7 +77,8 @@ pub(crate) fn push_number(
     digits: &[u8],
 ) -> Result<(), Unread<VersionFault>>
     requires { is_number digits.now ≡ true }
-    ensures fits { Gives (λ _. tt) fault_in result (fits_if (nat_lt (number_of digits.now) (2 ^ 64))) }
+    ensures fits { Gives (λ _. tt) fault_in result
+        (fits_if (nat_lt (number_of digits.now) (2 ^ 64))) }
     ensures ok { OnOk result (numbers.new ≡ numbers.old ++ number_of digits.now ∷ []) }
 {
     match number(digits) {
@@ -116,7 +120,8 @@ pub(crate) fn push_later(
     later: Option<&[u8]>,
 ) -> Result<(), Unread<VersionFault>>
     requires { list_all is_number (parts_in later) ≡ true }
-    ensures fits { Gives (λ _. tt) fault_in result (fits_if (all_fit (map number_of (parts_in later.entry)))) }
+    ensures fits { Gives (λ _. tt) fault_in result
+        (fits_if (all_fit (map number_of (parts_in later.entry)))) }
     ensures ok { OnOk result (numbers.new ≡ numbers.old ++ map number_of (parts_in later.entry)) }
 {
     match later {

@@ -7,8 +7,8 @@ ghost use Rattle.vk_version.specs.Views.{class_view};
 /// How a version text is read: which of the four keys of a manifest it stands under.
 #[derive(Clone, Copy, Debug, PartialEq, Eq)]
 pub enum Scheme {
-    /// `version`: numbers without leading zeros, joined by dots, then `-` and a pre-release, then `+`
-    /// and build metadata; both may be absent.
+    /// `version`: numbers without leading zeros, joined by dots, then `-` and a pre-release, then
+    /// `+` and build metadata; both may be absent.
     Relaxed,
     /// `version-semver`: Semantic Versioning 2.0.0.
     Semver,

@@ -29,7 +29,8 @@ fn pieces(text: &str) -> (&str, Option<&str>, Option<&str>)
 
 // Why the standard's reader has no value: out of memory, or the text.
 pub(crate) fn semver_fault(error: &semver::Error) -> Unread<VersionFault>
-    ensures { ((result ≡ unread.Memory out_of_memory) × (error.now ≡ memory_error)) ⊎ ((result ≡ unread.Fault fault.Shape) × (error.now ≢ memory_error)) }
+    ensures { ((result ≡ unread.Memory out_of_memory) × (error.now ≡ memory_error))
+        ⊎ ((result ≡ unread.Fault fault.Shape) × (error.now ≢ memory_error)) }
 {
     if *error == semver::Error::from(AllocError) {
         Unread::Memory(Memory::without_allocation())
@@ -40,7 +41,8 @@ pub(crate) fn semver_fault(error: &semver::Error) -> Unread<VersionFault>
 
 // Reads a pre-release of at least one identifier.
 fn read_some_pre(alloc: Global, text: &str) -> Result<Prerelease, Unread<VersionFault>>
-    ensures { Gives pre_text fault_in result (unless (fault_unless fault.Shape (is_pre text.now)) text.now) }
+    ensures { Gives pre_text fault_in result
+        (unless (fault_unless fault.Shape (is_pre text.now)) text.now) }
 {
     if text.is_empty() {
         return Err(Unread::Fault(VersionFault::Shape));
@@ -53,7 +55,8 @@ fn read_some_pre(alloc: Global, text: &str) -> Result<Prerelease, Unread<Version
 
 // Reads a pre-release, if there is one.
 fn read_pre(alloc: Global, text: Option<&str>) -> Result<Prerelease, Unread<VersionFault>>
-    ensures { Gives pre_text fault_in result (unless (fault_unless fault.Shape (passes is_pre text.entry)) (text_in text.entry)) }
+    ensures { Gives pre_text fault_in result
+        (unless (fault_unless fault.Shape (passes is_pre text.entry)) (text_in text.entry)) }
 {
     match text {
         Some(text) => read_some_pre(alloc, text),
@@ -63,7 +66,8 @@ fn read_pre(alloc: Global, text: Option<&str>) -> Result<Prerelease, Unread<Vers
 
 // Reads build metadata of at least one identifier.
 fn read_some_metadata(alloc: Global, text: &str) -> Result<BuildMetadata, Unread<VersionFault>>
-    ensures { Gives build_text fault_in result (unless (fault_unless fault.Shape (is_metadata text.now)) text.now) }
+    ensures { Gives build_text fault_in result
+        (unless (fault_unless fault.Shape (is_metadata text.now)) text.now) }
 {
     if text.is_empty() {
         return Err(Unread::Fault(VersionFault::Shape));
@@ -95,8 +99,8 @@ fn check_dotted(text: &str) -> Result<(), Unread<VersionFault>>
     }
 }
 
-// The numbers' part and the pre-release of a text of the relaxed scheme. `Shape` where it hasn't the
-// scheme's form.
+// The numbers' part and the pre-release of a text of the relaxed scheme. `Shape` where it hasn't
+// the scheme's form.
 pub(crate) fn read_form(
     alloc: Global,
     text: &str,

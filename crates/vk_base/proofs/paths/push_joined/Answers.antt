@@ -1,7 +1,8 @@
 use Rattle.std.proofs.Common.{◌≡◌, ◌++◌, take, sym, ap, ◌∙◌, append_assoc}
 use Rattle.std.specs.List.{join_with_byte}
 use Rattle.std.proofs.lemmas.List.{take_all}
-use Rattle.vk_base.proofs.PathLemmas.{later, joined_first}
+use Rattle.vk_base.specs.PathTexts.{later}
+use Rattle.vk_base.proofs.PathLemmas.{joined_first}
 use Rattle.vk_base.proofs.paths.push_joined.Goals as goal
 
 pub returns : goal.returns

@@ -4,4 +4,7 @@ use Rattle.vk_config.specs.Views.{pattern_view}
 use Rattle.vk_config.proofs.serving.closest.Given as goal
 
 abbrev pub invariant-loop-pattern : goal.invariant-loop-pattern
-invariant-loop-pattern l = closest_from l.port l.found (map pattern_view (drop l.pattern-index l.patterns)) ≡ closest l.port (map pattern_view l.patterns)
+invariant-loop-pattern l =
+    closest_from l.port l.found
+    (map pattern_view (drop l.pattern-index l.patterns)) ≡ closest l.port
+    (map pattern_view l.patterns)

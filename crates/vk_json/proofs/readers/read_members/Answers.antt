@@ -6,10 +6,11 @@ use Rattle.vk_spec.specs.Reading.{read_each}
 use Rattle.vk_spec.proofs.ReadingLemmas.{goes_on_with, ends_with, is_done_with}
 use Rattle.vk_base.specs.Stops.{fault_in}
 use Rattle.vk_json.specs.Readings.{member_at, pairs_of}
+use Rattle.vk_json.proofs.OrderLemmas.{names_ascend}
 use Rattle.vk_json.proofs.readers.read_members.Goals as goal
 
-pub returns-in_err-member : goal.returns-in_err-member
-returns-in_err-member g c =
+pub returns-in_err-member-clause-read : goal.returns-in_err-member-clause-read
+returns-in_err-member-clause-read g c =
     let p = err_from_is_err_and c.from_residual.result c.from_residual.ensures.1 in
     let f = member_at (g.R.MemberReader.reads c.args.reader.now) in
     let total = read_each (λ _. f) 0 (pairs_of (members_view c.args.object.now.entries)) in
@@ -25,7 +26,10 @@ loop-key-preserved g c =
     (goes_on_with f (map g.R.MemberReader.plain c.loop-key.read) (c.as_str.result.now, view c.in-Some.value.now) (g.R.MemberReader.plain c.in_ok-member.member) (pairs_of (members_view c.next.new.self)) total c.in_ok-member.ensures
     (rw c.as_str.ensures.value (rw c.in-Some.ensures.steps at c.loop-key.invariant)))
 
-pub returns : goal.returns
-returns g c =
+pub returns-clause-read : goal.returns-clause-read
+returns-clause-read g c =
     let f = member_at (g.R.MemberReader.reads c.args.reader.now) in
     is_done_with f (map g.R.MemberReader.plain c.loop-key.read) (read_each (λ _. f) 0 (pairs_of (members_view c.args.object.now.entries))) (rw c.in-None.ensures.steps.0 at c.loop-key.invariant)
+
+pub returns-clause-order : goal.returns-clause-order
+returns-clause-order g c = names_ascend c.args.object.now.entries c.iter-key-items.ensures.ordered

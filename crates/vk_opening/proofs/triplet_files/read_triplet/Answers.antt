@@ -1,5 +1,4 @@
 use Rattle.std.proofs.lemmas.Result.{err_from_is_err_and}
-use Rattle.vk_triplet.specs.TripletViews.{triplet_view}
 use Rattle.vk_files.proofs.ReadLemmas.{reads_then, reads_stopped}
 use Rattle.vk_opening.specs.TripletFiles.{triplet_from, triplet_at}
 use Rattle.vk_opening.proofs.triplet_files.read_triplet.Goals as goal
@@ -8,7 +7,7 @@ pub returns-in_err-path : goal.returns-in_err-path
 unfolding triplet_at
 returns-in_err-path g c =
     let p = err_from_is_err_and c.from_residual.result c.from_residual.ensures.1 in
-    rw (p.1, p.2) (reads_stopped triplet_view (λ path f. triplet_from c.args.name.now path f) c.in_err-path.ensures)
+    rw (p.1, p.2) (reads_stopped (λ t. t) (λ path f. triplet_from c.args.name.now path f) c.in_err-path.ensures)
 
 pub returns : goal.returns
 unfolding triplet_at

@@ -1,6 +1,6 @@
 use Rattle.std.proofs.lemmas.Result.{err_from_is_err_and}
 use Rattle.vk_catalogue.specs.Views.{wrong_view}
-use Rattle.vk_files.specs.StopViews.{refusal_in}
+use Rattle.vk_files.specs.StopViews.{fault_seen}
 use Rattle.vk_spec.proofs.ReadingLemmas.{fails_on}
 use Rattle.vk_model.specs.Views.{manifest_view}
 use Rattle.vk_pages.specs.Homes.{named_home, overlay_home}
@@ -11,4 +11,4 @@ unfolding named_home
 returns-in_err-named-clause-told c =
     let p = err_from_is_err_and c.from_residual.result c.from_residual.ensures.1 in
     let one = rw (c.requires) at c.in_err-named.ensures.told in
-    rw (p.1, p.2) (fails_on (refusal_in wrong_view c.in_err-named.field-0.0) _ (λ same. overlay_home c.args.folder.now (manifest_view c.args.manifest.now)) one)
+    rw (p.1, p.2) (fails_on (fault_seen wrong_view c.in_err-named.field-0.0) _ (λ same. overlay_home c.args.folder.now (manifest_view c.args.manifest.now)) one)

@@ -2,7 +2,7 @@ use Rattle.std.proofs.Common.{refl}
 use Rattle.std.specs.Prelude.{Ok, Err}
 use Rattle.std.proofs.lemmas.Result.{err_from_is_err_and}
 use Rattle.vk_catalogue.specs.Views.{wrong_view}
-use Rattle.vk_files.specs.StopViews.{refusal_in}
+use Rattle.vk_files.specs.StopViews.{fault_seen}
 use Rattle.vk_files.proofs.NotingLemmas.{noting_pure, noting_then}
 use Rattle.vk_spec.proofs.ReadingLemmas.{fails_on}
 use Rattle.vk_pages.specs.BaselineNotes.{AreBaselines}
@@ -18,7 +18,7 @@ returns-in_err-served g c =
     let known = AreBaselines l (notes_of c.args.baselines.now) in
     let p = err_from_is_err_and c.from_residual.result c.from_residual.ensures.1 in
     rw (p.1, p.2) (noting_pure wrong_view home_view (Err c.in_err-served.field-0.0) (registry_home l c.args.port.now) known known _ c.in_err-served.ensures.calm
-    (λ f old right. (right, fails_on (refusal_in wrong_view c.in_err-served.field-0.0) _ (λ served. served_home (override_for l.overrides c.args.port.now) served c.args.port.now f) c.in_err-served.ensures.told)))
+    (λ f old right. (right, fails_on (fault_seen wrong_view c.in_err-served.field-0.0) _ (λ served. served_home (override_for l.overrides c.args.port.now) served c.args.port.now f) c.in_err-served.ensures.told)))
 
 pub returns : goal.returns
 unfolding registry_home

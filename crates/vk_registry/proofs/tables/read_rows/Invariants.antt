@@ -8,5 +8,6 @@ use Rattle.vk_registry.proofs.tables.read_rows.Given as goal
 
 abbrev pub invariant-loop-n : goal.invariant-loop-n
 invariant-loop-n l =
-    (read_after row_item (map row_view l.rows) l.n (drop l.n (map view l.values)) ≡ read_after row_item [] 0 (map view l.values))
+    (read_after row_item (map row_view l.rows) l.n
+    (drop l.n (map view l.values)) ≡ read_after row_item [] 0 (map view l.values))
     × (map ask_view l.asks.keys ≡ asks_of (map row_view l.rows))

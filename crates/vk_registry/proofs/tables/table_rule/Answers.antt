@@ -6,4 +6,5 @@ pub returns-clause-table : goal.returns-clause-table
 returns-clause-table c = table_read
 
 pub returns-clause-one : goal.returns-clause-one
-returns-clause-one c rows ask place other table one two = one_row rows ask place other table.distinct one two
+returns-clause-one c rows ask place other table one two =
+    one_row rows ask place other table.distinct one two

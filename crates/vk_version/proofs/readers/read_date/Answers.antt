@@ -15,6 +15,8 @@ with_parts-requires c =
     let fit = fits_if-Ok _ c.in_ok-push_later.ensures.fits in
     record {
       version = record { scheme = the.date; reads = date_reads _ _ _ c.args.port date fit };
-      numbers = c.in_ok-push_later.ensures.ok ∙ ap (λ l. l ++ map number_of (parts_in c.in_ok-day.later)) c.in_ok-numbers.ensures ∙ date_numbers _ _ _ date;
+      numbers = c.in_ok-push_later.ensures.ok
+          ∙ ap (λ l. l ++ map number_of (parts_in c.in_ok-day.later)) c.in_ok-numbers.ensures
+          ∙ date_numbers _ _ _ date;
       pre = c.empty.ensures;
     }

@@ -6,9 +6,14 @@ use Rattle.vk_version.proofs.tails.read_form.Goals as goal
 
 pub returns-in_err-check_metadata : goal.returns-in_err-check_metadata
 returns-in_err-check_metadata c =
-    let p = err_from_is_err_and c.from_residual-in_err-check_metadata.result c.from_residual-in_err-check_metadata.ensures.1 in
-    rw (p.1, p.2) (fails_whole _ (passes is_metadata c.pieces.result.2) (is_relaxed c.args.text.now) tt _ (no_metadata_whole _ _ _ _ c.pieces.ensures) c.in_err-check_metadata.ensures)
+    let p =
+    err_from_is_err_and c.from_residual-in_err-check_metadata.result
+    c.from_residual-in_err-check_metadata.ensures.1 in
+    rw (p.1, p.2) (fails_whole _ (passes is_metadata c.pieces.result.2)
+    (is_relaxed c.args.text.now) tt _
+    (no_metadata_whole _ _ _ _ c.pieces.ensures) c.in_err-check_metadata.ensures)
 
 pub returns : goal.returns
 returns c =
-    form_read c.args.text.now _ _ _ _ c.pieces.ensures c.in_ok-check_dotted.ensures c.in_ok-check_metadata.ensures c.in_ok-pre.ensures
+    form_read c.args.text.now _ _ _ _ c.pieces.ensures c.in_ok-check_dotted.ensures
+    c.in_ok-check_metadata.ensures c.in_ok-pre.ensures
