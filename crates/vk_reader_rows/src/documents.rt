@@ -2,20 +2,28 @@
 
 use crate::shows::{tell_reads, tell_value};
 use serde_json::Value;
-use vk_base::Unread;
 use vk_json::{Doc, Why, as_bool, as_number, as_text, items, keys, member};
 use vk_row_text::{Reply, cut};
 
+/// What is asked of documents.
+#[derive(Clone, Copy)]
+pub enum Question {
+    Read,
+    Keys,
+    Member,
+    Item,
+    Word,
+}
+
 fn reads(rest: &str, reply: &mut Reply) {
-    if let Some(bytes) = reply.bytes(rest) {
-        tell_reads(Doc::read(reply.alloc(), bytes.as_slice()).map_err(Unread::Fault), reply);
-    }
+    let bytes = reply.bytes(rest);
+    tell_reads(Doc::read(reply.alloc(), bytes.as_slice()), reply);
 }
 
 /// The document of a row that has to have it.
 pub fn document_of(rest: &str, reply: &mut Reply) -> Option<Doc> {
-    let bytes = reply.bytes(rest)?;
-    let read = Doc::read(reply.alloc(), bytes.as_slice()).map_err(Unread::Fault);
+    let bytes = reply.bytes(rest);
+    let read = Doc::read(reply.alloc(), bytes.as_slice());
     reply.needed(read)
 }
 
@@ -29,14 +37,20 @@ fn push_number(value: &Value, reply: &mut Reply) {
     }
 }
 
+fn push_test(value: &Value, reply: &mut Reply) {
+    match as_bool(value) {
+        Some(test) => reply.push(if test { "true" } else { "false" }),
+        None => push_number(value, reply),
+    }
+}
+
 fn push_plain(value: &Value, reply: &mut Reply) {
-    match (as_text(value), as_bool(value)) {
-        (Some(text), _) => {
+    match as_text(value) {
+        Some(text) => {
             reply.push("text ");
             reply.push_token(text.as_bytes());
         }
-        (None, Some(test)) => reply.push(if test { "true" } else { "false" }),
-        (None, None) => push_number(value, reply),
+        None => push_test(value, reply),
     }
 }
 
@@ -57,7 +71,8 @@ fn push_found(value: Option<&Value>, reply: &mut Reply) {
     }
 }
 
-fn tell_member(key: &str, rest: &str, reply: &mut Reply) {
+fn tell_member(rest: &str, reply: &mut Reply) {
+    let (key, rest) = cut(rest);
     if let Some(document) = document_of(rest, reply) {
         push_found(member(document.value(), key), reply);
     }
@@ -67,17 +82,16 @@ fn item<'a>(value: &'a Value, key: &str, place: usize) -> Option<&'a Value> {
     items(member(value, key)?)?.get(place)
 }
 
-fn tell_item(key: &str, rest: &str, reply: &mut Reply) {
+fn tell_item(rest: &str, reply: &mut Reply) {
+    let (key, rest) = cut(rest);
     let (place, rest) = cut(rest);
-    let Some(place) = reply.number(place) else {
-        return;
-    };
+    let place = reply.number(place);
     if let Some(document) = document_of(rest, reply) {
         push_found(item(document.value(), key, place), reply);
     }
 }
 
-fn tell_keys(value: &Value, reply: &mut Reply) {
+fn push_keys(value: &Value, reply: &mut Reply) {
     match keys(reply.alloc(), value) {
         Ok(Some(names)) => tell_value(&names, reply),
         Ok(None) => reply.push("none"),
@@ -85,10 +99,14 @@ fn tell_keys(value: &Value, reply: &mut Reply) {
     }
 }
 
+fn tell_keys(rest: &str, reply: &mut Reply) {
+    if let Some(document) = document_of(rest, reply) {
+        push_keys(document.value(), reply);
+    }
+}
+
 fn tell_word(rest: &str, reply: &mut Reply) {
-    let Some(text) = reply.texts(rest) else {
-        return;
-    };
+    let text = reply.texts(rest);
     match Why::read(text.as_str()) {
         Some(why) => {
             let word = why.word(reply.alloc());
@@ -102,18 +120,12 @@ fn tell_word(rest: &str, reply: &mut Reply) {
 /// - `keys FILE`: the keys of the object, in byte order; `member KEY FILE`: what stands there;
 /// - `item KEY N FILE`: the item with this number of the list that stands there;
 /// - `word TEXT`: the word of the fault that is read from the text, or `none`.
-pub fn answer(question: &str, rest: &str, reply: &mut Reply) {
-    let (key, others) = cut(rest);
+pub fn answer(question: Question, rest: &str, reply: &mut Reply) {
     match question {
-        "read" => reads(rest, reply),
-        "keys" => {
-            if let Some(document) = document_of(rest, reply) {
-                tell_keys(document.value(), reply);
-            }
-        }
-        "member" => tell_member(key, others, reply),
-        "item" => tell_item(key, others, reply),
-        "word" => tell_word(rest, reply),
-        _ => reply.refuse(),
+        Question::Read => reads(rest, reply),
+        Question::Keys => tell_keys(rest, reply),
+        Question::Member => tell_member(rest, reply),
+        Question::Item => tell_item(rest, reply),
+        Question::Word => tell_word(rest, reply),
     }
 }

@@ -1,11 +1,12 @@
-//! Answers rows about what is read of one text: names, paths, tokens, versions, platform
-//! expressions, triplet files, JSON documents and what is read of those.
+//! Answers rows about what is read of one text: names, paths, tokens, decimals, versions,
+//! platform expressions, triplet files, JSON documents and what is read of those.
 #![tactic(auto)]
 
 mod configurations;
 mod documents;
 mod expressions;
 mod fields;
+mod kinds;
 mod manifests;
 mod names;
 mod paths;

@@ -2,7 +2,7 @@
 //! `<` and `>`, a list between `{` and `}`.
 
 use crate::shows::{Show, tell};
-use vk_base::{List, Unread};
+use vk_base::List;
 use vk_expr::Expr;
 use vk_manifest::read_manifest;
 use vk_model::{Dependency, Feature, FeatureUse, Manifest, Override};
@@ -93,17 +93,11 @@ fn tell_manifest(bytes: &List<u8>, is_root: bool, reply: &mut Reply) {
         return reply.refuse();
     }
     let read = read_manifest(reply.alloc(), bytes.as_slice(), is_root);
-    tell(read.map_err(Unread::Fault), reply);
+    tell(read, reply);
 }
 
 /// - `root FILE`, `port FILE`: the manifest of a root or of a port, or the fault.
-pub fn answer(question: &str, rest: &str, reply: &mut Reply) {
-    let Some(bytes) = reply.bytes(rest) else {
-        return;
-    };
-    match question {
-        "root" => tell_manifest(&bytes, true, reply),
-        "port" => tell_manifest(&bytes, false, reply),
-        _ => reply.refuse(),
-    }
+pub fn answer(is_root: bool, rest: &str, reply: &mut Reply) {
+    let bytes = reply.bytes(rest);
+    tell_manifest(&bytes, is_root, reply);
 }

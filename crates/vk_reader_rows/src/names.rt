@@ -1,12 +1,12 @@
 //! Names of ports, triplets and features, and of instances, `PORT:TRIPLET`.
 
-use crate::rows::meaning;
 use crate::shows::{tell, tell_order};
-use vk_base::{FeatureName, Instance, PortName, TripletName, Unread};
+use vk_base::{FeatureName, Instance, PortName, TripletName};
 use vk_row_text::{Reply, cut};
 
+/// What is asked of names.
 #[derive(Clone, Copy)]
-enum Question {
+pub enum Question {
     Port,
     Triplet,
     Feature,
@@ -15,35 +15,26 @@ enum Question {
     Instances,
 }
 
-const QUESTIONS: [(&str, Question); 6] = [
-    ("port", Question::Port),
-    ("triplet", Question::Triplet),
-    ("feature", Question::Feature),
-    ("triplets", Question::Triplets),
-    ("features", Question::Features),
-    ("instances", Question::Instances),
-];
-
 /// The port of a row that has to have it.
 pub fn port_of(word: &str, reply: &mut Reply) -> Option<PortName> {
-    let read = PortName::read(reply.alloc(), word).map_err(Unread::Fault);
+    let read = PortName::read(reply.alloc(), word);
     reply.needed(read)
 }
 
 fn triplet_of(word: &str, reply: &mut Reply) -> Option<TripletName> {
-    let read = TripletName::read(reply.alloc(), word).map_err(Unread::Fault);
+    let read = TripletName::read(reply.alloc(), word);
     reply.needed(read)
 }
 
 fn feature_of(word: &str, reply: &mut Reply) -> Option<FeatureName> {
-    if word == "core" {
-        return Some(FeatureName::Core);
+    match word {
+        "core" => Some(FeatureName::Core),
+        "default" => Some(FeatureName::Default),
+        _ => {
+            let read = FeatureName::read(reply.alloc(), word);
+            reply.needed(read)
+        }
     }
-    if word == "default" {
-        return Some(FeatureName::Default);
-    }
-    let read = FeatureName::read(reply.alloc(), word).map_err(Unread::Fault);
-    reply.needed(read)
 }
 
 fn instance_of(word: &str, reply: &mut Reply) -> Option<Instance> {
@@ -53,21 +44,18 @@ fn instance_of(word: &str, reply: &mut Reply) -> Option<Instance> {
     Some(Instance { port, triplet })
 }
 
-// Reads one name, and tells it or its fault.
-fn read(question: Question, text: &str, reply: &mut Reply) {
-    let alloc = reply.alloc();
-    match question {
-        Question::Triplet => tell(TripletName::read(alloc, text).map_err(Unread::Fault), reply),
-        Question::Feature => tell(FeatureName::read(alloc, text).map_err(Unread::Fault), reply),
-        _ => tell(PortName::read(alloc, text).map_err(Unread::Fault), reply),
+fn compare_with<T: Ord + Drop>(one: &T, other: Option<T>, reply: &mut Reply) {
+    match other {
+        Some(other) => tell_order(Some(one.cmp(&other)), reply),
+        None => reply.refuse(),
     }
 }
 
 // Compares what two words stand for.
 fn compare<T: Ord + Drop>(one: Option<T>, other: Option<T>, reply: &mut Reply) {
-    match (&one, &other) {
-        (Some(one), Some(other)) => tell_order(Some(one.cmp(other)), reply),
-        _ => reply.refuse(),
+    match one {
+        Some(one) => compare_with(&one, other, reply),
+        None => reply.refuse(),
     }
 }
 
@@ -92,24 +80,30 @@ fn instances(rest: &str, reply: &mut Reply) {
     compare(one, other, reply);
 }
 
-fn ask(question: Question, rest: &str, reply: &mut Reply) {
-    match question {
-        Question::Triplets => triplets(rest, reply),
-        Question::Features => features(rest, reply),
-        Question::Instances => instances(rest, reply),
-        _ => {
-            if let Some(text) = reply.texts(rest) {
-                read(question, text.as_str(), reply);
-            }
-        }
-    }
+fn port(rest: &str, reply: &mut Reply) {
+    let text = reply.texts(rest);
+    tell(PortName::read(reply.alloc(), text.as_str()), reply);
+}
+
+fn triplet(rest: &str, reply: &mut Reply) {
+    let text = reply.texts(rest);
+    tell(TripletName::read(reply.alloc(), text.as_str()), reply);
+}
+
+fn feature(rest: &str, reply: &mut Reply) {
+    let text = reply.texts(rest);
+    tell(FeatureName::read(reply.alloc(), text.as_str()), reply);
 }
 
 /// - `port TEXT`, `triplet TEXT`, `feature TEXT`: the name, or its fault;
 /// - `triplets A B`, `features A B`, `instances A B`: how two names are ordered.
-pub fn answer(question: &str, rest: &str, reply: &mut Reply) {
-    match meaning(&QUESTIONS, question) {
-        Some(question) => ask(question, rest, reply),
-        None => reply.refuse(),
+pub fn answer(question: Question, rest: &str, reply: &mut Reply) {
+    match question {
+        Question::Port => port(rest, reply),
+        Question::Triplet => triplet(rest, reply),
+        Question::Feature => feature(rest, reply),
+        Question::Triplets => triplets(rest, reply),
+        Question::Features => features(rest, reply),
+        Question::Instances => instances(rest, reply),
     }
 }

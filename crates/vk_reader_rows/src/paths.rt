@@ -1,13 +1,13 @@
 //! Paths of a tree.
 
-use crate::rows::meaning;
 use crate::shows::{tell, tell_order};
 use std::alloc::Global;
-use vk_base::{Memory, Text, TreePath, Unread};
+use vk_base::{Memory, Text, TreePath};
 use vk_row_text::{Reply, cut};
 
+/// What is asked of paths.
 #[derive(Clone, Copy)]
-enum Question {
+pub enum Question {
     Read,
     Letters,
     Parts,
@@ -17,21 +17,12 @@ enum Question {
     Child,
 }
 
-const QUESTIONS: [(&str, Question); 7] = [
-    ("read", Question::Read),
-    ("letters", Question::Letters),
-    ("parts", Question::Parts),
-    ("join", Question::Join),
-    ("begins", Question::Begins),
-    ("order", Question::Order),
-    ("child", Question::Child),
-];
-
 // More steps up than a row's path has.
 const MANY_STEPS: u32 = 1_000_000;
 
-fn read(text: &str, reply: &mut Reply) {
-    tell(TreePath::read(reply.alloc(), text).map_err(Unread::Fault), reply);
+fn read(rest: &str, reply: &mut Reply) {
+    let text = reply.texts(rest);
+    tell(TreePath::read(reply.alloc(), text.as_str()), reply);
 }
 
 fn letters(alloc: Global, count: u32) -> Result<Text, Memory> {
@@ -42,14 +33,16 @@ fn letters(alloc: Global, count: u32) -> Result<Text, Memory> {
     Ok(text)
 }
 
-fn read_letters(count: u32, reply: &mut Reply) {
+fn read_letters(rest: &str, reply: &mut Reply) {
+    let count = reply.number(rest);
     match letters(reply.alloc(), count) {
-        Ok(text) => read(text.as_str(), reply),
+        Ok(text) => tell(TreePath::read(reply.alloc(), text.as_str()), reply),
         Err(memory) => reply.lack(memory),
     }
 }
 
-fn parts(path: &TreePath, reply: &mut Reply) {
+fn parts(rest: &str, reply: &mut Reply) {
+    let path = reply.path(rest);
     reply.push(if path.is_rooted() { "rooted, " } else { "not rooted, " });
     reply.push_number(u64::from(path.steps_up()));
     reply.push(" steps up, ");
@@ -64,7 +57,7 @@ fn push_whole(whole: Result<TreePath, Memory>, reply: &mut Reply) {
     }
 }
 
-fn join(from: &TreePath, more: &TreePath, reply: &mut Reply) {
+fn push_joined(from: &TreePath, more: &TreePath, reply: &mut Reply) {
     if from.steps_up() > MANY_STEPS {
         return reply.refuse();
     }
@@ -74,56 +67,44 @@ fn join(from: &TreePath, more: &TreePath, reply: &mut Reply) {
     push_whole(from.join(reply.alloc(), more), reply);
 }
 
-fn ask_both(question: Question, one: &TreePath, other: &TreePath, reply: &mut Reply) {
-    match question {
-        Question::Join => join(one, other, reply),
-        Question::Begins => reply.push_test(one.begins(other)),
-        _ => tell_order(Some(one.cmp(other)), reply),
-    }
-}
-
-fn both(question: Question, rest: &str, reply: &mut Reply) {
+fn join(rest: &str, reply: &mut Reply) {
     let (one, other) = cut(rest);
     let one = reply.path(one);
     let other = reply.path(other);
-    if let (Some(one), Some(other)) = (&one, &other) {
-        ask_both(question, one, other, reply);
-    }
+    push_joined(&one, &other, reply);
 }
 
-fn ask(question: Question, rest: &str, reply: &mut Reply) {
-    match question {
-        Question::Read => {
-            if let Some(text) = reply.texts(rest) {
-                read(text.as_str(), reply);
-            }
-        }
-        Question::Letters => {
-            if let Some(count) = reply.number(rest) {
-                read_letters(count, reply);
-            }
-        }
-        Question::Parts => {
-            if let Some(path) = reply.path(rest) {
-                parts(&path, reply);
-            }
-        }
-        Question::Child => {
-            if let Some(path) = reply.path(rest) {
-                push_whole(path.child(reply.alloc(), "a"), reply);
-            }
-        }
-        _ => both(question, rest, reply),
-    }
+fn begins(rest: &str, reply: &mut Reply) {
+    let (one, other) = cut(rest);
+    let one = reply.path(one);
+    let other = reply.path(other);
+    reply.push_test(one.begins(&other));
+}
+
+fn order(rest: &str, reply: &mut Reply) {
+    let (one, other) = cut(rest);
+    let one = reply.path(one);
+    let other = reply.path(other);
+    tell_order(Some(one.cmp(&other)), reply);
+}
+
+fn child(rest: &str, reply: &mut Reply) {
+    let folder = reply.path(rest);
+    push_whole(folder.child(reply.alloc(), "a"), reply);
 }
 
 /// - `read TEXT`: the path, or the fault; `letters N`: the same of so many letters;
 /// - `parts PATH`: where it begins, and how many parts it has;
 /// - `join PATH PATH`, `begins PATH PATH`, `order PATH PATH`: what the first is to the second;
 /// - `child PATH`: what is called `a` in that folder.
-pub fn answer(question: &str, rest: &str, reply: &mut Reply) {
-    match meaning(&QUESTIONS, question) {
-        Some(question) => ask(question, rest, reply),
-        None => reply.refuse(),
+pub fn answer(question: Question, rest: &str, reply: &mut Reply) {
+    match question {
+        Question::Read => read(rest, reply),
+        Question::Letters => read_letters(rest, reply),
+        Question::Parts => parts(rest, reply),
+        Question::Join => join(rest, reply),
+        Question::Begins => begins(rest, reply),
+        Question::Order => order(rest, reply),
+        Question::Child => child(rest, reply),
     }
 }

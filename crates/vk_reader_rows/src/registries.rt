@@ -1,12 +1,21 @@
 //! The files of registries: baselines, and the versions of a port, which are a table.
 
 use crate::names::port_of;
-use crate::shows::{Show, refused, tell, tell_place};
-use vk_base::{List, PortName, Unread};
+use crate::shows::{Show, refused, tell, tell_or_none};
+use vk_base::{PortName, Unread};
 use vk_json::FileFault;
 use vk_registry::{Baseline, Table, baseline_of, find, read_baseline, read_table};
 use vk_row_text::{Reply, cut};
 use vk_version::Ask;
+
+/// What is asked of the files of registries.
+#[derive(Clone, Copy)]
+pub enum Question {
+    Baseline,
+    Entry,
+    Table,
+    Find,
+}
 
 impl Show for Baseline {
     fn show(&self, reply: &mut Reply) {
@@ -32,15 +41,16 @@ impl Show for Table {
     }
 }
 
-fn baseline_in(
-    name: &str,
-    rest: &str,
-    reply: &mut Reply,
-) -> Option<Result<Baseline, Unread<FileFault>>> {
-    let name = reply.text(name)?;
-    let bytes = reply.bytes(rest)?;
-    let alloc = reply.alloc();
-    Some(read_baseline(alloc, bytes.as_slice(), name.as_str()).map_err(Unread::Fault))
+fn baseline_in(name: &str, rest: &str, reply: &mut Reply) -> Result<Baseline, Unread<FileFault>> {
+    let name = reply.text(name);
+    let bytes = reply.bytes(rest);
+    read_baseline(reply.alloc(), bytes.as_slice(), name.as_str())
+}
+
+fn baseline(rest: &str, reply: &mut Reply) {
+    let (name, rest) = cut(rest);
+    let read = baseline_in(name, rest, reply);
+    tell(read, reply);
 }
 
 fn tell_entry(baseline: &Baseline, port: &PortName, reply: &mut Reply) {
@@ -50,23 +60,35 @@ fn tell_entry(baseline: &Baseline, port: &PortName, reply: &mut Reply) {
     }
 }
 
-fn entry(name: &str, port: &PortName, rest: &str, reply: &mut Reply) {
+fn entry_of(name: &str, port: &PortName, rest: &str, reply: &mut Reply) {
     match baseline_in(name, rest, reply) {
-        Some(Ok(baseline)) => tell_entry(&baseline, port, reply),
-        Some(Err(stop)) => refused(stop, reply),
-        None => {}
+        Ok(baseline) => tell_entry(&baseline, port, reply),
+        Err(stop) => refused(stop, reply),
     }
 }
 
-fn ask_of(text: &str, number: &str, reply: &mut Reply) -> Option<Ask> {
-    let port = reply.number(number)?;
-    let text = reply.text(text)?;
-    Some(Ask { text, port })
+fn entry(rest: &str, reply: &mut Reply) {
+    let (name, rest) = cut(rest);
+    let (port, rest) = cut(rest);
+    if let Some(port) = port_of(port, reply) {
+        entry_of(name, &port, rest, reply);
+    }
 }
 
-fn found(ask: &Ask, bytes: &List<u8>, reply: &mut Reply) {
-    match read_table(reply.alloc(), bytes.as_slice()).map_err(Unread::Fault) {
-        Ok(table) => tell_place(find(&table, ask), reply),
+fn table(rest: &str, reply: &mut Reply) {
+    let bytes = reply.bytes(rest);
+    tell(read_table(reply.alloc(), bytes.as_slice()), reply);
+}
+
+fn ask_of(text: &str, number: &str, reply: &mut Reply) -> Ask {
+    let port = reply.number(number);
+    let text = reply.text(text);
+    Ask { text, port }
+}
+
+fn found(ask: &Ask, bytes: &[u8], reply: &mut Reply) {
+    match read_table(reply.alloc(), bytes) {
+        Ok(table) => tell_or_none(find(&table, ask).map(|place| place as u64), reply),
         Err(stop) => refused(stop, reply),
     }
 }
@@ -76,41 +98,18 @@ fn find_in(rest: &str, reply: &mut Reply) {
     let (number, rest) = cut(rest);
     let ask = ask_of(text, number, reply);
     let bytes = reply.bytes(rest);
-    if let (Some(ask), Some(bytes)) = (&ask, &bytes) {
-        found(ask, bytes, reply);
-    }
+    found(&ask, bytes.as_slice(), reply);
 }
 
-/// - `read NAME FILE`: the baseline of this name, or the fault;
-/// - `entry NAME PORT FILE`: what it says of a port.
-pub fn baseline(question: &str, rest: &str, reply: &mut Reply) {
-    let (name, rest) = cut(rest);
+/// - `baseline read NAME FILE`: the baseline of this name, or the fault;
+/// - `baseline entry NAME PORT FILE`: what it says of a port;
+/// - `table read FILE`: the versions of a port, each with its folder, or the fault;
+/// - `table find TEXT N FILE`: the place of the version with this text and port-version, or `none`.
+pub fn answer(question: Question, rest: &str, reply: &mut Reply) {
     match question {
-        "read" => {
-            if let Some(read) = baseline_in(name, rest, reply) {
-                tell(read, reply);
-            }
-        }
-        "entry" => {
-            let (port, rest) = cut(rest);
-            if let Some(port) = port_of(port, reply) {
-                entry(name, &port, rest, reply);
-            }
-        }
-        _ => reply.refuse(),
-    }
-}
-
-/// - `read FILE`: the versions of a port, each with its folder, or the fault;
-/// - `find TEXT N FILE`: the place of the version with this text and port-version, or `none`.
-pub fn table(question: &str, rest: &str, reply: &mut Reply) {
-    match question {
-        "read" => {
-            if let Some(bytes) = reply.bytes(rest) {
-                tell(read_table(reply.alloc(), bytes.as_slice()).map_err(Unread::Fault), reply);
-            }
-        }
-        "find" => find_in(rest, reply),
-        _ => reply.refuse(),
+        Question::Baseline => baseline(rest, reply),
+        Question::Entry => entry(rest, reply),
+        Question::Table => table(rest, reply),
+        Question::Find => find_in(rest, reply),
     }
 }

@@ -1,6 +1,7 @@
 //! The rows. The first word says what is read, the second what is asked of it; then come words, the
 //! last of which may hold blanks.
 
+use crate::kinds::{Kind, kind_of};
 use crate::{configurations, documents, expressions, fields, manifests, names, paths};
 use crate::{registries, tokens, triplets, versions};
 use vk_row_text::{Answering, Reply, cut};
@@ -9,74 +10,41 @@ use vk_row_text::{Answering, Reply, cut};
 #[derive(Drop)]
 pub struct Rows;
 
-// What a row reads.
-#[derive(Clone, Copy)]
-enum Subject {
-    Group,
-    Name,
-    Path,
-    Token,
-    Version,
-    Expression,
-    Triplet,
-    Json,
-    Field,
-    Manifest,
-    Configuration,
-    Baseline,
-    Table,
-}
-
-const SUBJECTS: [(&str, Subject); 13] = [
-    ("group", Subject::Group),
-    ("name", Subject::Name),
-    ("path", Subject::Path),
-    ("token", Subject::Token),
-    ("version", Subject::Version),
-    ("expression", Subject::Expression),
-    ("triplet", Subject::Triplet),
-    ("json", Subject::Json),
-    ("field", Subject::Field),
-    ("manifest", Subject::Manifest),
-    ("configuration", Subject::Configuration),
-    ("baseline", Subject::Baseline),
-    ("table", Subject::Table),
-];
-
-/// What a word stands for in a table.
-pub fn meaning<T: Copy>(table: &[(&str, T)], word: &str) -> Option<T> {
-    for (name, meaning) in table {
-        if *name == word {
-            return Some(*meaning);
-        }
+fn answer(kind: Kind, rest: &str, reply: &mut Reply) {
+    match kind {
+        Kind::Name(question) => names::answer(question, rest, reply),
+        Kind::Path(question) => paths::answer(question, rest, reply),
+        Kind::Token(question) => tokens::answer(question, rest, reply),
+        Kind::Version(question) => versions::answer(question, rest, reply),
+        Kind::Expression(question) => expressions::answer(question, rest, reply),
+        Kind::Triplet(question) => triplets::answer(question, rest, reply),
+        Kind::Json(question) => documents::answer(question, rest, reply),
+        Kind::Field(question) => fields::answer(question, rest, reply),
+        Kind::Manifest { is_root } => manifests::answer(is_root, rest, reply),
+        Kind::Configuration(question) => configurations::answer(question, rest, reply),
+        Kind::Registry(question) => registries::answer(question, rest, reply),
     }
-    None
 }
 
-fn answer(subject: Subject, row: &str, reply: &mut Reply) {
-    let (question, rest) = cut(row);
-    match subject {
-        Subject::Group => reply.silence(),
-        Subject::Name => names::answer(question, rest, reply),
-        Subject::Path => paths::answer(question, rest, reply),
-        Subject::Token => tokens::answer(question, rest, reply),
-        Subject::Version => versions::answer(question, rest, reply),
-        Subject::Expression => expressions::answer(question, rest, reply),
-        Subject::Triplet => triplets::answer(question, rest, reply),
-        Subject::Json => documents::answer(question, rest, reply),
-        Subject::Field => fields::answer(question, rest, reply),
-        Subject::Manifest => manifests::answer(question, rest, reply),
-        Subject::Configuration => configurations::answer(question, rest, reply),
-        Subject::Baseline => registries::baseline(question, rest, reply),
-        Subject::Table => registries::table(question, rest, reply),
+// A row's first two words, and what stands behind them.
+fn cut_two(row: &str) -> (&str, &str) {
+    let (subject, rest) = cut(row);
+    let (question, others) = cut(rest);
+    let length = subject.len().saturating_add(1).saturating_add(question.len());
+    match row.split_at_checked(length) {
+        Some((words, _)) => (words, others),
+        None => (row, ""),
     }
 }
 
 impl Answering for Rows {
     fn answer(&mut self, row: &str, reply: &mut Reply) {
-        let (subject, rest) = cut(row);
-        match meaning(&SUBJECTS, subject) {
-            Some(subject) => answer(subject, rest, reply),
+        if row.starts_with("group ") {
+            return reply.silence();
+        }
+        let (words, rest) = cut_two(row);
+        match kind_of(words) {
+            Some(kind) => answer(kind, rest, reply),
             None => reply.refuse(),
         }
     }

@@ -54,10 +54,10 @@ pub fn tell_order(order: Option<Ordering>, reply: &mut Reply) {
     });
 }
 
-/// Tells a place, or `none`.
-pub fn tell_place(place: Option<usize>, reply: &mut Reply) {
-    match place {
-        Some(place) => reply.push_number(place as u64),
+/// Tells a number, or `none`.
+pub fn tell_or_none(number: Option<u64>, reply: &mut Reply) {
+    match number {
+        Some(number) => reply.push_number(number),
         None => reply.push("none"),
     }
 }
@@ -74,14 +74,19 @@ impl Show for u32 {
     }
 }
 
+/// Puts items at the end, with blanks between.
+pub fn show_each<T: Show>(items: &[T], reply: &mut Reply) {
+    for (n, item) in items.iter().enumerate() {
+        if n > 0 {
+            reply.push(" ");
+        }
+        item.show(reply);
+    }
+}
+
 impl<T: Show> Show for List<T> {
     fn show(&self, reply: &mut Reply) {
-        for (n, item) in self.iter().enumerate() {
-            if n > 0 {
-                reply.push(" ");
-            }
-            item.show(reply);
-        }
+        show_each(self.as_slice(), reply);
     }
 }
 

@@ -18,7 +18,6 @@ impl Show for NameFault {
         match self {
             NameFault::Bad { at } => push_at(reply, "bad ", *at),
             NameFault::Reserved => reply.push("reserved"),
-            NameFault::Memory => reply.push("no memory"),
         }
     }
 }
@@ -29,7 +28,6 @@ impl Show for PathFault {
             PathFault::Empty => reply.push("empty"),
             PathFault::TooLong => reply.push("too long"),
             PathFault::Zero { at } => push_at(reply, "zero at ", *at),
-            PathFault::Memory => reply.push("no memory"),
         }
     }
 }
@@ -40,8 +38,6 @@ impl Show for VersionFault {
             VersionFault::Shape => "version",
             VersionFault::Number => "range",
             VersionFault::Day => "day",
-            VersionFault::Suffix => "suffix",
-            VersionFault::Memory => "no memory",
         });
     }
 }
@@ -53,7 +49,6 @@ impl Show for ExprFault {
             ExprFault::Mixed { at } => push_at(reply, "mixed:", *at),
             ExprFault::Open { at } => push_at(reply, "open:", *at),
             ExprFault::Deep => reply.push("depth"),
-            ExprFault::Memory => reply.push("no memory"),
         }
     }
 }
@@ -63,16 +58,12 @@ impl Show for TripletFault {
         match self {
             TripletFault::Line { n } => push_at(reply, "line:", *n),
             TripletFault::NotText => reply.push("utf8"),
-            TripletFault::Memory => reply.push("no memory"),
         }
     }
 }
 
 impl Show for FileFault {
     fn show(&self, reply: &mut Reply) {
-        match self {
-            FileFault::Wrong { place, why } => reply.push_fault(place, *why),
-            FileFault::Memory => reply.push("no memory"),
-        }
+        reply.push_fault(&self.place, self.why);
     }
 }

@@ -2,7 +2,8 @@
 use Rattle.std.specs.Prelude.{◌≡◌, ◌⊎◌, ◌==◌, ℕ, Bool, List, Some, None, Result, Ok, Err}
 use Rattle.std.specs.Str.{IsUtf8}
 use Rattle.vk_spec.specs.Paths.{Path}
-use Rattle.vk_base.specs.PathReading.{PathWrong, path_of}
+use Rattle.vk_base.specs.PathReading.{path_of}
+use Rattle.vk_base.specs.declared.paths.PathFault.{PathFault}
 use Rattle.vk_base.specs.Tokens.{ReadsToken}
 use Rattle.vk_base.specs.declared.stops.Unread.{Unread}
 use Rattle.vk_base.specs.declared.stops.Unread.TheVariants.{Fault, Memory}
@@ -41,13 +42,13 @@ ReadsText word (Err (Memory _)) = Unit {0}
 -- the path that a text is, or that it is none
 abbrev pub IsPathOf : List ℕ → Read Path → Type 0
 IsPathOf text (Ok path) = path_of text ≡ Ok path
-IsPathOf text (Err (Fault _)) = (fault : PathWrong) × (path_of text ≡ Err fault)
+IsPathOf text (Err (Fault _)) = (fault : PathFault) × (path_of text ≡ Err fault)
 IsPathOf text (Err (Memory _)) = Unit {0}
 
 -- a word of no path: it is of no text, or that text is no path
 abbrev pub IsNoPath : List ℕ → Type 0
 IsNoPath word =
-  (text : List ℕ) × (fault : PathWrong) × ReadsToken word (Some text) × (path_of text ≡ Err fault)
+  (text : List ℕ) × (fault : PathFault) × ReadsToken word (Some text) × (path_of text ≡ Err fault)
 
 -- the path whose text a word is the token of, or that there is none
 abbrev pub ReadsPath : List ℕ → Read Path → Type 0

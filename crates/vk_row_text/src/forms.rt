@@ -3,15 +3,7 @@
 use crate::replies::Reply;
 use vk_base::{Text, TreePath};
 use vk_json::{Why, place_text};
-use vk_version::{Ask, Class, Version};
-
-fn class_word(class: Class) -> &'static str {
-    match class {
-        Class::Dot => "dot:",
-        Class::Date => "date:",
-        Class::Text => "text:",
-    }
-}
+use vk_version::{Ask, Version};
 
 impl Reply {
     /// Puts the token of a path at the end.
@@ -24,14 +16,14 @@ impl Reply {
 
     /// Puts an ask at the end: the token of its text, and the port-version behind `#`.
     pub fn push_ask(&mut self, ask: &Ask) {
-        self.push_token(ask.text.as_bytes());
-        self.push("#");
-        self.push_number(u64::from(ask.port));
+        let printed = ask.printed(self.alloc());
+        self.push_made(printed);
     }
 
     /// Puts a version at the end: its class, and the ask that means it.
     pub fn push_version(&mut self, version: &Version) {
-        self.push(class_word(version.class()));
+        self.push(version.class().word());
+        self.push(":");
         self.push_ask(version.ask());
     }
 

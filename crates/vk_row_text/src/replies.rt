@@ -104,36 +104,68 @@ impl Reply {
         }
     }
 
-    /// The text of which a word is the token.
-    pub fn text(&mut self, word: &str) -> Option<Text> {
-        let read = text_of(self.alloc, word);
-        self.needed(read)
+    /// The text of which a word is the token, and an empty one where there is none: then the row
+    /// isn't answered.
+    pub fn text(&mut self, word: &str) -> Text {
+        match text_of(self.alloc, word) {
+            Ok(text) => text,
+            Err(stop) => {
+                self.stop = Some(stop);
+                Text::new(self.alloc)
+            }
+        }
     }
 
-    /// The text of words.
-    pub fn texts(&mut self, words: &str) -> Option<Text> {
-        let read = texts_of(self.alloc, words);
-        self.needed(read)
+    /// The text of words, in the same way.
+    pub fn texts(&mut self, words: &str) -> Text {
+        match texts_of(self.alloc, words) {
+            Ok(text) => text,
+            Err(stop) => {
+                self.stop = Some(stop);
+                Text::new(self.alloc)
+            }
+        }
     }
 
-    /// The bytes of words.
-    pub fn bytes(&mut self, words: &str) -> Option<List<u8>> {
-        let read = bytes_of(self.alloc, words);
-        self.needed(read)
+    /// The bytes of words, in the same way.
+    pub fn bytes(&mut self, words: &str) -> List<u8> {
+        match bytes_of(self.alloc, words) {
+            Ok(bytes) => bytes,
+            Err(stop) => {
+                self.stop = Some(stop);
+                List::new(self.alloc)
+            }
+        }
     }
 
-    /// The path of a word.
-    pub fn path(&mut self, word: &str) -> Option<TreePath> {
-        let read = path_of(self.alloc, word);
-        self.needed(read)
+    /// The path of a word, in the same way.
+    pub fn path(&mut self, word: &str) -> TreePath {
+        match path_of(self.alloc, word) {
+            Ok(path) => path,
+            Err(stop) => {
+                self.stop = Some(stop);
+                TreePath::new(self.alloc)
+            }
+        }
     }
 
-    /// The number that a word is.
-    pub fn number<N: FromStr + Copy>(&mut self, word: &str) -> Option<N>
+    /// The number that a word is, and 0 where it is none: then the row isn't answered.
+    pub fn number<N: FromStr + From<u8>>(&mut self, word: &str) -> N
     where
         N::Err: Drop,
     {
-        self.needed(number_of(word))
+        match number_of(word) {
+            Ok(number) => number,
+            Err(stop) => {
+                self.stop = Some(stop);
+                N::from(0)
+            }
+        }
+    }
+
+    /// Whether the row isn't answered.
+    pub fn is_stopped(&self) -> bool {
+        self.stop.is_some()
     }
 
     /// What is told, or nothing where nothing is to be told.

@@ -1,5 +1,5 @@
-//! The sheet: each line of the standard input is told again on the standard output, with the answer,
-//! and marked where that isn't the one that stands beside the question.
+//! The sheet: each line of the standard input is told again on the standard output, with the
+//! answer, and marked where that isn't the one that stands beside the question.
 //!
 //! A row is a question, or a question and ` => ` and its answer. An answer of several lines stands
 //! below its question, each line behind four blanks. An empty line asks nothing.

@@ -7,10 +7,10 @@ ghost use Rattle.vk_row_text.specs.Wording.{ReadsPath, ReadsText};
 use crate::replies::NoRow;
 use std::alloc::Global;
 use std::str::FromStr;
-use vk_base::{List, PathFault, Text, TreePath, Unread, read_token};
+use vk_base::{List, Text, TreePath, Unread, read_token};
 
-/// A row's first word, and what stands after the blank behind it, which is nothing where the row has
-/// no blank.
+/// A row's first word, and what stands after the blank behind it, which is nothing where the row
+/// has no blank.
 pub fn cut(row: &str) -> (&str, &str)
     ensures first { result.0.now ≡ before_first is_blank row.now }
     ensures rest { result.1.now ≡ after_first is_blank row.now }
@@ -51,8 +51,8 @@ fn read_path(alloc: Global, text: &str) -> Result<TreePath, Unread<NoRow>>
 {
     match TreePath::read(alloc, text) {
         Ok(path) => Ok(path),
-        Err(PathFault::Memory) => Err(Unread::from(vk_base::Memory::without_allocation())),
-        Err(_) => Err(Unread::Fault(NoRow)),
+        Err(Unread::Fault(_)) => Err(Unread::Fault(NoRow)),
+        Err(Unread::Memory(memory)) => Err(Unread::Memory(memory)),
     }
 }
 

@@ -1,5 +1,5 @@
-//! What a catalogue is asked. A version is asked only of a port with a given one, and a manifest only
-//! of a version that is there: a row that asks otherwise isn't answered.
+//! What a catalogue is asked. A version is asked only of a port with a given one, and a manifest
+//! only of a version that is there: a row that asks otherwise isn't answered.
 ghost use Rattle.std.specs.Prelude.{IfOk, IsTrue};
 ghost use Rattle.vk_spec.specs.Catalogues.{OnPage, CanAskVersion, CanAskManifest};
 ghost use Rattle.vk_version.specs.AskViews.{ask_view};
@@ -8,6 +8,7 @@ use crate::lines::{tell_given, tell_manifest, tell_version, tell_wrong};
 use crate::projects::{ask_of, port_of};
 use vk_base::{Memory, PortName};
 use vk_catalogue::{CatStop, Catalogue, GivenManifest, manifest_at_given};
+use vk_model::lines::no_version_line;
 use vk_row_text::{Reply, cut};
 use vk_version::Ask;
 
@@ -21,10 +22,10 @@ fn stopped(stop: CatStop, reply: &mut Reply) {
 
 // Whether a port has a given version.
 #[tactic(auto, using(vk_spec::proofs::AskLemmas::can_ask_version))]
-fn has_given<C: Catalogue>(catalogue: &mut C, port: &PortName) -> Result<bool, CatStop>
-    ensures { IfOk result (λ yes. IsTrue yes → OnPage port.now CanAskVersion (C.state catalogue.new)) }
+fn has_given<C: Catalogue>(cat: &mut C, port: &PortName) -> Result<bool, CatStop>
+    ensures { IfOk result (λ yes. IsTrue yes → OnPage port.now CanAskVersion (C.state cat.new)) }
 {
-    match catalogue.given(port) {
+    match cat.given(port) {
         Ok(Ok(_)) => Ok(true),
         Ok(Err(_)) => Ok(false),
         Err(stop) => Err(stop),
@@ -34,7 +35,7 @@ fn has_given<C: Catalogue>(catalogue: &mut C, port: &PortName) -> Result<bool, C
 fn given<C: Catalogue>(catalogue: &mut C, port: &PortName, reply: &mut Reply) {
     match catalogue.given(port) {
         Ok(Ok(given)) => tell_given(&given, reply),
-        Ok(Err(wrong)) => tell_wrong(&wrong, reply),
+        Ok(Err(wrong)) => tell_wrong(port, &wrong, reply),
         Err(stop) => stopped(stop, reply),
     }
 }
@@ -53,7 +54,7 @@ fn listed<C: Catalogue>(catalogue: &mut C, port: &PortName, ask: &Ask, reply: &m
 {
     match catalogue.manifest(port, ask) {
         Ok(Ok(manifest)) => tell_manifest(&manifest, reply),
-        Ok(Err(wrong)) => tell_wrong(&wrong, reply),
+        Ok(Err(wrong)) => tell_wrong(port, &wrong, reply),
         Err(stop) => stopped(stop, reply),
     }
 }
@@ -73,8 +74,11 @@ fn manifest<C: Catalogue>(catalogue: &mut C, port: &PortName, ask: &Ask, reply: 
 fn at<C: Catalogue>(catalogue: &mut C, port: &PortName, reply: &mut Reply) {
     match manifest_at_given(catalogue, port) {
         Ok(GivenManifest::Found(manifest)) => tell_manifest(&manifest, reply),
-        Ok(GivenManifest::NoVersion(_)) => tell_version(None, reply),
-        Ok(GivenManifest::Bad(wrong)) => tell_wrong(&wrong, reply),
+        Ok(GivenManifest::NoVersion(ask)) => {
+            let line = no_version_line(reply.alloc(), port, &ask);
+            reply.push_made(line);
+        }
+        Ok(GivenManifest::Bad(wrong)) => tell_wrong(port, &wrong, reply),
         Err(stop) => stopped(stop, reply),
     }
 }

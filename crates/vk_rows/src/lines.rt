@@ -1,8 +1,8 @@
 //! What is told, in tokens.
 
-use vk_base::{List, Text, TreePath};
-use vk_catalogue::{Field, Given, Wrong};
-use vk_model::{Early, Manifest};
+use vk_base::{List, PortName, TreePath};
+use vk_model::lines::wrong_line;
+use vk_model::{Given, Manifest, Wrong};
 use vk_row_text::Reply;
 use vk_version::Version;
 
@@ -16,23 +16,6 @@ pub fn tell_paths(paths: &List<TreePath>, reply: &mut Reply) {
     }
     if reply.is_empty() {
         reply.push("none");
-    }
-}
-
-/// Tells the first early line.
-pub fn tell_early(early: &Early, reply: &mut Reply) {
-    match early {
-        Early::BadFile { path, place, why } => {
-            reply.push("bad-file ");
-            reply.push_path(path);
-            reply.push(" ");
-            reply.push_fault(place, *why);
-        }
-        Early::TwoConfigurations => reply.push("two-configurations"),
-        Early::NoTriplet { name } => {
-            reply.push("no-triplet ");
-            reply.push(name.as_str());
-        }
     }
 }
 
@@ -54,44 +37,10 @@ pub fn tell_given(given: &Given, reply: &mut Reply) {
     }
 }
 
-fn field_word(field: Field) -> &'static str {
-    match field {
-        Field::Name => " name ",
-        Field::Class => " class ",
-        Field::Text => " text ",
-        Field::Port => " port-version ",
-    }
-}
-
-fn tell_texts(field: Field, table: &Text, manifest: &Text, reply: &mut Reply) {
-    reply.push(field_word(field));
-    reply.push_token(table.as_bytes());
-    reply.push(" ");
-    reply.push_token(manifest.as_bytes());
-}
-
-/// Tells what is wrong.
-pub fn tell_wrong(wrong: &Wrong, reply: &mut Reply) {
-    match wrong {
-        Wrong::NoRegistry => reply.push("wrong no-registry"),
-        Wrong::NoBaseline => reply.push("wrong no-baseline"),
-        Wrong::BadFile { path, place, why } => {
-            reply.push("wrong bad-file ");
-            reply.push_path(path);
-            reply.push(" ");
-            reply.push_fault(place, *why);
-        }
-        Wrong::Disagrees {
-            path,
-            field,
-            table,
-            manifest,
-        } => {
-            reply.push("wrong disagrees ");
-            reply.push_path(path);
-            tell_texts(*field, table, manifest, reply);
-        }
-    }
+/// Tells what is wrong with a port.
+pub fn tell_wrong(port: &PortName, wrong: &Wrong, reply: &mut Reply) {
+    let line = wrong_line(reply.alloc(), port, wrong);
+    reply.push_made(line);
 }
 
 /// Tells a version with its class, or `none`.

@@ -1,5 +1,6 @@
-//! Answers rows about projects whose files are in memory: what opening them tells, what their worlds
-//! are asked, and how the planner runs over them; and about trees, sinks and catalogues in memory.
+//! Answers rows about projects whose files are in memory: what opening them tells, what their
+//! worlds are asked, and how the planner runs over them; and about trees, sinks and catalogues in
+//! memory.
 #![tactic(auto)]
 
 mod asks;

@@ -1,9 +1,9 @@
 //! Opening a project, and the folders that its world knows.
 
-use crate::lines::tell_early;
 use crate::projects::{port_of, version_of};
 use std::alloc::Global;
 use vk_base::{Memory, PortName};
+use vk_model::lines::early_line;
 use vk_model::{Project, Setting};
 use vk_opening::{OpenStop, Opened, Start};
 use vk_row_text::{Reply, cut};
@@ -21,9 +21,9 @@ pub enum Opening {
 // Tells that a project is opened: both triplets, and how many overlays there are.
 fn tell_ready(setting: &Setting, start: &Start, reply: &mut Reply) {
     reply.push("ready ");
-    reply.push(setting.target.name.as_str());
+    reply.push(setting.target.name().as_str());
     reply.push(" ");
-    reply.push(setting.host.name.as_str());
+    reply.push(setting.host.name().as_str());
     reply.push(" ");
     reply.push_number(start.overlays.len() as u64);
 }
@@ -44,7 +44,7 @@ pub fn open_on(alloc: Global, mut tree: MemTree, project: &Project, reply: &mut 
             Opening::World(World::on(alloc, start, tree))
         }
         Ok(Opened::Refused(early)) => {
-            tell_early(&early, reply);
+            reply.push_made(early_line(alloc, &early));
             Opening::Refused(tree)
         }
         Err(stop) => {
@@ -64,9 +64,10 @@ fn tell_folder(world: &World<MemTree>, port: &PortName, version: &Version, reply
 /// `folder PORT VERSION`: where a version stands that the world answered.
 pub fn folder(world: &World<MemTree>, row: &str, reply: &mut Reply) {
     let (port, version) = cut(row);
-    let port = port_of(port, reply);
-    let version = version_of(version, reply);
-    if let (Some(port), Some(version)) = (&port, &version) {
-        tell_folder(world, port, version, reply);
+    let Some(port) = port_of(port, reply) else {
+        return;
+    };
+    if let Some(version) = version_of(version, reply) {
+        tell_folder(world, &port, &version, reply);
     }
 }

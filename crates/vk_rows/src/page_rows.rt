@@ -6,10 +6,10 @@ use crate::workspaces::{done, numbers_of};
 use std::alloc::{AllocError, Global};
 use std::rc::Rc;
 use vk_base::{List, Memory, PortName, Text, TreePath, Unread};
-use vk_catalogue::{Catalogue, Given, MemCatalogue, Page, PageRow, Wrong};
+use vk_catalogue::{Catalogue, MemCatalogue, Page, PageRow};
 use vk_expr::Expr;
 use vk_json::Why;
-use vk_model::Manifest;
+use vk_model::{Given, Manifest, Wrong};
 use vk_row_text::{NoRow, Reply, cut};
 use vk_version::{Scheme, Version};
 
@@ -47,10 +47,10 @@ fn bad_file(path: TreePath, place: Text) -> Wrong {
     }
 }
 
-fn wrong_of(reply: &mut Reply) -> Option<Wrong> {
-    let path = reply.path("a/vcpkg.json")?;
-    let place = reply.text("/name")?;
-    Some(bad_file(path, place))
+fn wrong_of(reply: &mut Reply) -> Wrong {
+    let path = reply.path("a/vcpkg.json");
+    let place = reply.text("/name");
+    bad_file(path, place)
 }
 
 fn good_row(name: &PortName, word: &str, reply: &mut Reply) -> Option<PageRow> {
@@ -69,17 +69,14 @@ fn good_row(name: &PortName, word: &str, reply: &mut Reply) -> Option<PageRow> {
 
 fn bad_row(word: &str, reply: &mut Reply) -> Option<PageRow> {
     let version = version_of(word, reply)?;
-    match wrong_of(reply) {
-        Some(wrong) => Some(PageRow {
-            version,
-            manifest: Err(wrong),
-        }),
-        None => None,
-    }
+    Some(PageRow {
+        version,
+        manifest: Err(wrong_of(reply)),
+    })
 }
 
-// The row of a word: a version with a manifest of the port's name, or, behind `!`, one whose manifest
-// lacks its name.
+// The row of a word: a version with a manifest of the port's name, or, behind `!`, one whose
+// manifest lacks its name.
 fn row_of(name: &PortName, word: &str, reply: &mut Reply) -> Option<PageRow> {
     match word.strip_prefix('!') {
         Some(word) => bad_row(word, reply),
@@ -141,8 +138,8 @@ fn fail_at(alloc: Global, pages: &mut MemCatalogue, row: &str) -> Result<(), Unr
     Ok(pages.fail_at(calls.as_slice())?)
 }
 
-/// - `put PORT GIVEN VERSION ..`: puts a page, where one fits; `fits PORT GIVEN VERSION ..`: whether
-///   one does;
+/// - `put PORT GIVEN VERSION ..`: puts a page, where one fits; `fits PORT GIVEN VERSION ..`:
+///   whether one does;
 /// - `fails N ..`: it fails at these calls, counted from 1; `faults`: how many calls failed;
 /// - what every catalogue is asked.
 pub fn answer(pages: &mut MemCatalogue, row: &str, reply: &mut Reply) {

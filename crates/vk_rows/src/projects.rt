@@ -4,55 +4,52 @@ use std::alloc::Global;
 use vk_base::{List, PortName, TreePath, TripletName, Unread};
 use vk_model::Project;
 use vk_row_text::{NoRow, Reply, cut, path_of};
-use vk_version::{Ask, Scheme, Version, read, read_ask};
+use vk_version::{Ask, Class, Scheme, Version, read, read_ask};
 
 // How many requirements may be made, and how many bytes a folder may have: neither counts here.
 const MOST: u32 = 1000;
 
 fn triplet_of(word: &str, reply: &mut Reply) -> Option<TripletName> {
-    let read = TripletName::read(reply.alloc(), word).map_err(Unread::Fault);
+    let read = TripletName::read(reply.alloc(), word);
     reply.needed(read)
 }
 
 /// The port that a word names.
 pub fn port_of(word: &str, reply: &mut Reply) -> Option<PortName> {
-    let read = PortName::read(reply.alloc(), word).map_err(Unread::Fault);
+    let read = PortName::read(reply.alloc(), word);
     reply.needed(read)
 }
 
 /// The ask of a word, a token with a port-version or without one.
 pub fn ask_of(word: &str, reply: &mut Reply) -> Option<Ask> {
-    let text = reply.text(word)?;
-    let read = read_ask(reply.alloc(), text.as_str()).map_err(Unread::Fault);
+    let text = reply.text(word);
+    let read = read_ask(reply.alloc(), text.as_str());
     reply.needed(read)
 }
 
 /// The version of an ask by a scheme.
 pub fn version_by(scheme: Scheme, ask: &Ask, reply: &mut Reply) -> Option<Version> {
-    let read = read(reply.alloc(), scheme, ask.text.as_str(), ask.port).map_err(Unread::Fault);
+    let read = read(reply.alloc(), scheme, ask.text.as_str(), ask.port);
     reply.needed(read)
 }
 
-fn scheme_of(class: &str) -> Option<Scheme> {
-    match class {
-        "dot" => Some(Scheme::Relaxed),
-        "date" => Some(Scheme::Date),
-        "text" => Some(Scheme::Text),
-        _ => None,
+fn scheme_of(class: &str, reply: &mut Reply) -> Scheme {
+    match Class::read(class) {
+        Some(Class::Dot) => Scheme::Relaxed,
+        Some(Class::Date) => Scheme::Date,
+        Some(Class::Text) => Scheme::Text,
+        None => {
+            reply.refuse();
+            Scheme::Text
+        }
     }
 }
 
 // The version of two words: a class, and the ask that means it.
 fn version_with(class: &str, ask: &str, reply: &mut Reply) -> Option<Version> {
-    let scheme = scheme_of(class);
-    let ask = ask_of(ask, reply);
-    match (scheme, &ask) {
-        (Some(scheme), Some(ask)) => version_by(scheme, ask, reply),
-        _ => {
-            reply.refuse();
-            None
-        }
-    }
+    let scheme = scheme_of(class, reply);
+    let ask = ask_of(ask, reply)?;
+    version_by(scheme, &ask, reply)
 }
 
 /// The version of a word, as versions are told: the class, `:`, and the ask that means it.
@@ -100,7 +97,7 @@ fn project_in(alloc: Global, folder: TreePath, target: TripletName, host: Triple
 fn plain_project(folder: &str, target: &str, host: &str, reply: &mut Reply) -> Option<Project> {
     let target = triplet_of(target, reply)?;
     let host = triplet_of(host, reply)?;
-    let folder = reply.path(folder)?;
+    let folder = reply.path(folder);
     Some(project_in(reply.alloc(), folder, target, host))
 }
 
@@ -122,8 +119,6 @@ pub fn project_of(row: &str, reply: &mut Reply) -> Option<Project> {
     let (ports, triplets) = cut(row);
     let mut project = plain_project(folder, target, host, reply)?;
     let pushed = push_folders(reply.alloc(), &mut project, ports, triplets);
-    match reply.needed(pushed) {
-        Some(()) => Some(project),
-        None => None,
-    }
+    reply.needed(pushed);
+    Some(project)
 }

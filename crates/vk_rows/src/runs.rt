@@ -36,11 +36,12 @@ impl Sinks {
 }
 
 /// `room OUT ERR`: how many bytes the two sinks take.
-pub fn room_of(row: &str, reply: &mut Reply) -> Option<Room> {
+pub fn room_of(row: &str, reply: &mut Reply) -> Room {
     let (out, err) = cut(row);
-    let out = reply.number(out)?;
-    let err = reply.number(err)?;
-    Some(Room { out, err })
+    Room {
+        out: reply.number(out),
+        err: reply.number(err),
+    }
 }
 
 // The word of the command line that a token stands for.

@@ -1,13 +1,13 @@
 //! The rows, each a question and its words:
-//! - `forget`: no common files from here on; `group TITLE`, `case TITLE`: a new tree with the common
-//!   ones;
-//! - `common PATH FILE`, `file PATH FILE`, `blanks PATH N`, `fails N ..`: the files of the tree, and
-//!   the calls at which it fails;
+//! - `forget`: no common files from here on; `group TITLE`, `case TITLE`: a new tree with the
+//!   common ones;
+//! - `common PATH FILE`, `file PATH FILE`, `blanks PATH N`, `fails N ..`: the files of the tree,
+//!   and the calls at which it fails;
 //! - `room OUT ERR`, `run WORD ..`: how many bytes the two sinks take, and a run with these words;
 //! - `open FOLDER TARGET HOST PORTS TRIPLETS`: opens a project with these folders of ports and of
 //!   triplet files, each a list with commas, or `-`; the world is then the one that is asked;
-//! - `given PORT`, `version PORT ASK`, `manifest PORT ASK`, `at PORT`, `folder PORT VERSION`: asks the
-//!   world;
+//! - `given PORT`, `version PORT ASK`, `manifest PORT ASK`, `at PORT`, `folder PORT VERSION`: asks
+//!   the world;
 //! - `log`: ends the world, and tells the paths that its tree was asked for;
 //! - `tree ..`, `sink ..`, `pages ..`: asks a tree, a sink or a catalogue in memory.
 
@@ -83,6 +83,9 @@ impl Session {
         let Some(project) = project_of(row, reply) else {
             return;
         };
+        if reply.is_stopped() {
+            return;
+        }
         if let Err(memory) = self.open_project(&project, reply) {
             reply.lack(memory);
         }
@@ -124,9 +127,7 @@ impl Session {
 
     fn set_room(&mut self, row: &str, reply: &mut Reply) {
         reply.silence();
-        if let Some(room) = room_of(row, reply) {
-            self.room = room;
-        }
+        self.room = room_of(row, reply);
     }
 
     // Begins a group or a case, or sets files or room.

@@ -7,9 +7,7 @@ use vk_row_text::{NoRow, Reply, cut};
 use vk_tree::{MemSink, OutStop, Sink, send};
 
 fn put(sink: &mut MemSink, row: &str, reply: &mut Reply) {
-    let Some(piece) = reply.bytes(row) else {
-        return;
-    };
+    let piece = reply.bytes(row);
     match sink.put(piece.as_slice()) {
         Ok(count) => reply.push_number(count as u64),
         Err(_) => reply.push("failed"),
@@ -27,6 +25,11 @@ fn tell_sent(sent: Result<(), OutStop>, reply: &mut Reply) {
     }
 }
 
+fn send_all(sink: &mut MemSink, row: &str, reply: &mut Reply) {
+    let bytes = reply.bytes(row);
+    tell_sent(send(sink, bytes.as_slice()), reply);
+}
+
 fn fail_at(alloc: Global, sink: &mut MemSink, row: &str) -> Result<(), Unread<NoRow>> {
     let calls = numbers_of(alloc, row)?;
     Ok(sink.fail_at(calls.as_slice())?)
@@ -34,16 +37,12 @@ fn fail_at(alloc: Global, sink: &mut MemSink, row: &str) -> Result<(), Unread<No
 
 fn take_nothing(sink: &mut MemSink, row: &str, reply: &mut Reply) {
     reply.silence();
-    if let Some(call) = reply.number(row) {
-        sink.take_nothing_from(call);
-    }
+    sink.take_nothing_from(reply.number(row));
 }
 
 fn renew(sink: &mut MemSink, row: &str, reply: &mut Reply) {
     reply.silence();
-    let Some(room) = reply.number(row) else {
-        return;
-    };
+    let room = reply.number(row);
     match MemSink::new(reply.alloc(), room) {
         Ok(new) => *sink = new,
         Err(memory) => reply.lack(memory),
@@ -65,11 +64,7 @@ pub fn answer(sink: &mut MemSink, row: &str, reply: &mut Reply) {
         }
         "nothing-from" => take_nothing(sink, rest, reply),
         "put" => put(sink, rest, reply),
-        "send" => {
-            if let Some(bytes) = reply.bytes(rest) {
-                tell_sent(send(sink, bytes.as_slice()), reply);
-            }
-        }
+        "send" => send_all(sink, rest, reply),
         "taken" => reply.push_token(sink.bytes()),
         "faults" => reply.push_number(sink.faults()),
         _ => reply.refuse(),

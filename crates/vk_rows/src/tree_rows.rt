@@ -1,23 +1,24 @@
 //! What a tree in memory answers.
 
 use crate::lines::tell_paths;
-use vk_base::TreePath;
+use vk_base::{Stop, TreePath};
 use vk_row_text::{Reply, cut};
 use vk_tree::{MemTree, ReadFault, Tree};
 
-fn fault_word(fault: ReadFault) -> &'static str {
-    match fault {
-        ReadFault::Missing => "missing",
-        ReadFault::TooLarge => "too large",
-        ReadFault::Failed => "failed",
-        ReadFault::Memory => "no memory",
+// Tells why a file wasn't read.
+fn stopped(stop: Stop<ReadFault>, reply: &mut Reply) {
+    match stop {
+        Stop::Fault(ReadFault::Missing) => reply.push("missing"),
+        Stop::Fault(ReadFault::TooLarge) => reply.push("too large"),
+        Stop::Failed => reply.push("failed"),
+        Stop::Memory(memory) => reply.lack(memory),
     }
 }
 
 fn tell_read(tree: &mut MemTree, path: &TreePath, limit: u64, reply: &mut Reply) {
     match tree.read(path, limit) {
         Ok(bytes) => reply.push_token(bytes.as_slice()),
-        Err(fault) => reply.push(fault_word(fault)),
+        Err(stop) => stopped(stop, reply),
     }
 }
 
@@ -25,15 +26,18 @@ fn read(tree: &mut MemTree, row: &str, reply: &mut Reply) {
     let (path, limit) = cut(row);
     let limit = reply.number(limit);
     let path = reply.path(path);
-    if let (Some(path), Some(limit)) = (&path, limit) {
-        tell_read(tree, path, limit, reply);
+    if !reply.is_stopped() {
+        tell_read(tree, &path, limit, reply);
     }
 }
 
+fn room(tree: &MemTree, row: &str, reply: &mut Reply) {
+    let path = reply.path(row);
+    reply.push_test(tree.has_room(&path));
+}
+
 fn file(tree: &MemTree, row: &str, reply: &mut Reply) {
-    let Some(path) = reply.path(row) else {
-        return;
-    };
+    let path = reply.path(row);
     match tree.file(&path) {
         Some(bytes) => reply.push_token(bytes),
         None => reply.push("none"),
@@ -42,9 +46,7 @@ fn file(tree: &MemTree, row: &str, reply: &mut Reply) {
 
 fn stop(tree: &mut MemTree, row: &str, reply: &mut Reply) {
     reply.silence();
-    if let Some(call) = reply.number(row) {
-        tree.stop_at(call);
-    }
+    tree.stop_at(reply.number(row));
 }
 
 /// - `read PATH LIMIT`: the bytes that a call reads, or the fault;
@@ -60,11 +62,7 @@ pub fn answer(tree: &mut MemTree, row: &str, reply: &mut Reply) {
         "log" => tell_paths(tree.logged(), reply),
         "changes" => reply.push_number(tree.changed()),
         "faults" => reply.push_number(tree.faults()),
-        "room" => {
-            if let Some(path) = reply.path(rest) {
-                reply.push_test(tree.has_room(&path));
-            }
-        }
+        "room" => room(tree, rest, reply),
         _ => reply.refuse(),
     }
 }
