@@ -160,7 +160,8 @@ pub fn each_item<R: Reader>(
     value: &Value,
     reader: &R,
 ) -> Result<List<R::Out>, Unread<FileFault>>
-    ensures { Gives (map R.plain) fault_in result (each_item (R.reads reader.now) (view value.now)) }
+    ensures { Gives (map R.plain) fault_in result
+        (each_item (R.reads reader.now) (view value.now)) }
 {
     match items(value) {
         Some(values) => read_items(alloc, values, reader),
@@ -224,7 +225,8 @@ pub fn each_member<R: MemberReader>(
     value: &Value,
     reader: &R,
 ) -> Result<List<R::Out>, Unread<FileFault>>
-    ensures read { Gives (map R.plain) fault_in result (each_member (R.reads reader.now) (view value.now)) }
+    ensures read { Gives (map R.plain) fault_in result
+        (each_member (R.reads reader.now) (view value.now)) }
     ensures order { IfOk result (λ read. KeysAscend (view value.now)) }
 {
     match value.as_object() {

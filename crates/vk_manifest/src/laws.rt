@@ -16,13 +16,15 @@ ghost use Rattle.vk_manifest.specs.Keys.{feature_keys, override_keys, AgreeOn};
 /// Members that the manual doesn't name change nothing: two objects that have the same members under
 /// the keys of their kind read alike, to the same value or the same first fault.
 pub fn unknown_members()
-    ensures manifest { (root : Bool) (ms ns : Members) → AgreeOn manifest_keys (object ms) (object ns) →
+    ensures manifest { (root : Bool) (ms ns : Members) → AgreeOn manifest_keys (object ms)
+        (object ns) →
         manifest_at root (object ms) ≡ manifest_at root (object ns) }
     ensures dependency { (ms ns : Members) → AgreeOn dependency_keys (object ms) (object ns) →
         dependency_at (object ms) ≡ dependency_at (object ns) }
     ensures feature_use { (ms ns : Members) → AgreeOn use_keys (object ms) (object ns) →
         use_at (object ms) ≡ use_at (object ns) }
-    ensures feature { (name : List ℕ) (ms ns : Members) → AgreeOn feature_keys (object ms) (object ns) →
+    ensures feature { (name : List ℕ) (ms ns : Members) → AgreeOn feature_keys (object ms)
+        (object ns) →
         feature_at name (object ms) ≡ feature_at name (object ns) }
     ensures version_override { (earlier : List (List ℕ)) (ms ns : Members) →
         AgreeOn override_keys (object ms) (object ns) →
@@ -34,7 +36,8 @@ pub fn unknown_members()
 pub fn fault_places()
     ensures document { (bytes : List ℕ) (root : Bool) (d : Data) (fault : FileFault) →
         json_of bytes ≡ Ok d → manifest_of bytes root ≡ Err fault → StandsIn d fault }
-    ensures no_document { (bytes : List ℕ) (root : Bool) (fault : FileFault) → json_of bytes ≡ Err fault →
+    ensures no_document { (bytes : List ℕ) (root : Bool) (fault : FileFault) → json_of bytes ≡ Err
+        fault →
         (manifest_of bytes root ≡ Err fault) × (fault ≡ here why.Json) }
 {}
 
@@ -43,5 +46,6 @@ pub fn fault_places()
 pub fn manifest_names()
     ensures names { (bytes : List ℕ) (root : Bool) (m : Manifest Condition) →
         manifest_of bytes root ≡ Ok m → IsNamed m }
-    ensures port { (bytes : List ℕ) (m : Manifest Condition) → manifest_of bytes false ≡ Ok m → IsPort m }
+    ensures port { (bytes : List ℕ) (m : Manifest Condition) → manifest_of bytes false ≡ Ok m →
+        IsPort m }
 {}

@@ -66,7 +66,8 @@ fn read_override(
     value: &Value,
     names: &mut IndexSet<PortName>,
 ) -> Result<Override, Unread<FileFault>>
-    ensures value { Gives override_view fault_in result (override_from names.old.keys (view value.now)) }
+    ensures value { Gives override_view fault_in result
+        (override_from names.old.keys (view value.now)) }
     ensures noted { IfOk result (λ o. names.new.keys ≡ names.old.keys ++ o.name ∷ []) }
 {
     object(alloc, value)?;
