@@ -28,11 +28,11 @@ pub fn reports_are_printed()
 pub fn plans_are_printed()
     ensures realistic { Tells realistic realistic_told 29 }
     ensures superseded { Tells superseded_minimum
-        (codes "1 a x64-linux 2.0#0 18 core" ∷ codes "2 b x64-linux 3#0 19 core" ∷ codes "3 c
-        x64-linux 1#0 11 core" ∷ []) 23 }
+        (codes "1 a x64-linux 2.0#0 18 core" ∷ codes "2 b x64-linux 3#0 19 core" ∷ codes
+        "3 c x64-linux 1#0 11 core" ∷ []) 23 }
     ensures overridden { Tells overridden
-        (codes "1 s x64-linux alpha#0 15 core" ∷ codes "2 p x64-linux 1#0 7 core" ∷ codes "3 q
-        x64-linux 1#0 8 core" ∷ []) 17 }
+        (codes "1 s x64-linux alpha#0 15 core" ∷ codes "2 p x64-linux 1#0 7 core" ∷ codes
+        "3 q x64-linux 1#0 8 core" ∷ []) 17 }
     ensures feature { Tells new_feature
         (codes "1 a x64-linux 2.0#0 15 core,x" ∷ codes "2 c x64-linux 1#0 9 core" ∷ []) 18 }
     ensures own { Tells own_feature (single_line (codes "1 g x64-linux 1#0 6 core,x,y")) 11 }
