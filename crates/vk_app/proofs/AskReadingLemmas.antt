@@ -2,15 +2,17 @@
 use Rattle.std.proofs.Common.{◌≡◌, ◌+◌, ◌<◌, ◌≤◌, ℕ, Bool, false, List, [], ◌∷◌, ◌++◌, length, get_or, map, refl, ap, sym, subst, ◌∙◌}
 use Rattle.std.specs.Prelude.{Option, Some, None, IfSome, option_map, Result, Ok, Err, IfOk}
 use Rattle.vk_spec.specs.Reading.{◌>>=◌, read_each, Gives, Fails}
-use Rattle.vk_spec.specs.Files.{Files}
 use Rattle.vk_spec.specs.Lists.{NoRepeats}
 use Rattle.vk_spec.specs.States.{Told, State, with_asked}
 use Rattle.vk_pages.specs.Pages.{page_of}
-use Rattle.vk_world.specs.Worlds.{Learned, start_in, opened_in, asked_since, origin_on, pages_in, world_state, told_with, IsReadSince}
+use Rattle.vk_opening.specs.Starts.{Start}
+use Rattle.vk_world.specs.Worlds.{Learned, WorldView, origin_on, pages_in, places_in, world_state, state_of, IsReadSince}
+use Rattle.vk_world.specs.VersionFolders.{place_in}
 use Rattle.vk_spec.specs.Calls.{Answer, is_failed}
 use Rattle.vk_spec.specs.Versions.{Version, Ask}
 use Rattle.vk_spec.specs.Pages.{Page, Wrong, Given, given_ask}
-use Rattle.vk_spec.specs.Catalogues.{Pages, CatalogueState, OnlyAsked, Asks, SaysGiven}
+use Rattle.vk_spec.specs.Paths.{Path}
+use Rattle.vk_spec.specs.Catalogues.{Pages, Places, CatalogueState, OnlyAsked, Asks, SaysGiven}
 use Rattle.vk_spec.proofs.AskLemmas.{asked_nothing, asked_then, asked_once, pages_before}
 use Rattle.vk_spec.proofs.OptionLemmas.{of_each, of_both}
 use Rattle.vk_spec.proofs.ReadingLemmas.{with_front, nothing_yet, left_from, goes_on_by, ends_by, is_done_by, gives_then, fails_on}
@@ -18,6 +20,10 @@ use Rattle.vk_spec.specs.Conditions.{Condition}
 use Rattle.vk_app.specs.Once.{OnlyReadOnce}
 use Rattle.vk_app.specs.PortPlans.{Item, Trouble, or_trouble, given_for, version_for, manifest_for, item_with, item_at, item_of}
 use Rattle.vk_app.specs.AskReadings.{AsksAs, trouble_of, has_failed}
+use Rattle.vk_catalogue.specs.Views.{stop_view}
+use Rattle.vk_catalogue.specs.declared.stops.CatStop.{CatStop}
+use Rattle.vk_catalogue.specs.declared.stops.CatStop.TheVariants as cat
+use Rattle.vk_app.specs.PortStops.{stop_after}
 use Rattle.vk_app.specs.declared.troubles.PortStop.{PortStop}
 use Rattle.vk_app.specs.declared.troubles.PortStop.TheVariants as stop
 
@@ -127,43 +133,58 @@ pub asks_item : {X : Type 0} {view : X → Item} {answer : Result X PortStop} {a
 unfolding item_of
 asks_item port one = one
 
+-- a call that stopped, told in other words
+pub asks_stop : {A X Y : Type 0} {port : List ℕ} {Says : Page Condition → A → Type 0} {a b : CatalogueState Condition} (view : X → Y) (meaning : Pages Condition → Result Y Trouble) (s : CatStop)
+    → Asks port Says (Err (stop_view s)) a b → AsksAs {X = X} view (Err (stop_after s)) meaning a b
+asks_stop view meaning cat.Failed asks = asks_one view (Err stop.Failed) meaning asks refl (λ p said. tt)
+asks_stop view meaning cat.Memory asks = asks_one view (Err stop.Memory) meaning asks refl (λ p said. tt)
+
+-- a call that answered, after which memory ran out
+pub asks_lack : {A X Y : Type 0} {port : List ℕ} {Says : Page Condition → A → Type 0} {x : A} {a b : CatalogueState Condition} (view : X → Y) (meaning : Pages Condition → Result Y Trouble)
+    → Asks port Says (Ok x) a b → AsksAs {X = X} view (Err stop.Memory) meaning a b
+asks_lack view meaning asks = asks_one view (Err stop.Memory) meaning asks refl (λ p said. tt)
+
 -- ---- the tree below
 
-origin_told : (told : Option Told) → told_with (option_map (λ t. t.files) told) (option_map (λ t. t.log) told) ≡ told
-origin_told None = refl
-origin_told (Some t) = refl
-
--- what only asked a world that was just made only read its tree, and no path that opening had read
-pub only_read_once : {failed : Bool} (before after : State) (l now : Learned) → (world_state before l).origin ≡ origin_on before → OnlyAsked failed (world_state before l) (world_state after now) → IsReadSince (world_state after now).origin (asked_since now) after
-    → opened_in now ≡ opened_in l → NoRepeats (opened_in now ++ asked_since now) → OnlyReadOnce (opened_in l) failed before after
-only_read_once before after l now fresh only since opened distinct =
-    let same : (world_state after now).origin ≡ origin_on before = only.origin ∙ fresh in
+-- what only asked a world only read its tree, and no path that was read before
+only_read_once : {failed : Bool} (start : Start) (opened : List Path) (before after : State) (l now : Learned)
+    → (world_state before l).origin ≡ origin_on start opened before
+    → OnlyAsked failed (world_state before l) (world_state after now) → IsReadSince (world_state after now).origin after
+    → OnlyReadOnce opened failed before after
+only_read_once start opened before after l now fresh only since =
+    let same : (world_state after now).origin ≡ origin_on start opened before = only.origin ∙ fresh in
     record {
       only = record {
-        asked = asked_since now;
+        asked = since.asked;
         looks = record {
-          told = since.told ∙ ap (λ o. with_asked (asked_since now) (told_with o.files o.log)) same ∙ ap (with_asked (asked_since now)) (origin_told before.told);
+          told = since.told ∙ ap (λ o. with_asked since.asked o.told) same;
           changes = since.changes ∙ ap (λ o. o.changes) same;
           calls = only.calls;
           ends = record { faults = only.faults; sure = only.sure; safe = only.safe };
         };
       };
-      distinct = subst (λ opened. NoRepeats (opened ++ asked_since now)) opened distinct;
+      distinct = subst (λ o. NoRepeats (o.opened ++ since.asked)) same since.distinct;
     }
 
--- the files that a tree tells stay
-pub files_stay : {failed : Bool} (before after : State) (l now : Learned) (P : Files → Type 0) → OnlyAsked failed (world_state before l) (world_state after now) → IfSome after.told (λ t. P t.files) → IfSome before.told (λ t. P t.files)
-files_stay before after l now P only h = by before.told after.told (ap (λ o. o.files) only.origin) h
-  where
-    by : (one other : Option Told) → option_map (λ t. t.files) other ≡ option_map (λ t. t.files) one → IfSome other (λ t. P t.files) → IfSome one (λ t. P t.files)
-    by None other e h = tt
-    by (Some t) None e h = (cc)
-    by (Some t) (Some u) e h = let same : u.files ≡ t.files = (cc) in subst P same h
+-- the same of a world that was made on a tree, and gave it back
+pub tree_read_once : {T : Type 0} {failed : Bool} (start : Start) (opened : List Path) (state : T → State) (was now : WorldView T) (tree left : T)
+    → was.tree ≡ tree → left ≡ now.tree → (state_of state was).origin ≡ origin_on start opened (state tree)
+    → OnlyAsked failed (state_of state was) (state_of state now) → IsReadSince (state_of state now).origin (state left)
+    → OnlyReadOnce opened failed (state tree) (state left)
+tree_read_once {failed = failed} start opened state was now tree left one two fresh only since =
+    let fresh_there = fresh ∙ ap (λ t. origin_on start opened (state t)) (sym one) in
+    let since_there = subst (λ t. IsReadSince (state_of state now).origin (state t)) two since in
+    let read = only_read_once start opened (state was.tree) (state now.tree) was.learned now.learned fresh_there only since_there in
+    subst (λ t. OnlyReadOnce opened failed (state t) (state left)) one
+    (subst (λ t. OnlyReadOnce opened failed (state was.tree) (state t)) (sym two) read)
 
--- what is told of pages is told of the files whose pages they are
-pub pages_told : (tree : State) (l : Learned) (P : Pages Condition → Type 0) → IfSome (pages_in l tree.told) P → IfSome tree.told (λ t. P (page_of (start_in l) t.files))
-pages_told tree l P h = by tree.told h
+-- what is told of pages and places is told of the files whose they are
+pub pages_told : (start : Start) (told : Option Told) (places : Places) (pages : Option (Pages Condition)) (P : Places → Pages Condition → Type 0)
+    → pages ≡ pages_in start told → places ≡ places_in start told → IfSome pages (P places)
+    → IfSome told (λ t. P (place_in start t.files) (page_of start t.files))
+pages_told start told places pages P same there h =
+    by told (subst (λ q. IfSome (pages_in start told) (P q)) there (subst (λ o. IfSome o (P places)) same h))
   where
-    by : (told : Option Told) → IfSome (option_map (λ t. page_of (start_in l) t.files) told) P → IfSome told (λ t. P (page_of (start_in l) t.files))
+    by : (o : Option Told) → IfSome (pages_in start o) (P (places_in start o)) → IfSome o (λ t. P (place_in start t.files) (page_of start t.files))
     by None h = tt
     by (Some t) h = h

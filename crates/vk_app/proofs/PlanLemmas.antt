@@ -9,7 +9,7 @@ use Rattle.vk_spec.specs.Files.{Files}
 use Rattle.vk_spec.specs.Manifests.{Manifest}
 use Rattle.vk_spec.specs.Reading.{◌>>=◌, Gives, Fails}
 use Rattle.vk_spec.specs.States.{Told, State, with_asked, OnlyRead}
-use Rattle.vk_spec.specs.Catalogues.{OnlyAsked}
+use Rattle.vk_spec.specs.Catalogues.{Pages, Places, CatalogueState, OnlyAsked}
 use Rattle.vk_spec.proofs.OptionLemmas.{of_each, of_both}
 use Rattle.vk_spec.proofs.StateLemmas.{looks_nothing, looks_then, told_before}
 use Rattle.vk_spec.proofs.ReadingLemmas.{fails_on}
@@ -17,18 +17,20 @@ use Rattle.vk_spec.specs.Conditions.{Condition}
 use Rattle.vk_model.specs.EarlyViews.{early_view}
 use Rattle.vk_model.specs.declared.earlies.Early.{Early}
 use Rattle.vk_model.specs.declared.projects.Project.{Project}
-use Rattle.vk_files.specs.Kept.{IsOf, paths_of}
-use Rattle.vk_opening.specs.Starts as the
+use Rattle.vk_files.specs.Kept.{Kept, IsOf, paths_of}
 use Rattle.vk_opening.specs.Openings.{Opening, opened_of}
-use Rattle.vk_opening.specs.Opened.{Opens, Tells}
-use Rattle.vk_opening.specs.Views.{ready_view, opened_files}
+use Rattle.vk_opening.specs.Opened.{Opens, Tells, IsKept}
+use Rattle.vk_opening.specs.Views.{ready_view, start_view, opened_files}
+use Rattle.vk_opening.specs.declared.starts.Start.{Start}
+use Rattle.vk_model.specs.declared.settings.Setting.{Setting}
+use Rattle.vk_model.specs.Views.{manifest_view}
 use Rattle.vk_opening.specs.declared.opens.Opened.{Opened}
 use Rattle.vk_opening.specs.declared.opens.Opened.TheVariants as opened
 use Rattle.vk_opening.specs.declared.opens.OpenStop.{OpenStop}
 use Rattle.vk_opening.specs.declared.opens.OpenStop.TheVariants as open_stop
 use Rattle.vk_opening.proofs.OpenLemmas as opening
 use Rattle.vk_pages.specs.Pages.{page_of}
-use Rattle.vk_world.specs.Worlds.{Learned, start_in, pages_in, world_state}
+use Rattle.vk_world.specs.VersionFolders.{place_in}
 use Rattle.vk_app.specs.Once.{OnlyReadOnce}
 use Rattle.vk_app.specs.Requests.{Request}
 use Rattle.vk_app.specs.PortPlans.{Item, Trouble, items_of}
@@ -37,46 +39,53 @@ use Rattle.vk_app.specs.Refusals.{Refused}
 use Rattle.vk_app.specs.AskReadings.{trouble_of}
 use Rattle.vk_app.specs.Located.{IsLocatedAt, IsLocatedStop}
 use Rattle.vk_app.specs.ShortReports.{planned_report}
-use Rattle.vk_app.specs.PlanReadings.{PlansAs, refused_of, report_for, report_after, planned_report_of, stop_opened, IsKeptOf}
+use Rattle.vk_app.specs.PlanReadings.{PlansAs, refused_of, report_for, report_on, report_after, planned_report_of, stop_opened, IsKeptOf}
 use Rattle.vk_app.specs.declared.troubles.PortStop.{PortStop}
 use Rattle.vk_app.specs.declared.refusals.PlanStop.{PlanStop}
 use Rattle.vk_app.specs.declared.refusals.PlanStop.TheVariants as plan_stop
 use Rattle.vk_app.specs.declared.refusals.Refusal.TheVariants as refusal
 use Rattle.vk_base.specs.declared.texts.Text.{Text}
-use Rattle.vk_app.proofs.AskReadingLemmas.{pages_told, files_stay}
 
 -- ---- items
 
-pub items_ok : (tree : State) (l : Learned) (ports : List (List ℕ)) (items : List Item) → IfSome (pages_in l tree.told) (λ p. items_of ports p ≡ Ok items) → IfSome tree.told (λ t. items_for (start_in l) ports t.files ≡ Ok items)
-items_ok tree l ports items h = IfSome_then tree.told (pages_told tree l (λ p. items_of ports p ≡ Ok items) h) (λ t is. ap (or_refused (start_in l) t.files) is)
+pub items_ok : (folder : Path) (ports : List (List ℕ)) (items : List Item) (places : Places) (o : Option (Pages Condition))
+    → IfSome o (λ p. items_of ports p ≡ Ok items) → IfSome o (λ p. items_for folder ports places p ≡ Ok items)
+items_ok folder ports items places o h = IfSome_then o h (λ p is. ap (or_refused folder places) is)
 
 -- the trouble of a port, told with its file
-pub items_err : {failed : Bool} (before after : State) (l now : Learned) (ports : List (List ℕ)) (s : PortStop) (told : PlanStop) → OnlyAsked failed (world_state before l) (world_state after now) → start_in now ≡ start_in l
-    → IfSome (pages_in l before.told) (λ p. Fails (trouble_of s) (items_of ports p)) → IsLocatedStop s (start_in now) after
-    → ((start : the.Start) (files : Files) (read : Result (List Item) Trouble) → IsLocatedAt s start files → Fails (trouble_of s) read → Fails (refused_of told) (or_refused start files read))
-    → IfSome before.told (λ t. Fails (refused_of told) (items_for (start_in l) ports t.files))
-items_err before after l now ports s told only same fails located says =
-    of_both before.told (pages_told before l (λ p. Fails (trouble_of s) (items_of ports p)) fails)
-    (files_stay before after l now (λ f. IsLocatedAt s (start_in l) f) only (subst (λ start. IsLocatedStop s start after) same located))
-    (λ t one two. says (start_in l) t.files (items_of ports (page_of (start_in l) t.files)) two one)
+pub items_err : {failed : Bool} {before after : CatalogueState Condition} (folder : Path) (ports : List (List ℕ)) (s : PortStop) (told : PlanStop)
+    → OnlyAsked failed before after → IfSome before.pages (λ p. Fails (trouble_of s) (items_of ports p)) → IsLocatedStop s after
+    → ((places : Places) (read : Result (List Item) Trouble) → IsLocatedAt s places → Fails (trouble_of s) read
+        → Fails (refused_of told) (or_refused folder places read))
+    → IfSome before.pages (λ p. Fails (refused_of told) (items_for folder ports before.origin.places p))
+items_err {before = before} {after = after} folder ports s told only fails located says =
+    of_both before.pages fails
+    (subst (λ origin. IfSome before.pages (λ p. IsLocatedAt s origin.places)) only.origin
+    (subst (λ o. IfSome o (λ p. IsLocatedAt s after.origin.places)) only.pages located))
+    (λ p one two. says before.origin.places (items_of ports p) two one)
 
 -- ---- the report of an opened project
 
-pub ports_fail : (triplet : List ℕ) (folder : Path) (root : Manifest Condition) (start : the.Start) (s : PlanStop) (told : Option Told) → Fails (refused_of s) (ports_of folder root) → IfSome told (λ t. Fails (refused_of s) (report_for triplet folder root start t.files))
-ports_fail triplet folder root start s told fails = of_each told (λ t.
-    fails_on (refused_of s) (ports_of folder root >>= λ ports. items_for start ports t.files) (λ items. Ok (planned_report triplet items)) (fails_on (refused_of s) (ports_of folder root) (λ ports. items_for start ports t.files) fails))
+pub ports_fail : (triplet : List ℕ) (folder : Path) (root : Manifest Condition) (places : Places) (s : PlanStop) (o : Option (Pages Condition))
+    → Fails (refused_of s) (ports_of folder root) → IfSome o (λ p. Fails (refused_of s) (report_for triplet folder root places p))
+ports_fail triplet folder root places s o fails = of_each o (λ p.
+    fails_on (refused_of s) (ports_of folder root >>= λ ports. items_for folder ports places p) (λ items. Ok (planned_report triplet items))
+    (fails_on (refused_of s) (ports_of folder root) (λ ports. items_for folder ports places p) fails))
 
-pub items_fail : (triplet : List ℕ) (folder : Path) (root : Manifest Condition) (start : the.Start) (ports : List (List ℕ)) (s : PlanStop) (told : Option Told) → ports_of folder root ≡ Ok ports
-    → IfSome told (λ t. Fails (refused_of s) (items_for start ports t.files)) → IfSome told (λ t. Fails (refused_of s) (report_for triplet folder root start t.files))
-items_fail triplet folder root start ports s told is fails = IfSome_then told fails (λ t h.
-    rw is (fails_on (refused_of s) (items_for start ports t.files) (λ items. Ok (planned_report triplet items)) h))
+pub items_fail : (triplet : List ℕ) (folder : Path) (root : Manifest Condition) (places : Places) (ports : List (List ℕ)) (s : PlanStop) (o : Option (Pages Condition))
+    → ports_of folder root ≡ Ok ports → IfSome o (λ p. Fails (refused_of s) (items_for folder ports places p))
+    → IfSome o (λ p. Fails (refused_of s) (report_for triplet folder root places p))
+items_fail triplet folder root places ports s o is fails = IfSome_then o fails (λ p h.
+    rw is (fails_on (refused_of s) (items_for folder ports places p) (λ items. Ok (planned_report triplet items)) h))
 
-pub report_done : (triplet : List ℕ) (folder : Path) (root : Manifest Condition) (start : the.Start) (ports : List (List ℕ)) (items : List Item) (bytes : List ℕ) (told : Option Told) → ports_of folder root ≡ Ok ports
-    → IfSome told (λ t. items_for start ports t.files ≡ Ok items) → bytes ≡ planned_report triplet items → IfSome told (λ t. report_for triplet folder root start t.files ≡ Ok bytes)
-report_done triplet folder root start ports items bytes told is items_are bytes_are = IfSome_then told items_are (λ t h. rw (is, h, bytes_are) refl)
+pub report_done : (triplet : List ℕ) (folder : Path) (root : Manifest Condition) (places : Places) (ports : List (List ℕ)) (items : List Item) (bytes : List ℕ) (o : Option (Pages Condition))
+    → ports_of folder root ≡ Ok ports → IfSome o (λ p. items_for folder ports places p ≡ Ok items) → bytes ≡ planned_report triplet items
+    → IfSome o (λ p. report_for triplet folder root places p ≡ Ok bytes)
+report_done triplet folder root places ports items bytes o is items_are bytes_are = IfSome_then o items_are (λ p h. rw (is, h, bytes_are) refl)
 
-pub report_lacking : (triplet : List ℕ) (folder : Path) (root : Manifest Condition) (start : the.Start) (told : Option Told) → IfSome told (λ t. Fails {Y = List ℕ} {F = Refused} None (report_for triplet folder root start t.files))
-report_lacking triplet folder root start told = of_each told (λ t. tt)
+pub report_lacking : (triplet : List ℕ) (folder : Path) (root : Manifest Condition) (places : Places) (o : Option (Pages Condition))
+    → IfSome o (λ p. Fails {Y = List ℕ} {F = Refused} None (report_for triplet folder root places p))
+report_lacking triplet folder root places o = of_each o (λ p. tt)
 
 -- ---- opening, and then the rest
 
@@ -92,7 +101,10 @@ pub kept_right : (project : Project) (o : Opened) (before after : State) → Ope
 kept_right project (opened.Ready setting start) before after opens = told_after (λ f. IsOf f (opened_files start)) (opening.only_read opens) (opening.start_right opens)
 kept_right project (opened.Refused e) before after opens = of_each after.told (λ t. tt)
 
-plan_is : (request : Request) (files : Files) (given : Result Opening _) → opened_of (project_of request) files ≡ given → planned_report_of request files ≡ ((or_early given >>= λ opening. ports_of (project_of request).folder opening.setting.root >>= λ ports. items_for opening.start ports files) >>= λ items. Ok (planned_report request.triplet items))
+plan_is : (request : Request) (files : Files) (given : Result Opening _) → opened_of (project_of request) files ≡ given → planned_report_of request files
+    ≡ ((or_early given >>= λ opening. ports_of (project_of request).folder opening.setting.root >>= λ ports.
+        items_for (project_of request).folder ports (place_in opening.start files) (page_of opening.start files))
+        >>= λ items. Ok (planned_report request.triplet items))
 unfolding plan_of
 plan_is request files given e = rw e refl
 
@@ -110,6 +122,15 @@ plan_opened {view = view} {report = report} request o a b c opens planned = reco
   content = of_both a.told opens.content (told_before (λ f. Gives view refused_of report (report_after request.triplet (project_of request).folder o f)) (opening.only_read opens) planned.content)
       (λ t tells gives. subst (λ r. Gives view refused_of report r) (sym (opened_report request o t.files tells)) gives);
 }
+
+-- what was opened is planned on its tree
+pub plan_ready : {X : Type 0} {view : X → List ℕ} {report : Result X PlanStop} (triplet : List ℕ) (folder : Path) (o : Opened) (setting : Setting) (start : Start) (read : Kept) (a b : State)
+    → o ≡ opened.Ready setting start → IsKept read (Ok o)
+    → PlansAs view report (report_on triplet folder (manifest_view setting.root) (start_view start)) (paths_of (opened_files start)) a b
+    → PlansAs view report (report_after triplet folder o) (paths_of read) a b
+plan_ready triplet folder o setting start read a b is kept planned =
+    let same : read ≡ opened_files start = rw is at kept in
+    rw (is, same) planned
 
 -- a project that wasn't opened
 pub not_opened : {X : Type 0} (view : X → List ℕ) (request : Request) (s : OpenStop) (a b : State) → Opens (project_of request) (Err s) a b → PlansAs {X = X} view (Err (stop_opened s)) (planned_report_of request) [] a b

@@ -6,7 +6,8 @@ use Rattle.vk_app.specs.Once.{OnlyReadOnce}
 use Rattle.vk_app.specs.Requests.{Words, Request, request_of}
 use Rattle.vk_app.specs.Answers.{Shown, answer_of, told, words_line, memory_line, tree_line, output_line}
 use Rattle.vk_app.specs.declared.stops.WordsFault.{WordsFault}
-use Rattle.vk_app.specs.declared.stops.WordsFault.TheVariants as words_fault
+use Rattle.vk_base.specs.declared.stops.Unread.{Unread}
+use Rattle.vk_base.specs.declared.stops.Unread.TheVariants as unread
 use Rattle.vk_app.specs.declared.ends.End.{End}
 use Rattle.vk_app.specs.declared.ends.End.TheVariants.{Planned, Refused, Form, TreeFailed, Memory}
 
@@ -47,9 +48,9 @@ IsOfPlan Memory = Unit {0}
 IsOfPlan TreeFailed = Unit {0}
 
 -- the end of words that aren't of the form, or for which memory was wanting
-abbrev pub end_of_fault : WordsFault → End
-end_of_fault words_fault.Form = Form
-end_of_fault words_fault.Memory = Memory
+abbrev pub end_of_words : Unread WordsFault → End
+end_of_words (unread.Fault fault) = Form
+end_of_words (unread.Memory m) = Memory
 
 -- the end is the answer, unless it is a failure or want of memory
 abbrev pub EndFits : End → Shown → Type 0

@@ -1,5 +1,4 @@
 pub mod Forms
-pub mod WordFaults
 pub mod Requests
 pub mod Orders
 pub mod PlainManifests

@@ -5,6 +5,7 @@ use Rattle.vk_spec.specs.Paths.{Path}
 use Rattle.vk_spec.specs.Files.{Files}
 use Rattle.vk_spec.specs.Manifests.{Manifest}
 use Rattle.vk_spec.specs.States.{State}
+use Rattle.vk_spec.specs.Catalogues.{Pages, Places}
 use Rattle.vk_spec.specs.Conditions.{Condition}
 use Rattle.vk_opening.specs.Starts.{Start}
 use Rattle.vk_opening.specs.Views.{start_view, opened_files}
@@ -15,6 +16,8 @@ use Rattle.vk_opening.specs.declared.opens.OpenStop.TheVariants as open_stop
 use Rattle.vk_model.specs.Views.{manifest_view}
 use Rattle.vk_model.specs.EarlyViews.{early_view}
 use Rattle.vk_files.specs.Kept.{IsOf}
+use Rattle.vk_pages.specs.Pages.{page_of}
+use Rattle.vk_world.specs.VersionFolders.{place_in}
 use Rattle.vk_app.specs.Once.{OnlyReadOnce}
 use Rattle.vk_app.specs.Requests.{Request}
 use Rattle.vk_app.specs.PortPlans.{Item}
@@ -50,9 +53,15 @@ pub record PlansAs {X Y : Type 0} (view : X → Y) (answer : Result X PlanStop) 
 abbrev pub reported : List ℕ → Result (List Item) Refused → Result (List ℕ) Refused
 reported triplet read = read >>= λ items. Ok (planned_report triplet items)
 
--- the report of the plan of an opened project
-abbrev pub report_for : List ℕ → Path → Manifest Condition → Start → Files → Result (List ℕ) Refused
-report_for triplet folder root start files = reported triplet (ports_of folder root >>= λ ports. items_for start ports files)
+-- the report of the plan of an opened project, by what its catalogue tells
+abbrev pub report_for : List ℕ → Path → Manifest Condition → Places → Pages Condition → Result (List ℕ) Refused
+report_for triplet folder root places pages =
+    reported triplet (ports_of folder root >>= λ ports. items_for folder ports places pages)
+
+-- the same by the files
+abbrev pub report_on : List ℕ → Path → Manifest Condition → Start → Files → Result (List ℕ) Refused
+report_on triplet folder root start files =
+    report_for triplet folder root (place_in start files) (page_of start files)
 
 -- the report of the plan that files have, or the refusal that stands in its place
 abbrev pub planned_report_of : Request → Files → Result (List ℕ) Refused
@@ -65,7 +74,7 @@ stop_opened open_stop.Memory = plan_stop.Memory
 
 -- the report of what was opened, or the early line
 abbrev pub report_after : List ℕ → Path → Opened → Files → Result (List ℕ) Refused
-report_after triplet folder (opened.Ready setting start) files = report_for triplet folder (manifest_view setting.root) (start_view start) files
+report_after triplet folder (opened.Ready setting start) files = report_on triplet folder (manifest_view setting.root) (start_view start) files
 report_after triplet folder (opened.Refused e) files = Err (early (early_view e))
 
 -- what was kept of files is theirs

@@ -8,6 +8,7 @@ use Rattle.vk_base.specs.PathReading.{path_of}
 use Rattle.vk_spec.specs.Paths.{Path}
 use Rattle.vk_spec.specs.Fronts.{after}
 use Rattle.vk_app.specs.Forms.{Form, must, needs, formed}
+use Rattle.vk_app.specs.declared.stops.WordsFault.TheVariants as fault
 
 -- a word of the command line: its bytes, or none where it isn't UTF-8
 abbrev pub Words : Type 0
@@ -44,7 +45,7 @@ plan_request first second third = do
 -- `plan`, `--triplet=NAME`, `--overlay-triplets=DIR`: these three, and in this order
 abbrev pub reads_request : Words → Form Request
 reads_request (first ∷ second ∷ third ∷ []) = plan_request first second third
-reads_request words = Err tt
+reads_request words = Err fault.Form
 
 -- what the words ask for, where they are of the form
 abbrev pub request_of : Words → Option Request

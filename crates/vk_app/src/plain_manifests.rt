@@ -61,13 +61,13 @@ pub fn wants_nothing(manifest: &Manifest) -> bool
 /// The ports that a root lists, as they stand.
 pub fn listed_ports(
     alloc: Global,
-    dependencies: List<Dependency>,
+    dependencies: &[Dependency],
 ) -> Result<List<PortName>, AllocError>
-    ensures { IfOk result (λ names. names ≡ map (λ d. d.name) (map dependency_view dependencies)) }
+    ensures { IfOk result (λ names. names ≡ map (λ d. (dependency_view d).name) dependencies.now) }
 {
     let mut names = List::new(alloc);
-    for dependency in dependencies.into_vec() {
-        names.push(dependency.name)?;
+    for dependency in dependencies {
+        names.push(dependency.name.clone()?)?;
     }
     Ok(names)
 }

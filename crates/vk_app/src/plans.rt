@@ -1,21 +1,25 @@
 //! The plan of a project, over a tree.
 ghost use Rattle.std.specs.Prelude.{◌≡◌, [], IfOk, IfSome, Ok, Err, false, map, Result, List};
 ghost use Rattle.vk_spec.specs.Lists.{NoRepeats};
-ghost use Rattle.vk_spec.specs.Files.{Files};
+ghost use Rattle.vk_spec.specs.Paths.{Path};
 ghost use Rattle.vk_spec.specs.Reading.{Gives, Fails};
-ghost use Rattle.vk_spec.specs.Catalogues.{OnlyAsked};
-ghost use Rattle.vk_files.specs.Kept.{Kept, paths_of};
+ghost use Rattle.vk_spec.specs.Catalogues.{Places, OnlyAsked};
+ghost use Rattle.vk_files.specs.Kept.{Kept, IsOf, paths_of};
 ghost use Rattle.vk_opening.specs.Opened.{IsKept};
 ghost use Rattle.vk_opening.specs.Starts as opening;
+ghost use Rattle.vk_opening.specs.Views.{start_view, opened_files};
 ghost use Rattle.vk_model.specs.Views.{manifest_view};
-ghost use Rattle.vk_world.specs.Worlds.{world_state, origin_on, start_in, opened_in};
+ghost use Rattle.vk_world.specs.Worlds.{state_of};
 ghost use Rattle.vk_app.specs.PortPlans as plain;
+ghost use Rattle.vk_app.specs.Orders.{in_order};
 ghost use Rattle.vk_app.specs.Plans.{project_of, ports_of, refused_for, items_for, or_refused};
 ghost use Rattle.vk_app.specs.Refusals as the;
 ghost use Rattle.vk_opening.specs.Projects.{manifest_path};
 ghost use Rattle.vk_app.specs.AskReadings.{trouble_view, trouble_of, is_failed, item_view};
 ghost use Rattle.vk_app.specs.Located.{IsLocatedIn, IsLocatedAt};
-ghost use Rattle.vk_app.specs.PlanReadings.{PlansAs, refused_of, is_tree_failed, has_tree_failed, report_for, report_after, planned_report_of, stop_opened, IsKeptOf};
+ghost use Rattle.vk_app.specs.PlanReadings.{PlansAs, refused_of, is_tree_failed, has_tree_failed};
+ghost use Rattle.vk_app.specs.PlanReadings.{report_for, report_on, report_after};
+ghost use Rattle.vk_app.specs.PlanReadings.{planned_report_of, stop_opened, IsKeptOf};
 ghost use Rattle.vk_app.specs.WordViews.{request_view};
 
 use crate::items::Item;
@@ -26,10 +30,10 @@ use crate::refusals::{PlanStop, Refusal};
 use crate::reports::planned_report;
 use crate::requests::Request;
 use crate::troubles::{PortStop, Trouble};
-use std::alloc::Global;
+use std::alloc::{AllocError, Global};
 use vk_base::{List, Memory, PortName, Text, TreePath, TripletName};
 use vk_model::{Manifest, Project};
-use vk_opening::{OpenStop, Opened, manifest_path};
+use vk_opening::{OpenStop, Opened, Start, manifest_path};
 use vk_tree::Tree;
 use vk_world::World;
 
@@ -60,7 +64,8 @@ fn project_of(alloc: Global, request: &Request) -> Result<Project, Memory>
 }
 
 fn unbuilt(alloc: Global, folder: &TreePath) -> PlanStop
-    ensures told { Fails {Y = opening.Start} (refused_of result) (Err (the.unbuilt (manifest_path folder.now))) }
+    ensures told { Fails {Y = opening.Start} (refused_of result)
+        (Err (the.unbuilt (manifest_path folder.now))) }
     ensures calm { is_tree_failed result ≡ false }
 {
     match manifest_path(alloc, folder) {
@@ -70,20 +75,32 @@ fn unbuilt(alloc: Global, folder: &TreePath) -> PlanStop
 }
 
 // The ports that a root lists, each once and in byte order.
-fn ports_of(alloc: Global, folder: &TreePath, root: Manifest) -> Result<List<PortName>, PlanStop>
-    ensures told { Gives (λ l. l) refused_of result (ports_of folder.now (manifest_view root)) }
-    ensures calm { has_tree_failed result ≡ false }
+fn ports_in(alloc: Global, root: &Manifest) -> Result<List<PortName>, AllocError>
+    ensures { IfOk result (λ l. l ≡ in_order (map (λ d. d.name) (manifest_view root.now).dependencies)) }
 {
-    if !is_plain_root(&root) {
-        return Err(unbuilt(alloc, folder));
-    }
-    let ports = listed_ports(alloc, root.dependencies)?;
-    Ok(in_order(alloc, ports)?)
+    let ports = listed_ports(alloc, root.dependencies.as_slice())?;
+    in_order(alloc, ports)
 }
 
-// A port's trouble, told with its file.
+// The same, where a plan is made from the root today.
+fn ports_of(
+    alloc: Global,
+    folder: &TreePath,
+    root: &Manifest,
+) -> Result<List<PortName>, PlanStop>
+    ensures told { Gives (λ l. l) refused_of result (ports_of folder.now (manifest_view root.now)) }
+    ensures calm { has_tree_failed result ≡ false }
+{
+    if !is_plain_root(root) {
+        return Err(unbuilt(alloc, folder));
+    }
+    Ok(ports_in(alloc, root)?)
+}
+
+// A port's trouble in the project of a folder, told with its file.
 fn refused_for(alloc: Global, trouble: Trouble) -> PlanStop
-    ensures told { (start : opening.Start) (files : Files) → IsLocatedIn trouble start files → Fails {Y = opening.Start} (refused_of result) (Err (refused_for start files (trouble_view trouble))) }
+    ensures told { (folder : Path) (places : Places) → IsLocatedIn trouble places
+        → Fails {Y = opening.Start} (refused_of result) (Err (refused_for folder places (trouble_view trouble))) }
     ensures calm { is_tree_failed result ≡ false }
 {
     match trouble {
@@ -94,7 +111,9 @@ fn refused_for(alloc: Global, trouble: Trouble) -> PlanStop
 }
 
 fn told(alloc: Global, stop: PortStop) -> PlanStop
-    ensures told { (start : opening.Start) (files : Files) (read : Result (List plain.Item) plain.Trouble) → IsLocatedAt stop start files → Fails (trouble_of stop) read → Fails (refused_of result) (or_refused start files read) }
+    ensures told { (folder : Path) (places : Places) (read : Result (List plain.Item) plain.Trouble)
+        → IsLocatedAt stop places → Fails (trouble_of stop) read
+        → Fails (refused_of result) (or_refused folder places read) }
     ensures failed { is_tree_failed result ≡ is_failed stop }
 {
     match stop {
@@ -110,9 +129,11 @@ fn items_for<'a, T: Tree>(
     world: &mut World<T>,
     ports: &'a [PortName],
 ) -> Result<List<Item<'a>>, PlanStop>
-    ensures only { OnlyAsked (has_tree_failed result) (world_state (T.state world.old.0) world.old.1) (world_state (T.state world.new.0) world.new.1) }
-    ensures opened { opened_in world.new.1 ≡ opened_in world.old.1 }
-    ensures content { IfSome (T.state world.old.0).told (λ t. Gives (λ l. map item_view l) refused_of result (items_for (start_in world.old.1) ports.now t.files)) }
+    ensures only { OnlyAsked (has_tree_failed result)
+        (state_of T.state world.old) (state_of T.state world.new) }
+    ensures content { (folder : Path) → IfSome (state_of T.state world.old).pages (λ pages.
+        Gives (λ l. map item_view l) refused_of result
+        (items_for folder ports.now (state_of T.state world.old).origin.places pages)) }
 {
     match items(alloc, world, ports) {
         Ok(items) => Ok(items),
@@ -125,31 +146,37 @@ fn report_of<T: Tree>(
     alloc: Global,
     triplet: &TripletName,
     folder: &TreePath,
-    root: Manifest,
+    root: &Manifest,
     world: &mut World<T>,
 ) -> Result<Text, PlanStop>
-    ensures only { OnlyAsked (has_tree_failed result) (world_state (T.state world.old.0) world.old.1) (world_state (T.state world.new.0) world.new.1) }
-    ensures opened { opened_in world.new.1 ≡ opened_in world.old.1 }
-    ensures content { IfSome (T.state world.old.0).told (λ t. Gives (λ t. t) refused_of result (report_for triplet.now folder.now (manifest_view root) (start_in world.old.1) t.files)) }
+    ensures only { OnlyAsked (has_tree_failed result)
+        (state_of T.state world.old) (state_of T.state world.new) }
+    ensures content { IfSome (state_of T.state world.old).pages (λ pages.
+        Gives (λ t. t) refused_of result
+        (report_for triplet.now folder.now (manifest_view root.now)
+        (state_of T.state world.old).origin.places pages)) }
 {
     let ports = ports_of(alloc, folder, root)?;
     let items = items_for(alloc, world, ports.as_slice())?;
     Ok(planned_report(alloc, triplet, items.as_slice())?)
 }
 
-// The same over a world that was just made, which hands the tree back.
-fn planned_in<T: Tree>(
+// The same over the tree on which it was opened.
+fn planned_on<T: Tree>(
     alloc: Global,
     triplet: &TripletName,
     folder: &TreePath,
-    root: Manifest,
-    mut world: World<T>,
+    root: &Manifest,
+    start: Start,
+    tree: T,
 ) -> Planned<T>
-    requires { (world_state (T.state world.0) world.1).origin ≡ origin_on (T.state world.0) }
-    ensures { PlansAs (λ t. t) result.report (report_for triplet.now folder.now (manifest_view root) (start_in world.1)) (opened_in world.1) (T.state world.0) (T.state result.tree) }
+    requires { IfSome (T.state tree).told (λ t. IsOf t.files (opened_files start)) }
+    ensures { PlansAs (λ t. t) result.report
+        (report_on triplet.now folder.now (manifest_view root.now) (start_view start))
+        (paths_of (opened_files start)) (T.state tree) (T.state result.tree) }
 {
+    let mut world = World::on(alloc, start, tree);
     let report = report_of(alloc, triplet, folder, root, &mut world);
-    world.known();
     Planned {
         report,
         tree: world.into_tree(),
@@ -165,17 +192,13 @@ fn planned_from<T: Tree>(
     tree: T,
 ) -> Planned<T>
     requires { IfSome (T.state tree).told (λ t. IsKeptOf opened t.files) }
-    ensures { (read : Kept) → IsKept read (Ok opened) → NoRepeats (paths_of read) → PlansAs (λ t. t) result.report (report_after triplet.now folder.now opened) (paths_of read) (T.state tree) (T.state result.tree) }
+    ensures { (read : Kept) → IsKept read (Ok opened) → NoRepeats (paths_of read)
+        → PlansAs (λ t. t) result.report (report_after triplet.now folder.now opened)
+        (paths_of read) (T.state tree) (T.state result.tree) }
 {
     match opened {
         Opened::Ready { setting, start } => {
-            planned_in(
-                alloc,
-                triplet,
-                folder,
-                setting.root,
-                World::on(alloc, start, tree),
-            )
+            planned_on(alloc, triplet, folder, &setting.root, start, tree)
         }
         Opened::Refused(early) => Planned {
             report: Err(PlanStop::Refused(Refusal::Early(early))),
@@ -201,7 +224,8 @@ fn planned_for<T: Tree>(
     mut tree: T,
 ) -> Planned<T>
     requires { project.now ≡ project_of (request_view request.now) }
-    ensures { PlansAs (λ t. t) result.report (planned_report_of (request_view request.now)) [] (T.state tree) (T.state result.tree) }
+    ensures { PlansAs (λ t. t) result.report (planned_report_of (request_view request.now)) []
+        (T.state tree) (T.state result.tree) }
 {
     match World::open(alloc, &mut tree, project, None) {
         Ok(opened) => planned_from(alloc, &request.triplet, &project.folder, opened, tree),
@@ -215,7 +239,8 @@ fn planned_for<T: Tree>(
 /// The report of the plan that is asked for: the project is opened, and its ports are asked for in
 /// byte order, each file read once.
 pub fn plan<T: Tree>(alloc: Global, request: &Request, tree: T) -> Planned<T>
-    ensures { PlansAs (λ t. t) result.report (planned_report_of (request_view request.now)) [] (T.state tree) (T.state result.tree) }
+    ensures { PlansAs (λ t. t) result.report (planned_report_of (request_view request.now)) []
+        (T.state tree) (T.state result.tree) }
 {
     match project_of(alloc, request) {
         Ok(project) => planned_for(alloc, request, &project, tree),

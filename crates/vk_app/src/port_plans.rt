@@ -6,9 +6,10 @@ ghost use Rattle.vk_spec.specs.Catalogues.{OnPage, CanAskVersion, CanAskManifest
 ghost use Rattle.vk_version.specs.AskViews.{ask_view};
 ghost use Rattle.vk_model.specs.Views.{manifest_view};
 ghost use Rattle.vk_catalogue.specs.Views.{given_view};
-ghost use Rattle.vk_world.specs.Worlds.{world_state, known_in, start_in, opened_in};
+ghost use Rattle.vk_world.specs.Worlds.{state_of, known_in};
 ghost use Rattle.vk_app.specs.PortPlans as plain;
-ghost use Rattle.vk_app.specs.PortPlans.{given_for, version_for, manifest_for, item_with, item_at, item_of, items_of};
+ghost use Rattle.vk_app.specs.PortPlans.{given_for, version_for, manifest_for};
+ghost use Rattle.vk_app.specs.PortPlans.{item_with, item_at, item_of, items_of};
 ghost use Rattle.vk_app.specs.AskReadings.{AsksAs, item_view, trouble_of, is_failed, has_failed};
 ghost use Rattle.vk_app.specs.declared.troubles.Trouble.TheVariants as trouble;
 ghost use Rattle.vk_app.specs.Located.{IsLocated, IsLocatedStop};
@@ -18,7 +19,7 @@ use crate::plain_manifests::wants_nothing;
 use crate::troubles::{PortStop, Trouble};
 use std::alloc::{AllocError, Global};
 use std::rc::Rc;
-use vk_base::{List, PortName, TreePath};
+use vk_base::{List, Memory, PortName, TreePath};
 use vk_catalogue::{Catalogue, Given};
 use vk_model::Manifest;
 use vk_tree::Tree;
@@ -26,13 +27,16 @@ use vk_version::{Ask, Version};
 use vk_world::World;
 
 // What is given for a port.
-#[tactic(auto, using(vk_spec::proofs::AskLemmas::can_ask_version, crate::proofs::AskReadingLemmas::asks_one, crate::proofs::AskReadingLemmas::given_said_of))]
+#[tactic(auto, using(
+    vk_spec::proofs::AskLemmas::can_ask_version,
+    crate::proofs::AskReadingLemmas::asks_one,
+    crate::proofs::AskReadingLemmas::given_said_of
+))]
 fn given<T: Tree>(world: &mut World<T>, port: &PortName) -> Result<Given, PortStop>
-    ensures asks { AsksAs given_view result (given_for port.now) (world_state (T.state world.old.0) world.old.1) (world_state (T.state world.new.0) world.new.1) }
-    ensures can { OnOk result (OnPage port.now CanAskVersion (world_state (T.state world.new.0) world.new.1)) }
-    ensures start { start_in world.new.1 ≡ start_in world.old.1 }
-    ensures opened { opened_in world.new.1 ≡ opened_in world.old.1 }
-    ensures located { IsLocated result (start_in world.new.1) (T.state world.new.0) }
+    ensures asks { AsksAs given_view result (given_for port.now)
+        (state_of T.state world.old) (state_of T.state world.new) }
+    ensures can { OnOk result (OnPage port.now CanAskVersion (state_of T.state world.new)) }
+    ensures located { IsLocated result (state_of T.state world.new) }
 {
     match world.given(port)? {
         Ok(given) => Ok(given),
@@ -41,15 +45,18 @@ fn given<T: Tree>(world: &mut World<T>, port: &PortName) -> Result<Given, PortSt
 }
 
 // The version of a port that an ask means.
-#[tactic(auto, using(vk_spec::proofs::AskLemmas::can_ask_manifest, crate::proofs::AskReadingLemmas::asks_one, crate::proofs::KnownLemmas::listed_known))]
+#[tactic(auto, using(
+    vk_spec::proofs::AskLemmas::can_ask_manifest,
+    crate::proofs::AskReadingLemmas::asks_one,
+    crate::proofs::KnownLemmas::listed_known
+))]
 fn version<T: Tree>(world: &mut World<T>, port: &PortName, ask: &Ask) -> Result<Version, PortStop>
-    requires { OnPage port.now CanAskVersion (world_state (T.state world.old.0) world.old.1) }
-    ensures asks { AsksAs (λ v. v) result (version_for port.now (ask_view ask.now)) (world_state (T.state world.old.0) world.old.1) (world_state (T.state world.new.0) world.new.1) }
-    ensures can { OnOk result (OnPage port.now (CanAskManifest (ask_view ask.now)) (world_state (T.state world.new.0) world.new.1)) }
-    ensures known { IfOk result (λ v. Contains (known_in world.new.1) (port.now, v)) }
-    ensures start { start_in world.new.1 ≡ start_in world.old.1 }
-    ensures opened { opened_in world.new.1 ≡ opened_in world.old.1 }
-    ensures located { IsLocated result (start_in world.new.1) (T.state world.new.0) }
+    requires { OnPage port.now CanAskVersion (state_of T.state world.old) }
+    ensures asks { AsksAs (λ v. v) result (version_for port.now (ask_view ask.now))
+        (state_of T.state world.old) (state_of T.state world.new) }
+    ensures can { OnOk result (OnPage port.now (CanAskManifest (ask_view ask.now)) (state_of T.state world.new)) }
+    ensures known { IfOk result (λ v. Contains (known_in world.new.learned) (port.now, v)) }
+    ensures located { IsLocated result (state_of T.state world.new) }
 {
     match world.version(port, ask)? {
         Some(version) => Ok(version),
@@ -64,12 +71,11 @@ fn manifest<T: Tree>(
     port: &PortName,
     ask: &Ask,
 ) -> Result<Rc<Manifest>, PortStop>
-    requires { OnPage port.now (CanAskManifest (ask_view ask.now)) (world_state (T.state world.old.0) world.old.1) }
-    ensures asks { AsksAs (λ m. manifest_view m.value) result (manifest_for port.now (ask_view ask.now)) (world_state (T.state world.old.0) world.old.1) (world_state (T.state world.new.0) world.new.1) }
-    ensures known { known_in world.new.1 ≡ known_in world.old.1 }
-    ensures start { start_in world.new.1 ≡ start_in world.old.1 }
-    ensures opened { opened_in world.new.1 ≡ opened_in world.old.1 }
-    ensures located { IsLocated result (start_in world.new.1) (T.state world.new.0) }
+    requires { OnPage port.now (CanAskManifest (ask_view ask.now)) (state_of T.state world.old) }
+    ensures asks { AsksAs (λ m. manifest_view m.value) result (manifest_for port.now (ask_view ask.now))
+        (state_of T.state world.old) (state_of T.state world.new) }
+    ensures known { known_in world.new.learned ≡ known_in world.old.learned }
+    ensures located { IsLocated result (state_of T.state world.new) }
 {
     match world.manifest(port, ask)? {
         Ok(manifest) => Ok(manifest),
@@ -85,13 +91,13 @@ fn located(port: &PortName, version: Version, folder: &TreePath) -> Result<Troub
 
 // A port at a version that was answered wants more than is planned today.
 fn wants_more<T: Tree>(world: &World<T>, port: &PortName, version: Version) -> PortStop
-    requires { Contains (known_in world.now.1) (port.now, version) }
+    requires { Contains (known_in world.now.learned) (port.now, version) }
     ensures told { Fails {Y = plain.Item} (trouble_of result) (Err (plain.wants_more port.now version)) }
     ensures calm { is_failed result ≡ false }
-    ensures located { IsLocatedStop result (start_in world.now.1) (T.state world.now.0) }
+    ensures located { IsLocatedStop result (state_of T.state world.now) }
 {
     let Some(folder) = world.folder(port, &version) else {
-        return PortStop::Memory;
+        return PortStop::from(Memory::without_allocation());
     };
     match located(port, version, folder) {
         Ok(trouble) => PortStop::Trouble(trouble),
@@ -106,10 +112,10 @@ fn item_with<'a, T: Tree>(
     version: Version,
     manifest: &Manifest,
 ) -> Result<Item<'a>, PortStop>
-    requires { Contains (known_in world.now.1) (port.now, version) }
+    requires { Contains (known_in world.now.learned) (port.now, version) }
     ensures told { Gives item_view trouble_of result (item_with port.now version (manifest_view manifest.now)) }
     ensures calm { has_failed result ≡ false }
-    ensures located { IsLocated result (start_in world.now.1) (T.state world.now.0) }
+    ensures located { IsLocated result (state_of T.state world.now) }
 {
     if wants_nothing(manifest) {
         return Ok(Item { port, version });
@@ -123,11 +129,10 @@ fn item_at<'a, T: Tree>(
     port: &'a PortName,
     ask: &Ask,
 ) -> Result<Item<'a>, PortStop>
-    requires { OnPage port.now CanAskVersion (world_state (T.state world.old.0) world.old.1) }
-    ensures asks { AsksAs item_view result (item_at port.now (ask_view ask.now)) (world_state (T.state world.old.0) world.old.1) (world_state (T.state world.new.0) world.new.1) }
-    ensures start { start_in world.new.1 ≡ start_in world.old.1 }
-    ensures opened { opened_in world.new.1 ≡ opened_in world.old.1 }
-    ensures located { IsLocated result (start_in world.new.1) (T.state world.new.0) }
+    requires { OnPage port.now CanAskVersion (state_of T.state world.old) }
+    ensures asks { AsksAs item_view result (item_at port.now (ask_view ask.now))
+        (state_of T.state world.old) (state_of T.state world.new) }
+    ensures located { IsLocated result (state_of T.state world.new) }
 {
     let version = version(world, port, ask)?;
     let manifest = manifest(world, port, ask)?;
@@ -136,10 +141,9 @@ fn item_at<'a, T: Tree>(
 
 // The item of a port at its given version.
 fn item<'a, T: Tree>(world: &mut World<T>, port: &'a PortName) -> Result<Item<'a>, PortStop>
-    ensures asks { AsksAs item_view result (item_of port.now) (world_state (T.state world.old.0) world.old.1) (world_state (T.state world.new.0) world.new.1) }
-    ensures start { start_in world.new.1 ≡ start_in world.old.1 }
-    ensures opened { opened_in world.new.1 ≡ opened_in world.old.1 }
-    ensures located { IsLocated result (start_in world.new.1) (T.state world.new.0) }
+    ensures asks { AsksAs item_view result (item_of port.now)
+        (state_of T.state world.old) (state_of T.state world.new) }
+    ensures located { IsLocated result (state_of T.state world.new) }
 {
     let given = given(world, port)?;
     item_at(world, port, given.ask())
@@ -151,10 +155,9 @@ pub fn items<'a, T: Tree>(
     world: &mut World<T>,
     ports: &'a [PortName],
 ) -> Result<List<Item<'a>>, PortStop>
-    ensures asks { AsksAs (λ l. map item_view l) result (items_of ports.now) (world_state (T.state world.old.0) world.old.1) (world_state (T.state world.new.0) world.new.1) }
-    ensures start { start_in world.new.1 ≡ start_in world.old.1 }
-    ensures opened { opened_in world.new.1 ≡ opened_in world.old.1 }
-    ensures located { IsLocated result (start_in world.new.1) (T.state world.new.0) }
+    ensures asks { AsksAs (λ l. map item_view l) result (items_of ports.now)
+        (state_of T.state world.old) (state_of T.state world.new) }
+    ensures located { IsLocated result (state_of T.state world.new) }
 {
     let mut items = List::new(alloc);
     for (n, port) in ports.iter().enumerate() {

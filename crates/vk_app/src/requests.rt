@@ -1,25 +1,30 @@
 //! What the words ask for.
-ghost use Rattle.std.specs.Prelude.{◌≡◌, option_map};
+ghost use Rattle.std.specs.Prelude.{◌≡◌, Some, option_map};
 ghost use Rattle.vk_spec.specs.Reading.{Gives};
 ghost use Rattle.vk_base.specs.Names.{reads_name, word_rule};
-ghost use Rattle.vk_base.specs.NameFaults.{name_fault_of};
 ghost use Rattle.vk_base.specs.PathReading.{path_of};
-ghost use Rattle.vk_base.specs.PathFaults.{path_fault_of};
 ghost use Rattle.vk_app.specs.Forms.{formed};
-ghost use Rattle.vk_app.specs.WordFaults.{words_fault_of};
+ghost use Rattle.vk_app.specs.declared.stops.WordsFault.TheVariants as fault;
+ghost use Rattle.vk_base.specs.Stops.{fault_in};
 ghost use Rattle.vk_app.specs.Requests.{value_after, command_of, target_of, overlay_of, plan_request, reads_request};
 ghost use Rattle.vk_app.specs.WordViews.{word_view, words_view, request_view};
 
 use crate::fronts::after;
 use crate::stops::WordsFault;
 use std::alloc::Global;
-use vk_base::{List, NameFault, PathFault, TreePath, TripletName, Word};
+use vk_base::{List, TreePath, TripletName, Unread, Word};
 
 /// What is asked for: a plan for a triplet, whose file is in a folder of triplets.
 #[derive(Drop)]
 pub struct Request {
     pub triplet: TripletName,
     pub overlay: TreePath,
+}
+
+fn no_form() -> Unread<WordsFault>
+    ensures { fault_in result ≡ Some fault.Form }
+{
+    Unread::Fault(WordsFault::Form)
 }
 
 fn text_of(word: &Word) -> Option<&str>
@@ -32,80 +37,69 @@ fn text_of(word: &Word) -> Option<&str>
 }
 
 #[tactic(auto, unfolding(crate::specs::Requests::value_after))]
-fn value_after<'a>(option: &str, word: &'a Word) -> Result<&'a str, WordsFault>
-    ensures { Gives (λ t. t.now) words_fault_of result (value_after option.now (word_view word.now)) }
+fn value_after<'a>(option: &str, word: &'a Word) -> Result<&'a str, Unread<WordsFault>>
+    ensures { Gives (λ t. t.now) fault_in result (value_after option.now (word_view word.now)) }
 {
     let Some(text) = text_of(word) else {
-        return Err(WordsFault::Form);
+        return Err(no_form());
     };
-    after(text, option).ok_or(WordsFault::Form)
+    after(text, option).ok_or(no_form())
 }
 
 #[tactic(auto, unfolding(crate::specs::Requests::command_of))]
-fn check_command(word: &Word) -> Result<(), WordsFault>
-    ensures { Gives (λ done. tt) words_fault_of result (command_of (word_view word.now)) }
+fn check_command(word: &Word) -> Result<(), Unread<WordsFault>>
+    ensures { Gives (λ done. tt) fault_in result (command_of (word_view word.now)) }
 {
     let Some(text) = text_of(word) else {
-        return Err(WordsFault::Form);
+        return Err(no_form());
     };
     if text == "plan" {
         return Ok(());
     }
-    Err(WordsFault::Form)
+    Err(no_form())
 }
 
-fn without_place(fault: NameFault) -> WordsFault
-    ensures { words_fault_of result ≡ option_map (λ _. tt) (name_fault_of fault) }
+// Whatever the fault, the words aren't of the form.
+fn without_cause<F>(unread: Unread<F>) -> Unread<WordsFault>
+    ensures { fault_in result ≡ option_map (λ _. fault.Form) (fault_in unread) }
 {
-    match fault {
-        NameFault::Bad { at: _ } => WordsFault::Form,
-        NameFault::Reserved => WordsFault::Form,
-        NameFault::Memory => WordsFault::Memory,
+    match unread {
+        Unread::Fault(_) => no_form(),
+        Unread::Memory(memory) => Unread::Memory(memory),
     }
 }
 
 #[tactic(auto, using(crate::proofs::FormLemmas::formed_fails))]
-fn triplet_in(alloc: Global, value: &str) -> Result<TripletName, WordsFault>
-    ensures { Gives (λ n. n) words_fault_of result (formed (reads_name word_rule value.now)) }
+fn triplet_in(alloc: Global, value: &str) -> Result<TripletName, Unread<WordsFault>>
+    ensures { Gives (λ n. n) fault_in result (formed (reads_name word_rule value.now)) }
 {
     match TripletName::read(alloc, value) {
         Ok(name) => Ok(name),
-        Err(fault) => Err(without_place(fault)),
-    }
-}
-
-fn without_cause(fault: PathFault) -> WordsFault
-    ensures { words_fault_of result ≡ option_map (λ _. tt) (path_fault_of fault) }
-{
-    match fault {
-        PathFault::Empty => WordsFault::Form,
-        PathFault::TooLong => WordsFault::Form,
-        PathFault::Zero { at: _ } => WordsFault::Form,
-        PathFault::Memory => WordsFault::Memory,
+        Err(unread) => Err(without_cause(unread)),
     }
 }
 
 #[tactic(auto, using(crate::proofs::FormLemmas::formed_fails))]
-fn path_in(alloc: Global, value: &str) -> Result<TreePath, WordsFault>
-    ensures { Gives (λ p. p) words_fault_of result (formed (path_of value.now)) }
+fn path_in(alloc: Global, value: &str) -> Result<TreePath, Unread<WordsFault>>
+    ensures { Gives (λ p. p) fault_in result (formed (path_of value.now)) }
 {
     match TreePath::read(alloc, value) {
         Ok(path) => Ok(path),
-        Err(fault) => Err(without_cause(fault)),
+        Err(unread) => Err(without_cause(unread)),
     }
 }
 
 #[tactic(auto, unfolding(crate::specs::Requests::target_of))]
-fn read_target(alloc: Global, word: &Word) -> Result<TripletName, WordsFault>
-    ensures { Gives (λ n. n) words_fault_of result (target_of (word_view word.now)) }
+fn read_target(alloc: Global, word: &Word) -> Result<TripletName, Unread<WordsFault>>
+    ensures { Gives (λ n. n) fault_in result (target_of (word_view word.now)) }
 {
     let value = value_after("--triplet=", word)?;
     triplet_in(alloc, value)
 }
 
 #[tactic(auto, unfolding(crate::specs::Requests::overlay_of))]
-fn read_overlay(alloc: Global, word: &Word) -> Result<TreePath, WordsFault>
-    ensures { Gives (λ p. p) words_fault_of result (overlay_of (word_view word.now)) }
+fn read_overlay(alloc: Global, word: &Word) -> Result<TreePath, Unread<WordsFault>>
+    ensures { Gives (λ p. p) fault_in result (overlay_of (word_view word.now)) }
 {
     let value = value_after("--overlay-triplets=", word)?;
     path_in(alloc, value)
@@ -117,8 +111,8 @@ fn plan_request(
     first: &Word,
     second: &Word,
     third: &Word,
-) -> Result<Request, WordsFault>
-    ensures { Gives request_view words_fault_of result (plan_request (word_view first.now) (word_view second.now) (word_view third.now)) }
+) -> Result<Request, Unread<WordsFault>>
+    ensures { Gives request_view fault_in result (plan_request (word_view first.now) (word_view second.now) (word_view third.now)) }
 {
     check_command(first)?;
     let triplet = read_target(alloc, second)?;
@@ -128,11 +122,11 @@ fn plan_request(
 
 /// The request that the words are. `Form` exactly where they aren't `plan`, `--triplet=NAME` and
 /// `--overlay-triplets=DIR`, in this order.
-pub fn read_request(alloc: Global, words: &List<Word>) -> Result<Request, WordsFault>
-    ensures { Gives request_view words_fault_of result (reads_request (words_view words.now)) }
+pub fn read_request(alloc: Global, words: &List<Word>) -> Result<Request, Unread<WordsFault>>
+    ensures { Gives request_view fault_in result (reads_request (words_view words.now)) }
 {
     match words.as_slice() {
         [first, second, third] => plan_request(alloc, first, second, third),
-        _ => Err(WordsFault::Form),
+        _ => Err(no_form()),
     }
 }

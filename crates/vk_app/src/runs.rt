@@ -3,7 +3,7 @@ ghost use Rattle.std.specs.Prelude.{◌≡◌, ◌≤◌, ◌<◌, ◌^◌, [], 
 ghost use Rattle.vk_spec.specs.Reading.{Gives, Fails};
 ghost use Rattle.vk_app.specs.Once.{IsReadOnce, OnlyReadOnce};
 ghost use Rattle.vk_app.specs.Answers.{report_of};
-ghost use Rattle.vk_app.specs.Ends.{EndsAs, EndFits, IsOfPlan, end_failed, end_of_fault};
+ghost use Rattle.vk_app.specs.Ends.{EndsAs, EndFits, IsOfPlan, end_failed, end_of_words};
 ghost use Rattle.vk_app.specs.PortPlans.{Item};
 ghost use Rattle.vk_app.specs.Plans.{project_of, plan_of};
 ghost use Rattle.vk_app.specs.PlanReadings.{refused_of, is_tree_failed, has_tree_failed, reported};
@@ -19,7 +19,7 @@ use crate::reports::refused_report;
 use crate::requests::{Request, read_request};
 use crate::stops::WordsFault;
 use std::alloc::Global;
-use vk_base::{List, Text, Word};
+use vk_base::{List, Text, Unread, Word};
 use vk_tree::{Sink, Tree};
 
 /// How a run ended, and the tree as it stands.
@@ -85,13 +85,13 @@ fn end_of_plan<T: Tree>(alloc: Global, request: &Request, tree: T) -> Ended<T>
     }
 }
 
-fn end_of_words(fault: WordsFault) -> End
-    ensures told { result ≡ end_of_fault fault }
+fn end_of_words(unread: Unread<WordsFault>) -> End
+    ensures told { result ≡ end_of_words unread }
     ensures calm { end_failed result ≡ false }
 {
-    match fault {
-        WordsFault::Form => End::Form,
-        WordsFault::Memory => End::Memory,
+    match unread {
+        Unread::Fault(_) => End::Form,
+        Unread::Memory(_) => End::Memory,
     }
 }
 
@@ -101,8 +101,8 @@ fn end_of<T: Tree>(alloc: Global, words: &List<Word>, tree: T) -> Ended<T>
 {
     match read_request(alloc, words) {
         Ok(request) => end_of_plan(alloc, &request, tree),
-        Err(fault) => Ended {
-            end: end_of_words(fault),
+        Err(unread) => Ended {
+            end: end_of_words(unread),
             tree,
         },
     }

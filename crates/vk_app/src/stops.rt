@@ -1,20 +1,8 @@
-//! Why something isn't read.
-ghost use Rattle.std.specs.Prelude.{◌≡◌};
-ghost use Rattle.vk_app.specs.declared.stops.WordsFault.TheVariants as words_fault;
+//! What is wrong with words.
 
-use std::alloc::AllocError;
-
-/// The words are of no form.
+/// The words are no command.
 #[derive(Clone, Copy, Debug, PartialEq, Eq)]
 pub enum WordsFault {
+    /// They aren't of the form.
     Form,
-    Memory,
-}
-
-impl From<AllocError> for WordsFault {
-    ghost from_gives = { λ _ e. e ≡ words_fault.Memory };
-
-    fn from(_: AllocError) -> Self {
-        WordsFault::Memory
-    }
 }

@@ -7,8 +7,8 @@ use Rattle.vk_spec.specs.Versions as versions
 use Rattle.vk_spec.specs.Pages.{Given, overlay, override, baseline}
 use Rattle.vk_catalogue.specs.Views.{given_said, given_answer, version_answer}
 use Rattle.vk_catalogue.specs.declared.stops.CatStop.{CatStop}
-use Rattle.vk_catalogue.specs.declared.wrongs.Wrong.{Wrong}
-use Rattle.vk_catalogue.specs.declared.wrongs.Given as declared
+use Rattle.vk_model.specs.declared.wrongs.Wrong.{Wrong}
+use Rattle.vk_model.specs.declared.wrongs.Given as declared
 use Rattle.vk_version.specs.declared.versions.Version.{Version}
 use Rattle.vk_files.specs.Notes.{AreRight}
 use Rattle.vk_files.proofs.NoteLemmas.{right_more}

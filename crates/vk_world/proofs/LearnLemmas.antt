@@ -1,49 +1,44 @@
 -- Learning from files: one after the other, and what follows from what reading gives.
-use Rattle.std.proofs.Common.{◌≡◌, false, refl, ap, sym, ◌∙◌}
+use Rattle.std.proofs.Common.{◌≡◌, false, refl, sym}
 use Rattle.std.specs.Prelude.{Option, Some, None, IfSome, Result, Ok, Err, IfOk}
 use Rattle.vk_spec.specs.Files.{Files}
 use Rattle.vk_spec.specs.Reading.{Gives}
 use Rattle.vk_spec.specs.States.{Told}
 use Rattle.vk_spec.proofs.StateLemmas.{told_before}
 use Rattle.vk_catalogue.specs.Views.{or_wrong, wrong_view, cat_failed}
-use Rattle.vk_catalogue.specs.declared.wrongs.Wrong.{Wrong}
+use Rattle.vk_model.specs.declared.wrongs.Wrong.{Wrong}
 use Rattle.vk_catalogue.specs.declared.stops.CatStop.{CatStop}
 use Rattle.vk_catalogue.specs.declared.stops.CatStop.TheVariants as cat
 use Rattle.vk_spec.specs.Pages as plain
 use Rattle.vk_files.specs.Kept.{paths_of, IsOf, Held}
-use Rattle.vk_files.specs.StopViews.{refusal_in, has_tree_failed}
+use Rattle.vk_base.specs.Stops.{has_failed}
+use Rattle.vk_files.specs.StopViews.{fault_seen}
 use Rattle.vk_files.specs.Readings.{ReadsAs, ReadsNoting}
-use Rattle.vk_files.specs.declared.stops.Stop.{Stop}
-use Rattle.vk_files.specs.declared.stops.Stop.TheVariants as stop
+use Rattle.vk_base.specs.declared.memory.Memory.{Memory}
+use Rattle.vk_base.specs.declared.stops.Stop.{Stop}
+use Rattle.vk_base.specs.declared.stops.Stop.TheVariants as stop
 use Rattle.vk_files.proofs.OnceLemmas.{nothing_read, once_then}
 use Rattle.vk_files.proofs.ReadLemmas.{still_right}
 use Rattle.vk_spec.proofs.OptionLemmas.{of_each, of_both}
 use Rattle.vk_world.specs.Learning.{Learns, Means, settled}
 
--- the last step of reading, which needs no file
-pub reads_last : {X Y Z F P : Type 0} {refusal : F → P} {view : X → Y} {x : X} {meaning : Files → Result Y P} {a b : Held} (next_view : Z → Y) (z : Z) → next_view z ≡ view x → ReadsAs refusal view (Ok x) meaning a b → ReadsAs refusal next_view (Ok z) meaning a b
-reads_last {meaning = meaning} {a = a} next_view z same one = record {
-  once = one.once;
-  content = of_both a.tree.told one.content one.content (λ t is _ old. is old ∙ ap Ok (sym same));
-}
-
 -- files were read, and then memory was wanting
-pub reads_lacking : {X Y Z W F P : Type 0} {refusal : F → P} {view : X → Y} {x : X} {meaning : Files → Result Y P} {a b : Held} (next_view : Z → W) (whole : Files → Result W P)
-    → ReadsAs refusal view (Ok x) meaning a b → ReadsAs {X = Z} refusal next_view (Err stop.Memory) whole a b
+pub reads_lacking : {X Y Z W F P : Type 0} {refusal : F → P} {view : X → Y} {x : X} {meaning : Files → Result Y P} {a b : Held} {m : Memory} (next_view : Z → W) (whole : Files → Result W P)
+    → ReadsAs refusal view (Ok x) meaning a b → ReadsAs {X = Z} refusal next_view (Err (stop.Memory m)) whole a b
 reads_lacking {a = a} next_view whole one = record { once = one.once; content = of_each a.tree.told (λ t _. tt) }
 
 -- what reading gives is what is answered, also where it is refused
-settled_means : {X Y : Type 0} (view : X → Y) (answer : Result X (Stop Wrong)) (read : Result Y plain.Wrong) → Gives view (refusal_in wrong_view) answer read → IfOk (settled answer) (λ x. or_wrong view x ≡ read)
+settled_means : {X Y : Type 0} (view : X → Y) (answer : Result X (Stop Wrong)) (read : Result Y plain.Wrong) → Gives view (fault_seen wrong_view) answer read → IfOk (settled answer) (λ x. or_wrong view x ≡ read)
 settled_means view (Ok x) read gives = sym gives
-settled_means view (Err (stop.Refused wrong)) read gives = sym gives
-settled_means view (Err stop.TreeFailed) read gives = tt
-settled_means view (Err stop.Memory) read gives = tt
+settled_means view (Err (stop.Fault wrong)) read gives = sym gives
+settled_means view (Err stop.Failed) read gives = tt
+settled_means view (Err (stop.Memory m)) read gives = tt
 
-settled_fails : {X F : Type 0} (answer : Result X (Stop F)) → cat_failed (settled answer) ≡ has_tree_failed answer
+settled_fails : {X F : Type 0} (answer : Result X (Stop F)) → cat_failed (settled answer) ≡ has_failed answer
 settled_fails (Ok x) = refl
-settled_fails (Err (stop.Refused refusal)) = refl
-settled_fails (Err stop.TreeFailed) = refl
-settled_fails (Err stop.Memory) = refl
+settled_fails (Err (stop.Fault refusal)) = refl
+settled_fails (Err stop.Failed) = refl
+settled_fails (Err (stop.Memory m)) = refl
 
 pub learns_settled : {X Y : Type 0} {view : X → Y} {answer : Result X (Stop Wrong)} {meaning : Files → Result Y plain.Wrong} {Before After : Files → Type 0} {a b : Held} (result : Result (Result X Wrong) CatStop) → result ≡ settled answer
     → ReadsNoting wrong_view view answer meaning Before After a b → Learns result (Means (or_wrong view) meaning) Before After a b

@@ -7,3 +7,4 @@ pub mod RegistryLemmas
 pub mod LibraryLemmas
 pub mod WorldLemmas
 pub mod FolderLemmas
+mod KeepingLemmas

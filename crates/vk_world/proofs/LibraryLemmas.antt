@@ -9,8 +9,8 @@ use Rattle.vk_spec.specs.Versions.{Ask}
 use Rattle.vk_spec.specs.Pages.{overlay, override, baseline, version_in, manifest_in}
 use Rattle.vk_catalogue.specs.Views.{given_said, cat_failed}
 use Rattle.vk_catalogue.specs.declared.stops.CatStop.{CatStop}
-use Rattle.vk_catalogue.specs.declared.wrongs.Wrong.{Wrong}
-use Rattle.vk_catalogue.specs.declared.wrongs.Given as declared
+use Rattle.vk_model.specs.declared.wrongs.Wrong.{Wrong}
+use Rattle.vk_model.specs.declared.wrongs.Given as declared
 use Rattle.vk_model.specs.declared.manifests.Manifest.{Manifest}
 use Rattle.std.specs.declared.rc.Rc.{Rc}
 use Rattle.vk_version.specs.declared.versions.Version.{Version}
@@ -27,6 +27,7 @@ use Rattle.vk_world.specs.KnownVersions.{folders_in}
 use Rattle.vk_world.specs.HomeNotes.{FoundHome, homes_in, home_noted, IsHomeOf, AreHomes}
 use Rattle.vk_world.specs.ManifestNotes.{AreManifests}
 use Rattle.vk_world.specs.Listed.{listed_in}
+use Rattle.vk_world.specs.VersionFolders.{folder_found}
 use Rattle.vk_world.specs.Answered.{folders_given, folders_listed, given_in}
 use Rattle.vk_world.specs.ManifestAnswers.{IsManifestFor}
 use Rattle.vk_world.specs.Libraries.{start_of, IsFolderOf, IsRight, Stays, SaysGivenOf, SaysVersionOf, SaysManifestOf}
@@ -48,7 +49,7 @@ home_is start homes files port found right noted = right_found (IsHomeOf start f
 
 given_right : (start : Start) (files : Files) (port : List ℕ) (found : FoundHome) (folders : List (PortVersion × Path)) → found ≡ home_of start port files → AreRight (IsFolderOf start files) folders → AreRight (IsFolderOf start files) (folders_given port found folders)
 given_right start files port (Err wrong) folders is right = right
-given_right start files port (Ok (in_overlay folder v m)) folders is right = right_with (IsFolderOf start files) port v folder folders (record { home = in_overlay folder v m; found = sym is; stands = folder_of_own folder v m }) right
+given_right start files port (Ok (in_overlay folder v m)) folders is right = right_with (IsFolderOf start files) port v folder folders (ap (λ found. folder_found found v) (sym is) ∙ folder_of_own folder v m) right
 given_right start files port (Ok (in_registry (overlay v) registry rows)) folders is right = absurd (no_overlay start port files v registry rows (sym is))
 given_right start files port (Ok (in_registry (override ask) registry rows)) folders is right = right
 given_right start files port (Ok (in_registry (baseline ask) registry rows)) folders is right = right
@@ -83,7 +84,7 @@ listed_right : (start : Start) (files : Files) (port : List ℕ) (found : FoundH
     → AreRight (IsFolderOf start files) folders → AreRight (IsFolderOf start files) (folders_listed port listed folders)
 listed_right start files port found ask None folders is at right = right
 listed_right start files port (Err wrong) ask (Some l) folders is at right = (cc)
-listed_right start files port (Ok home) ask (Some l) folders is at right = right_with (IsFolderOf start files) port l.0 l.1 folders (record { home = home; found = sym is; stands = folder_of_listed home ask l at }) right
+listed_right start files port (Ok home) ask (Some l) folders is at right = right_with (IsFolderOf start files) port l.0 l.1 folders (ap (λ found. folder_found found l.0) (sym is) ∙ folder_of_listed home ask l at) right
 
 version_says : (start : Start) (files : Files) (port : List ℕ) (found : FoundHome) (ask : Ask) (answer : Result (Option Version) CatStop) (before after : List (PortVersion × Path)) → found ≡ home_of start port files
     → IfOk answer (λ v. v ≡ option_map (λ (l : versions.Version × Path). l.0) (listed_in found ask)) → OnOk answer (after ≡ folders_listed port (listed_in found ask) before) → OnErr answer (after ≡ before)

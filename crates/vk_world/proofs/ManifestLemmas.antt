@@ -8,7 +8,7 @@ use Rattle.vk_spec.specs.Pages.{Given}
 use Rattle.vk_registry.specs.Tables.{Row}
 use Rattle.vk_catalogue.specs.Views.{manifest_said, cat_failed}
 use Rattle.vk_catalogue.specs.declared.stops.CatStop.{CatStop}
-use Rattle.vk_catalogue.specs.declared.wrongs.Wrong.{Wrong}
+use Rattle.vk_model.specs.declared.wrongs.Wrong.{Wrong}
 use Rattle.vk_model.specs.Views.{manifest_view}
 use Rattle.vk_model.specs.declared.manifests.Manifest.{Manifest}
 use Rattle.std.specs.declared.rc.Rc.{Rc}

@@ -22,7 +22,8 @@ use Rattle.vk_pages.specs.HomeViews.{layout_view}
 use Rattle.vk_pages.specs.Pages.{page_of}
 use Rattle.vk_world.specs.Learning.{Learns}
 use Rattle.vk_world.specs.Libraries.{start_of, IsRight, Stays}
-use Rattle.vk_world.specs.Worlds.{paths_in, opened_in, asked_since, log_before, origin_on, learned_view, world_state, IsSoundOn, IsSound, told_with, IsReadSince}
+use Rattle.vk_world.specs.Worlds.{paths_in, opened_in, asked_since, log_before, without_asked, places_in}
+use Rattle.vk_world.specs.Worlds.{origin_on, learned_view, world_state, IsSoundOn, IsSound, IsReadSince}
 use Rattle.vk_world.specs.declared.libraries.Library.{Library}
 
 -- ---- lists
@@ -51,7 +52,7 @@ within_more before after within stays r =
     rw (stays.opened) (omega (arith, within, ap length (paths_more before after r), length-append (paths_in (learned_view before)) (paths_of r.more)))
 
 -- what opening had looked at stays
-pub opened_stays : {failed : Bool} {before after : Library} {s s' : State} → before.opened ≤ length (paths_in (learned_view before)) → Stays before after → ReadOnce failed (held before.files s) (held after.files s') → opened_in (learned_view after) ≡ opened_in (learned_view before)
+opened_stays : {failed : Bool} {before after : Library} {s s' : State} → before.opened ≤ length (paths_in (learned_view before)) → Stays before after → ReadOnce failed (held before.files s) (held after.files s') → opened_in (learned_view after) ≡ opened_in (learned_view before)
 opened_stays {before = before} {after = after} within stays r =
     ap (λ n. take n (paths_in (learned_view after))) stays.opened ∙ ap (take before.opened) (paths_more before after r) ∙ take-append-le before.opened (paths_in (learned_view before)) (paths_of r.more) within
 
@@ -85,21 +86,29 @@ still_sound {answer = answer} {Says = Says} before after {s = s} {s' = s'} sound
 
 -- ---- it only asked
 
-files_stay : (asked : List Path) (o : Option Told) → option_map (λ t. t.files) (with_asked asked o) ≡ option_map (λ t. t.files) o
-files_stay asked None = refl
-files_stay asked (Some t) = refl
-
 pages_stay : (start : Start) (asked : List Path) (o : Option Told) → option_map (λ t. page_of start t.files) (with_asked asked o) ≡ option_map (λ t. page_of start t.files) o
 pages_stay start asked None = refl
 pages_stay start asked (Some t) = refl
 
--- the log of the origin stays
-log_stays : (before after : Library) (o p : Option Told) (more : List Path) → p ≡ with_asked more o → IfSome o (IsSoundOn before) → IfSome p (IsSoundOn after) → asked_since (learned_view after) ≡ asked_since (learned_view before) ++ more
-    → option_map (λ t. log_before (asked_since (learned_view after)) t.log) p ≡ option_map (λ t. log_before (asked_since (learned_view before)) t.log) o
-log_stays before after None p more e one two since = ap (option_map (λ t. log_before (asked_since (learned_view after)) t.log)) e
-log_stays before after (Some t) p more e one two since =
-    let log : t.log ++ more ≡ one.before ++ asked_since (learned_view after) = ap (λ l. l ++ more) one.log ∙ append_assoc one.before (asked_since (learned_view before)) more ∙ ap (λ asked. one.before ++ asked) (sym since) in
-    ap (option_map (λ t. log_before (asked_since (learned_view after)) t.log)) e ∙ ap Some (before_is (t.log ++ more) one.before (asked_since (learned_view after)) log ∙ sym (before_is t.log one.before (asked_since (learned_view before)) one.log))
+places_stay : (start : Start) (asked : List Path) (o : Option Told) → places_in start (with_asked asked o) ≡ places_in start o
+places_stay start asked None = refl
+places_stay start asked (Some t) = refl
+
+-- what the tree told when the world was made stays
+told_stays : (before after : Library) (o p : Option Told) (more : List Path) → p ≡ with_asked more o
+    → IfSome o (IsSoundOn before) → IfSome p (IsSoundOn after)
+    → asked_since (learned_view after) ≡ asked_since (learned_view before) ++ more
+    → option_map (without_asked (asked_since (learned_view after))) p
+        ≡ option_map (without_asked (asked_since (learned_view before))) o
+told_stays before after None p more e one two since = ap (option_map (without_asked (asked_since (learned_view after)))) e
+told_stays before after (Some t) p more e one two since =
+    let was = asked_since (learned_view before) in
+    let now = asked_since (learned_view after) in
+    let log : t.log ++ more ≡ one.before ++ now =
+        ap (λ l. l ++ more) one.log ∙ append_assoc one.before was more ∙ ap (λ asked. one.before ++ asked) (sym since) in
+    let same : log_before now (t.log ++ more) ≡ log_before was t.log =
+        before_is (t.log ++ more) one.before now log ∙ sym (before_is t.log one.before was one.log) in
+    ap (option_map (without_asked now)) e ∙ (λ i. Some (record { files = t.files; log = same i }))
 
 same_failed : {X A : Type 0} (view : X → A) (answer : Result X CatStop) → is_failed (seen_by view answer) ≡ cat_failed answer
 same_failed view (Ok x) = refl
@@ -114,9 +123,11 @@ only_asked before after {s = s} {s' = s'} sound stays l =
     record {
       pages = ap (λ start. option_map (λ t. page_of start t.files) s'.told) (start_stays before after stays) ∙ ap (option_map (λ t. page_of (start_of before) t.files)) looks.told ∙ pages_stay (start_of before) (paths_of l.once.more) s.told;
       origin = λ i. record {
-        files = (ap (option_map (λ t. t.files)) looks.told ∙ files_stay (paths_of l.once.more) s.told) i;
-        log = log_stays before after s.told s'.told (paths_of l.once.more) looks.told sound.told later.told since i;
+        told = told_stays before after s.told s'.told (paths_of l.once.more) looks.told sound.told later.told since i;
         changes = looks.changes i;
+        opened = opened_stays sound.opened stays l.once i;
+        places = (ap (λ start. places_in start s'.told) (start_stays before after stays)
+            ∙ ap (places_in (start_of before)) looks.told ∙ places_stay (start_of before) (paths_of l.once.more) s.told) i;
       };
       calls = looks.calls;
       faults = looks.ends.faults;
@@ -156,7 +167,7 @@ on_page port P lib s t is holds = subst (λ (o : Option Told). IfSome (option_ma
 nothing_since : (lib : Library) → lib.opened ≡ length (kept_of lib.files) → asked_since (learned_view lib) ≡ []
 nothing_since lib opened = drop_of_length-le (paths_in (learned_view lib)) (rw (opened, length_paths (kept_of lib.files)) (omega arith))
 
-pub opened_at_start : (lib : Library) (kept : Kept) → lib.opened ≡ length kept → kept_of lib.files ≡ kept → opened_in (learned_view lib) ≡ paths_of kept
+opened_at_start : (lib : Library) (kept : Kept) → lib.opened ≡ length kept → kept_of lib.files ≡ kept → opened_in (learned_view lib) ≡ paths_of kept
 opened_at_start lib kept opened is =
     ap (λ n. take n (paths_in (learned_view lib))) (opened ∙ sym (length_paths kept)) ∙ ap (λ k. take (length (paths_of kept)) (paths_of k)) is ∙ take-length (paths_of kept)
 
@@ -168,24 +179,42 @@ sound_on_start lib s opened files right = record { opened = rw (opened, length_p
     by (Some t) of = record { files = of; right = right t.files; before = t.log; log = sym (append-nil t.log) ∙ ap (λ asked. t.log ++ asked) (sym (nothing_since lib opened)) }
 
 -- what the origin told, and what was looked at since, is what the tree tells
-told_since : (lib : Library) (o : Option Told) → IfSome o (IsSoundOn lib) → o ≡ with_asked (asked_since (learned_view lib)) (told_with (option_map (λ t. t.files) o) (option_map (λ t. log_before (asked_since (learned_view lib)) t.log) o))
+told_since : (lib : Library) (o : Option Told) → IfSome o (IsSoundOn lib)
+    → o ≡ with_asked (asked_since (learned_view lib)) (option_map (without_asked (asked_since (learned_view lib))) o)
 told_since lib None sound = refl
 told_since lib (Some t) sound =
     let asked = asked_since (learned_view lib) in
     let before = before_is t.log sound.before asked sound.log in
     ap (λ log. Some (record { files = t.files; log = log })) (sound.log ∙ ap (λ l. l ++ asked) (sym before))
 
-pub read_since : (lib : Library) (s : State) → IsSound s lib → IsReadSince (world_state s (learned_view lib)).origin (asked_since (learned_view lib)) s
-read_since lib s sound = record { told = told_since lib s.told sound.told; changes = refl }
+-- what opening looked at, and what was looked at since, is all that was
+once_in_all : (lib : Library) → NoRepeats (paths_in (learned_view lib)) → NoRepeats (opened_in (learned_view lib) ++ asked_since (learned_view lib))
+once_in_all lib distinct = subst NoRepeats (sym (take-append-drop lib.opened (paths_in (learned_view lib)))) distinct
+
+pub read_since : (lib : Library) (s : State) → IsSound s lib → NoRepeats (paths_in (learned_view lib))
+    → IsReadSince (world_state s (learned_view lib)).origin s
+read_since lib s sound distinct = record {
+  asked = asked_since (learned_view lib);
+  told = told_since lib s.told sound.told;
+  changes = refl;
+  distinct = once_in_all lib distinct;
+}
 
 -- as a world begins, its origin is what the tree tells
-origin_log : (lib : Library) (o : Option Told) → asked_since (learned_view lib) ≡ [] → option_map (λ t. log_before (asked_since (learned_view lib)) t.log) o ≡ option_map (λ t. t.log) o
-origin_log lib None nothing = refl
-origin_log lib (Some t) nothing = ap Some (before_is t.log t.log (asked_since (learned_view lib)) (sym (append-nil t.log) ∙ ap (λ asked. t.log ++ asked) (sym nothing)))
+told_at_start : (lib : Library) (o : Option Told) → asked_since (learned_view lib) ≡ []
+    → option_map (without_asked (asked_since (learned_view lib))) o ≡ o
+told_at_start lib None nothing = refl
+told_at_start lib (Some t) nothing =
+    let log = before_is t.log t.log (asked_since (learned_view lib))
+        (sym (append-nil t.log) ∙ ap (λ asked. t.log ++ asked) (sym nothing)) in
+    λ i. Some (record { files = t.files; log = log i })
 
-pub origin_is : (lib : Library) (s : State) → lib.opened ≡ length (kept_of lib.files) → (world_state s (learned_view lib)).origin ≡ origin_on s
-origin_is lib s opened = λ i. record { files = option_map (λ t. t.files) s.told; log = origin_log lib s.told (nothing_since lib opened) i; changes = s.changes }
-
--- what opening looked at, and what was looked at since, is all that was
-pub once_in_all : (lib : Library) → NoRepeats (paths_in (learned_view lib)) → NoRepeats (opened_in (learned_view lib) ++ asked_since (learned_view lib))
-once_in_all lib distinct = subst NoRepeats (sym (take-append-drop lib.opened (paths_in (learned_view lib)))) distinct
+pub origin_is : (lib : Library) (start : Start) (kept : Kept) (s : State) → lib.opened ≡ length kept
+    → kept_of lib.files ≡ kept → start_of lib ≡ start
+    → (world_state s (learned_view lib)).origin ≡ origin_on start (paths_of kept) s
+origin_is lib start kept s opened is same = λ i. record {
+  told = told_at_start lib s.told (nothing_since lib (opened ∙ ap length (sym is))) i;
+  changes = s.changes;
+  opened = opened_at_start lib kept opened is i;
+  places = places_in (same i) s.told;
+}

@@ -4,7 +4,7 @@ use Rattle.std.specs.Map.{lookup}
 use Rattle.vk_spec.specs.Files.{Files}
 use Rattle.vk_spec.specs.Pages as plain
 use Rattle.vk_catalogue.specs.Views.{or_wrong}
-use Rattle.vk_catalogue.specs.declared.wrongs.Wrong.{Wrong}
+use Rattle.vk_model.specs.declared.wrongs.Wrong.{Wrong}
 use Rattle.vk_files.specs.Notes.{AreRight}
 use Rattle.vk_opening.specs.Starts.{Start}
 use Rattle.vk_pages.specs.Homes as the

@@ -2,8 +2,8 @@
 use Rattle.std.specs.Prelude.{◌≡◌, IfSome, Result, Ok, Err, IfOk}
 use Rattle.vk_spec.specs.Files.{Files}
 use Rattle.vk_files.specs.Kept.{IsOf, Held, ReadOnce}
-use Rattle.vk_files.specs.declared.stops.Stop.{Stop}
-use Rattle.vk_files.specs.declared.stops.Stop.TheVariants as stop
+use Rattle.vk_base.specs.declared.stops.Stop.{Stop}
+use Rattle.vk_base.specs.declared.stops.Stop.TheVariants as stop
 use Rattle.vk_catalogue.specs.declared.stops.CatStop.{CatStop}
 use Rattle.vk_catalogue.specs.declared.stops.CatStop.TheVariants as cat
 use Rattle.vk_catalogue.specs.Views.{cat_failed}
@@ -23,9 +23,9 @@ Means view meaning files x = view x ≡ meaning files
 
 -- a refusal is an answer too; the tree's failure and want of memory are none
 abbrev pub unanswered : {X F : Type 0} → Stop F → Result (Result X F) CatStop
-unanswered (stop.Refused refusal) = Ok (Err refusal)
-unanswered stop.TreeFailed = Err cat.Failed
-unanswered stop.Memory = Err cat.Memory
+unanswered (stop.Fault refusal) = Ok (Err refusal)
+unanswered stop.Failed = Err cat.Failed
+unanswered (stop.Memory m) = Err cat.Memory
 
 abbrev pub settled : {X F : Type 0} → Result X (Stop F) → Result (Result X F) CatStop
 settled (Ok x) = Ok (Ok x)

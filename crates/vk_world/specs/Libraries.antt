@@ -1,23 +1,22 @@
 -- What a world keeps, and when it is right.
-use Rattle.std.specs.Prelude.{◌≡◌, ℕ, List, Some, Ok, IsSome, Result, Option}
+use Rattle.std.specs.Prelude.{◌≡◌, ℕ, List, Some, IsSome, Result, Option}
 use Rattle.vk_spec.specs.Paths.{Path}
 use Rattle.vk_spec.specs.Files.{Files}
 use Rattle.vk_spec.specs.Versions.{Version, Ask}
 use Rattle.vk_spec.specs.Pages.{version_in, manifest_in}
 use Rattle.vk_catalogue.specs.Views.{given_said, manifest_said}
-use Rattle.vk_catalogue.specs.declared.wrongs.Wrong.{Wrong}
-use Rattle.vk_catalogue.specs.declared.wrongs.Given.{Given}
+use Rattle.vk_model.specs.declared.wrongs.Wrong.{Wrong}
+use Rattle.vk_model.specs.declared.wrongs.Given.{Given}
 use Rattle.vk_model.specs.declared.manifests.Manifest.{Manifest}
 use Rattle.std.specs.declared.rc.Rc.{Rc}
 use Rattle.vk_files.specs.Notes.{AreRight}
 use Rattle.vk_opening.specs.Starts.{Start}
-use Rattle.vk_pages.specs.Homes.{Home, home_of}
 use Rattle.vk_pages.specs.HomeViews.{layout_view}
 use Rattle.vk_pages.specs.Pages.{page_of}
 use Rattle.vk_world.specs.KnownVersions.{folders_in}
 use Rattle.vk_world.specs.HomeNotes.{AreHomes}
 use Rattle.vk_world.specs.ManifestNotes.{AreManifests}
-use Rattle.vk_world.specs.VersionFolders.{version_folder}
+use Rattle.vk_world.specs.VersionFolders.{place_in}
 use Rattle.vk_world.specs.declared.answered.PortVersion.{PortVersion}
 use Rattle.vk_world.specs.declared.libraries.Library.{Library}
 
@@ -25,14 +24,9 @@ use Rattle.vk_world.specs.declared.libraries.Library.{Library}
 abbrev pub start_of : Library → Start
 start_of lib = layout_view lib.layout
 
--- the port has a home, and this is where the version stands
-pub record StandsAt (start : Start) (port : List ℕ) (v : Version) (folder : Path) (files : Files) : Type 0 where
-  pub home : Home
-  pub found : home_of start port files ≡ Ok home
-  pub stands : version_folder home v ≡ Some folder
-
+-- a version of a port stands there
 abbrev pub IsFolderOf : Start → Files → PortVersion → Path → Type 0
-IsFolderOf start files pair folder = StandsAt start pair.port pair.version folder files
+IsFolderOf start files pair folder = place_in start files pair.port pair.version ≡ Some folder
 
 -- all that is kept is right of files
 pub record IsRight (lib : Library) (files : Files) : Type 0 where

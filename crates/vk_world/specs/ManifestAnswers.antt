@@ -6,7 +6,7 @@ use Rattle.vk_spec.specs.Versions.{Ask}
 use Rattle.vk_spec.specs.Pages.{manifest_in}
 use Rattle.vk_registry.specs.Tables.{Row}
 use Rattle.vk_catalogue.specs.Views.{manifest_said}
-use Rattle.vk_catalogue.specs.declared.wrongs.Wrong.{Wrong}
+use Rattle.vk_model.specs.declared.wrongs.Wrong.{Wrong}
 use Rattle.vk_model.specs.declared.manifests.Manifest.{Manifest}
 use Rattle.std.specs.declared.rc.Rc.{Rc}
 use Rattle.vk_pages.specs.Pages.{row_manifest, page_at}

@@ -1,10 +1,11 @@
 -- What is known of a world over a tree of files.
-use Rattle.std.specs.Prelude.{◌≡◌, ◌≤◌, ◌++◌, ◌-◌, ℕ, List, length, take, drop, Option, Some, None, option_map, IfSome}
+use Rattle.std.specs.Prelude.{◌≡◌, ◌≤◌, ◌++◌, ◌-◌, ℕ, List, length, take, drop}
+use Rattle.std.specs.Prelude.{Option, Some, None, option_map, IfSome}
+use Rattle.vk_spec.specs.Lists.{NoRepeats}
 use Rattle.vk_spec.specs.Paths.{Path}
-use Rattle.vk_spec.specs.Files.{Files}
 use Rattle.vk_spec.specs.States.{Told, State, with_asked}
 use Rattle.vk_spec.specs.Versions.{Version}
-use Rattle.vk_spec.specs.Catalogues.{Pages, Origin, CatalogueState}
+use Rattle.vk_spec.specs.Catalogues.{Pages, Places, Origin, CatalogueState}
 use Rattle.vk_spec.specs.Conditions.{Condition}
 use Rattle.vk_files.specs.Kept.{Kept, IsOf, paths_of}
 use Rattle.vk_files.specs.Views.{kept_of}
@@ -14,10 +15,12 @@ use Rattle.vk_pages.specs.Pages.{page_of}
 use Rattle.vk_pages.specs.declared.homes.Layout.{Layout}
 use Rattle.vk_world.specs.KnownVersions.{folders_in, pairs_of}
 use Rattle.vk_world.specs.Libraries.{IsRight}
+use Rattle.vk_world.specs.VersionFolders.{place_in}
 use Rattle.vk_world.specs.declared.answered.PortVersion.{PortVersion}
 use Rattle.vk_world.specs.declared.libraries.Library.{Library}
 
--- what contracts see of a world beside its tree: the project, the files that were read, those of the opening first, how many these were, and the folders of the versions that were answered
+-- what a world learned: the project, the files that were read, those of the opening first, how many
+-- these were, and the folders of the versions that were answered
 pub record Learned : Type 0 where
   pub layout : Layout
   pub kept : Kept
@@ -47,26 +50,55 @@ asked_since l = drop l.opened (paths_in l)
 abbrev pub log_before : List Path → List Path → List Path
 log_before asked log = take (length log - length asked) log
 
--- what a tree tells when a world is made on it
-abbrev pub origin_on : State → Origin
-origin_on tree = record { files = option_map (λ t. t.files) tree.told; log = option_map (λ t. t.log) tree.told; changes = tree.changes }
+-- what a tree told before these paths were looked at last
+abbrev pub without_asked : List Path → Told → Told
+without_asked asked t = record { files = t.files; log = log_before asked t.log }
 
--- what the tree told when the world was made on it: files and changes stay, and the log was that of now without what was looked at since
+-- where versions stand, by what a tree tells
+abbrev pub places_in : Start → Option Told → Places
+places_in start None port v = None
+places_in start (Some t) port v = place_in start t.files port v
+
+-- what a world comes from that is made on this tree with this start, when these paths were read
+abbrev pub origin_on : Start → List Path → State → Origin
+origin_on start opened tree = record {
+  told = tree.told;
+  changes = tree.changes;
+  opened = opened;
+  places = places_in start tree.told;
+}
+
+-- files, changes and places stay as they were when the world was made, and the log was that of now
+-- without what was looked at since
 abbrev pub origin_of : Learned → State → Origin
-origin_of l tree = record { files = option_map (λ t. t.files) tree.told; log = option_map (λ t. log_before (asked_since l) t.log) tree.told; changes = tree.changes }
+origin_of l tree = record {
+  told = option_map (without_asked (asked_since l)) tree.told;
+  changes = tree.changes;
+  opened = opened_in l;
+  places = places_in (start_in l) tree.told;
+}
 
 -- the pages are those of the files
-abbrev pub pages_in : Learned → Option Told → Option (Pages Condition)
-pages_in l told = option_map (λ t. page_of (start_in l) t.files) told
+abbrev pub pages_in : Start → Option Told → Option (Pages Condition)
+pages_in start told = option_map (λ t. page_of start t.files) told
 
 abbrev pub world_state : State → Learned → CatalogueState Condition
 world_state tree l = record {
-  pages = pages_in l tree.told;
+  pages = pages_in (start_in l) tree.told;
   origin = origin_of l tree;
   calls = tree.calls;
   faults = tree.faults;
   sure = tree.sure;
 }
+
+-- what contracts see of a world: its tree, and what was learned of it
+pub record WorldView (T : Type 0) : Type 0 where
+  pub tree : T
+  pub learned : Learned
+
+-- what is known of a world as a catalogue, by what is known of its tree
+abbrev pub state_of : {T : Type 0} → (T → State) → WorldView T → CatalogueState Condition
+state_of state w = world_state (state w.tree) w.learned
 
 -- the ports and versions that were answered
 abbrev pub known_in : Learned → List (List ℕ × Version)
@@ -84,13 +116,10 @@ pub record IsSound (tree : State) (lib : Library) : Type 0 where
   pub opened : lib.opened ≤ length (paths_in (learned_view lib))
   pub told : IfSome tree.told (IsSoundOn lib)
 
--- what an origin tells
-abbrev pub told_with : Option Files → Option (List Path) → Option Told
-told_with None log = None
-told_with (Some files) None = None
-told_with (Some files) (Some log) = Some (record { files = files; log = log })
-
--- since then these paths were looked at, and nothing else was done
-pub record IsReadSince (origin : Origin) (asked : List Path) (tree : State) : Type 0 where
-  pub told : tree.told ≡ with_asked asked (told_with origin.files origin.log)
+-- since then these paths were looked at, none of them twice or by opening too, and nothing else was
+-- done
+pub record IsReadSince (origin : Origin) (tree : State) : Type 0 where
+  pub asked : List Path
+  pub told : tree.told ≡ with_asked asked origin.told
   pub changes : tree.changes ≡ origin.changes
+  pub distinct : NoRepeats (origin.opened ++ asked)

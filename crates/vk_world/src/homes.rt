@@ -12,6 +12,7 @@ ghost use Rattle.vk_pages.specs.NoteViews.{notes_of};
 ghost use Rattle.vk_world.specs.Learning.{Learns, Means, SaysNothing};
 ghost use Rattle.vk_world.specs.HomeNotes.{found_home, homes_in, home_noted, AreHomes};
 
+use crate::keeping::keep;
 use crate::settling::settle;
 use indexmap::IndexMap;
 use std::alloc::Global;
@@ -62,7 +63,7 @@ impl Homes {
         ensures homes { homes_in self.new ≡ homes_in self.old ++ (port, found_home home) ∷ [] }
         ensures baselines { self.new.baselines ≡ self.old.baselines }
     {
-        let _ = self.found.insert(port, home);
+        keep(&mut self.found, port, home);
     }
 
     // Finds the home of a port for which it wasn't found yet. The room for it is taken first.

@@ -6,6 +6,7 @@
 mod answered;
 mod answering;
 mod homes;
+mod keeping;
 mod libraries;
 mod listed;
 mod manifests;

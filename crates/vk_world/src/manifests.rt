@@ -10,13 +10,14 @@ ghost use Rattle.vk_pages.specs.Wrongs.{manifest_file};
 ghost use Rattle.vk_world.specs.Learning.{Learns, SaysNothing};
 ghost use Rattle.vk_world.specs.ManifestNotes.{manifests_in, manifest_noted, AreManifests};
 
+use crate::keeping::keep;
 use crate::settling::settle;
 use indexmap::IndexMap;
 use std::alloc::Global;
 use std::rc::Rc;
-use vk_base::TreePath;
+use vk_base::{Stop, TreePath};
 use vk_catalogue::{CatStop, Wrong};
-use vk_files::{FileCache, Stop};
+use vk_files::FileCache;
 use vk_model::Manifest;
 use vk_opening::PortFile;
 use vk_pages::content;
@@ -29,7 +30,7 @@ pub struct Manifests {
 }
 
 // The port's manifest at a path, to be shared.
-#[tactic(auto, using(crate::proofs::LearnLemmas::reads_last, crate::proofs::LearnLemmas::reads_lacking))]
+#[tactic(auto, using(vk_opening::proofs::OpenLemmas::reads_last, crate::proofs::LearnLemmas::reads_lacking))]
 fn shared_manifest<T: Tree>(
     alloc: Global,
     files: &mut FileCache,
@@ -58,7 +59,7 @@ impl Manifests {
         requires new { manifest_noted path self.old ≡ None }
         ensures { manifests_in self.new ≡ manifests_in self.old ++ (path, manifest_said manifest) ∷ [] }
     {
-        let _ = self.found.insert(path, manifest);
+        keep(&mut self.found, path, manifest);
     }
 
     // Reads the manifest at a path at which none was read yet. The room for it is taken first.

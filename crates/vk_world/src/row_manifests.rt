@@ -1,10 +1,12 @@
 //! The manifest of a version, which is read where it stands.
-ghost use Rattle.std.specs.Prelude.{◌≡◌, Ok};
+ghost use Rattle.std.specs.Prelude.{◌≡◌, Ok, Err, IfOk};
 ghost use Rattle.vk_registry.specs.TableViews.{row_view};
 ghost use Rattle.vk_version.specs.AskViews.{ask_view};
+ghost use Rattle.vk_catalogue.specs.declared.stops.CatStop.TheVariants as cat;
 ghost use Rattle.vk_catalogue.specs.Views.{manifest_said};
 ghost use Rattle.vk_files.specs.Views.{held};
-ghost use Rattle.vk_pages.specs.Pages.{row_manifest};
+ghost use Rattle.vk_opening.specs.Projects.{manifest_path};
+ghost use Rattle.vk_pages.specs.Pages.{row_folder, row_manifest};
 ghost use Rattle.vk_pages.specs.HomeViews.{home_view};
 ghost use Rattle.vk_world.specs.Learning.{Learns, Means};
 ghost use Rattle.vk_world.specs.HomeNotes.{found_home};
@@ -15,7 +17,7 @@ use crate::listed::{agreed, row_meant};
 use crate::manifests::Manifests;
 use std::alloc::Global;
 use std::rc::Rc;
-use vk_base::{PortName, TreePath};
+use vk_base::{Memory, PortName, TreePath};
 use vk_catalogue::{CatStop, Wrong};
 use vk_files::FileCache;
 use vk_model::Manifest;
@@ -24,6 +26,14 @@ use vk_pages::{Home, row_folder};
 use vk_registry::{Row, Table};
 use vk_tree::Tree;
 use vk_version::Ask;
+
+// Where the manifest of a row stands.
+fn row_path(alloc: Global, registry: &TreePath, row: &Row) -> Result<TreePath, Memory>
+    ensures { IfOk result (λ p. p ≡ manifest_path (row_folder registry.now (row_view row.now))) }
+{
+    let folder = row_folder(alloc, registry, row)?;
+    manifest_path(alloc, &folder)
+}
 
 // The manifest of a row, or what is wrong with it.
 fn row_manifest<T: Tree>(
@@ -37,11 +47,17 @@ fn row_manifest<T: Tree>(
 ) -> Result<Result<Rc<Manifest>, Wrong>, CatStop>
     ensures { Learns result (Means manifest_said (row_manifest port.now registry.now (row_view row.now))) (AreManifests manifests.old) (AreManifests manifests.new) (held files.old (T.state tree.old)) (held files.new (T.state tree.new)) }
 {
-    let folder = row_folder(alloc, registry, row)?;
-    let path = manifest_path(alloc, &folder)?;
+    let path = row_path(alloc, registry, row)?;
     manifests.look(alloc, files, tree, &path)?;
     let found = manifests.get(&path).unwrap();
     agreed(alloc, &path, port, &row.version, found)
+}
+
+// The answer where there is no manifest to answer, which no caller asks for.
+fn no_answer<X>() -> Result<X, CatStop>
+    ensures { result ≡ Err cat.Memory }
+{
+    Err(CatStop::from(Memory::without_allocation()))
 }
 
 // The manifest of the row that an ask means. Where no row is meant, nothing is promised.
@@ -59,7 +75,7 @@ fn table_manifest<T: Tree>(
 {
     match row_meant(table, ask) {
         Some(row) => row_manifest(alloc, files, manifests, tree, port, registry, row),
-        None => Ok(Err(Wrong::NoRegistry)),
+        None => no_answer(),
     }
 }
 
@@ -98,6 +114,6 @@ pub fn manifest_for<T: Tree>(
 {
     match found {
         Ok(home) => home_manifest(alloc, files, manifests, tree, port, home, ask),
-        Err(_) => Ok(Err(Wrong::NoRegistry)),
+        Err(_) => no_answer(),
     }
 }

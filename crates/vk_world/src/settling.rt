@@ -2,8 +2,8 @@
 ghost use Rattle.std.specs.Prelude.{◌≡◌};
 ghost use Rattle.vk_world.specs.Learning.{settled};
 
+use vk_base::Stop;
 use vk_catalogue::CatStop;
-use vk_files::Stop;
 
 /// A value or a refusal; the tree's failure and want of memory are no answer.
 pub fn settle<X, F>(answer: Result<X, Stop<F>>) -> Result<Result<X, F>, CatStop>
@@ -11,8 +11,8 @@ pub fn settle<X, F>(answer: Result<X, Stop<F>>) -> Result<Result<X, F>, CatStop>
 {
     match answer {
         Ok(value) => Ok(Ok(value)),
-        Err(Stop::Refused(refusal)) => Ok(Err(refusal)),
-        Err(Stop::TreeFailed) => Err(CatStop::Failed),
-        Err(Stop::Memory) => Err(CatStop::Memory),
+        Err(Stop::Fault(refusal)) => Ok(Err(refusal)),
+        Err(Stop::Failed) => Err(CatStop::Failed),
+        Err(Stop::Memory(memory)) => Err(CatStop::from(memory)),
     }
 }

@@ -1,16 +1,15 @@
 //! A catalogue of ports over the files of a tree.
-ghost use Rattle.std.specs.Prelude.{◌≡◌, ◌↔◌, ◌++◌, [], None, IfSome};
+ghost use Rattle.std.specs.Prelude.{◌≡◌, ◌↔◌, [], None, Some, IfSome};
 ghost use Rattle.std.specs.List.{Contains};
-ghost use Rattle.vk_spec.specs.Lists.{NoRepeats};
-ghost use Rattle.vk_spec.specs.Catalogues.{Asks, OnPage, CanAskVersion, CanAskManifest, SaysGiven, SaysVersion, SaysManifest};
+ghost use Rattle.vk_spec.specs.Catalogues.{Asks, OnPage, CanAskVersion, CanAskManifest};
+ghost use Rattle.vk_spec.specs.Catalogues.{SaysGiven, SaysVersion, SaysManifest};
 ghost use Rattle.vk_version.specs.AskViews.{ask_view};
 ghost use Rattle.vk_catalogue.specs.Views.{given_answer, version_answer, manifest_answer};
 ghost use Rattle.vk_files.specs.Kept.{IsOf, paths_of};
 ghost use Rattle.vk_opening.specs.Opened.{Opens};
 ghost use Rattle.vk_opening.specs.Views.{start_view, opened_files};
 ghost use Rattle.vk_world.specs.Answered.{pairs_given, pairs_listed};
-ghost use Rattle.vk_world.specs.Libraries.{StandsAt};
-ghost use Rattle.vk_world.specs.Worlds.{world_state, origin_on, start_in, known_in, opened_in, asked_since, IsReadSince};
+ghost use Rattle.vk_world.specs.Worlds.{state_of, origin_on, pages_in, known_in, IsReadSince};
 
 use crate::libraries::Library;
 use std::alloc::Global;
@@ -33,15 +32,15 @@ pub struct World<T: Tree> {
 }
 
 impl<T: Tree> Model for World<T> {
-    ghost use Rattle.vk_world.specs.Worlds.{Learned, learned_view, IsSound};
+    ghost use Rattle.vk_world.specs.Worlds.{WorldView, learned_view, IsSound};
     ghost use Rattle.vk_expr.specs.contracts.exprs.Expr as expr;
     ghost use Rattle.std.specs.Coded.{codes};
 
-    ghost Value = { T × Learned };
+    ghost Value = { WorldView T };
 
     ghost coded = { Prim.hlevel (codes, expr.the_row.coded) };
 
-    ghost view = { λ w. (w.tree, learned_view w.library) };
+    ghost view = { λ w. record { tree = w.tree; learned = learned_view w.library } };
 
     ghost invariant = { λ w. IsSound (T.state w.tree) w.library };
 }
@@ -64,11 +63,10 @@ impl<T: Tree> World<T> {
     /// The world of a project that was opened on a tree. Takes no memory.
     pub fn on(alloc: Global, start: Start, tree: T) -> World<T>
         requires { IfSome (T.state tree).told (λ t. IsOf t.files (opened_files start)) }
-        ensures tree { result.0 ≡ tree }
-        ensures start { start_in result.1 ≡ start_view start }
-        ensures opened { opened_in result.1 ≡ paths_of (opened_files start) }
-        ensures origin { (world_state (T.state result.0) result.1).origin ≡ origin_on (T.state tree) }
-        ensures known { known_in result.1 ≡ [] }
+        ensures tree { result.tree ≡ tree }
+        ensures pages { (state_of T.state result).pages ≡ pages_in (start_view start) (T.state tree).told }
+        ensures origin { (state_of T.state result).origin ≡ origin_on (start_view start) (paths_of (opened_files start)) (T.state tree) }
+        ensures known { known_in result.learned ≡ [] }
     {
         World {
             alloc,
@@ -77,49 +75,39 @@ impl<T: Tree> World<T> {
         }
     }
 
-    /// The tree as it stands. Takes no memory.
+    /// The tree as it stands: no path was looked at twice, by opening or since. Takes no memory.
     pub fn into_tree(self) -> T
-        ensures tree { result ≡ self.0 }
-        ensures read { IsReadSince (world_state (T.state self.0) self.1).origin (asked_since self.1) (T.state result) }
-    {
-        self.tree
-    }
-
-    /// Tells a caller what every world keeps: no path was looked at twice, by opening or since.
-    pub fn known(&self)
-        ensures { NoRepeats (opened_in self.now.1 ++ asked_since self.now.1) }
+        ensures tree { result ≡ self.tree }
+        ensures read { IsReadSince (state_of T.state self).origin (T.state result) }
     {
         self.library.files.known();
+        self.tree
     }
 
     /// The folder where a version of a port stands; `None` exactly where that version wasn't
     /// answered. Takes no memory.
     pub fn folder(&self, port: &PortName, version: &Version) -> Option<&TreePath>
-        ensures none { (result ≡ None) ↔ (Contains (known_in self.now.1) (port.now, version.now) → ⊥) }
-        ensures stands { IfSome result (λ folder. IfSome (T.state self.now.0).told (λ t. StandsAt (start_in self.now.1) port.now version.now folder.now t.files)) }
+        ensures none { (result ≡ None) ↔ (Contains (known_in self.now.learned) (port.now, version.now) → ⊥) }
+        ensures stands { IfSome result (λ folder. IfSome (state_of T.state self.now).pages (λ _. (state_of T.state self.now).origin.places port.now version.now ≡ Some folder.now)) }
     {
         self.library.known.get(port, version)
     }
 }
 
 impl<T: Tree> Catalogue for World<T> {
-    ghost state = { λ w. world_state (T.state w.0) w.1 };
+    ghost state = { state_of T.state };
 
     fn given(&mut self, port: &PortName) -> Result<Result<Given, Wrong>, CatStop>
-        ensures asks { Asks port.now SaysGiven (given_answer result) (world_state (T.state self.old.0) self.old.1) (world_state (T.state self.new.0) self.new.1) }
-        ensures start { start_in self.new.1 ≡ start_in self.old.1 }
-        ensures opened { opened_in self.new.1 ≡ opened_in self.old.1 }
-        ensures known { known_in self.new.1 ≡ pairs_given port.now (given_answer result) (known_in self.old.1) }
+        ensures asks { Asks port.now SaysGiven (given_answer result) (state_of T.state self.old) (state_of T.state self.new) }
+        ensures known { known_in self.new.learned ≡ pairs_given port.now (given_answer result) (known_in self.old.learned) }
     {
         self.library.given(self.alloc, &mut self.tree, port)
     }
 
     fn version(&mut self, port: &PortName, ask: &Ask) -> Result<Option<Version>, CatStop>
-        requires { OnPage port.now CanAskVersion (world_state (T.state self.old.0) self.old.1) }
-        ensures asks { Asks port.now (SaysVersion (ask_view ask.now)) (version_answer result) (world_state (T.state self.old.0) self.old.1) (world_state (T.state self.new.0) self.new.1) }
-        ensures start { start_in self.new.1 ≡ start_in self.old.1 }
-        ensures opened { opened_in self.new.1 ≡ opened_in self.old.1 }
-        ensures known { known_in self.new.1 ≡ pairs_listed port.now (version_answer result) (known_in self.old.1) }
+        requires { OnPage port.now CanAskVersion (state_of T.state self.old) }
+        ensures asks { Asks port.now (SaysVersion (ask_view ask.now)) (version_answer result) (state_of T.state self.old) (state_of T.state self.new) }
+        ensures known { known_in self.new.learned ≡ pairs_listed port.now (version_answer result) (known_in self.old.learned) }
     {
         self.library.version(self.alloc, &mut self.tree, port, ask)
     }
@@ -129,11 +117,9 @@ impl<T: Tree> Catalogue for World<T> {
         port: &PortName,
         ask: &Ask,
     ) -> Result<Result<Rc<Manifest>, Wrong>, CatStop>
-        requires { OnPage port.now (CanAskManifest (ask_view ask.now)) (world_state (T.state self.old.0) self.old.1) }
-        ensures asks { Asks port.now (SaysManifest (ask_view ask.now)) (manifest_answer result) (world_state (T.state self.old.0) self.old.1) (world_state (T.state self.new.0) self.new.1) }
-        ensures start { start_in self.new.1 ≡ start_in self.old.1 }
-        ensures opened { opened_in self.new.1 ≡ opened_in self.old.1 }
-        ensures known { known_in self.new.1 ≡ known_in self.old.1 }
+        requires { OnPage port.now (CanAskManifest (ask_view ask.now)) (state_of T.state self.old) }
+        ensures asks { Asks port.now (SaysManifest (ask_view ask.now)) (manifest_answer result) (state_of T.state self.old) (state_of T.state self.new) }
+        ensures known { known_in self.new.learned ≡ known_in self.old.learned }
     {
         self.library.manifest(self.alloc, &mut self.tree, port, ask)
     }

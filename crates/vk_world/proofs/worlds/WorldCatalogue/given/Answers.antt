@@ -1,7 +1,7 @@
 use Rattle.vk_spec.specs.Catalogues.{SaysGiven}
 use Rattle.vk_catalogue.specs.Views.{given_said}
 use Rattle.vk_pages.proofs.PageLaws.{is_page}
-use Rattle.vk_world.proofs.WorldLemmas.{still_sound, opened_stays, asks_learned}
+use Rattle.vk_world.proofs.WorldLemmas.{still_sound, asks_learned}
 use Rattle.vk_world.proofs.worlds.WorldCatalogue.given.Goals as goal
 
 pub invariant_of-self : goal.invariant_of-self
@@ -11,6 +11,3 @@ pub returns-clause-asks : goal.returns-clause-asks
 returns-clause-asks g c =
     rw (← c.self.view_is)
     (asks_learned c.self.inside.library c.given.new.self given_said c.args.port.now SaysGiven is_page c.self.invariant c.given.ensures.stays (λ t told x says. says) c.given.ensures.learns)
-
-pub returns-clause-opened : goal.returns-clause-opened
-returns-clause-opened g c = rw (← c.self.view_is) (opened_stays c.self.invariant.opened c.given.ensures.stays c.given.ensures.learns.once)

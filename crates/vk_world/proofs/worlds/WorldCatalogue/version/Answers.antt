@@ -1,7 +1,7 @@
 use Rattle.vk_spec.specs.Catalogues.{SaysVersion}
 use Rattle.vk_version.specs.AskViews.{ask_view}
 use Rattle.vk_pages.proofs.PageLaws.{is_page}
-use Rattle.vk_world.proofs.WorldLemmas.{still_sound, opened_stays, asks_learned}
+use Rattle.vk_world.proofs.WorldLemmas.{still_sound, asks_learned}
 use Rattle.vk_world.proofs.worlds.WorldCatalogue.version.Goals as goal
 
 pub invariant_of-self : goal.invariant_of-self
@@ -11,6 +11,3 @@ pub returns-clause-asks : goal.returns-clause-asks
 returns-clause-asks g c =
     rw (← c.self.view_is)
     (asks_learned c.self.inside.library c.version.new.self (λ v. v) c.args.port.now (SaysVersion (ask_view c.args.ask.now)) is_page c.self.invariant c.version.ensures.stays (λ t told x says. says) c.version.ensures.learns)
-
-pub returns-clause-opened : goal.returns-clause-opened
-returns-clause-opened g c = rw (← c.self.view_is) (opened_stays c.self.invariant.opened c.version.ensures.stays c.version.ensures.learns.once)
