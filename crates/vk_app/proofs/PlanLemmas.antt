@@ -56,7 +56,7 @@ items_ok folder ports items places o h = IfSome_then o h (λ p is. ap (or_refuse
 pub items_err : {failed : Bool} {before after : CatalogueState Condition} (folder : Path) (ports : List (List ℕ)) (s : PortStop) (told : PlanStop)
     → OnlyAsked failed before after → IfSome before.pages (λ p. Fails (trouble_of s) (items_of ports p)) → IsLocatedStop s after
     → ((places : Places) (read : Result (List Item) Trouble) → IsLocatedAt s places → Fails (trouble_of s) read
-        → Fails (refused_of told) (or_refused folder places read))
+    → Fails (refused_of told) (or_refused folder places read))
     → IfSome before.pages (λ p. Fails (refused_of told) (items_for folder ports before.origin.places p))
 items_err {before = before} {after = after} folder ports s told only fails located says =
     of_both before.pages fails
@@ -103,8 +103,8 @@ kept_right project (opened.Refused e) before after opens = of_each after.told (�
 
 plan_is : (request : Request) (files : Files) (given : Result Opening _) → opened_of (project_of request) files ≡ given → planned_report_of request files
     ≡ ((or_early given >>= λ opening. ports_of (project_of request).folder opening.setting.root >>= λ ports.
-        items_for (project_of request).folder ports (place_in opening.start files) (page_of opening.start files))
-        >>= λ items. Ok (planned_report request.triplet items))
+    items_for (project_of request).folder ports (place_in opening.start files) (page_of opening.start files))
+    >>= λ items. Ok (planned_report request.triplet items))
 unfolding plan_of
 plan_is request files given e = rw e refl
 

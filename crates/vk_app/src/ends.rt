@@ -60,7 +60,8 @@ impl End {
 
 /// Tells an end on both sinks, and answers the status: 5 where one of them stopped.
 pub fn tell<O: Sink, E: Sink>(end: &End, out: &mut O, err: &mut E) -> u8
-    ensures { Tells end.now result (O.state out.old) (O.state out.new) (E.state err.old) (E.state err.new) }
+    ensures { Tells end.now result (O.state out.old) (O.state out.new) (E.state err.old)
+        (E.state err.new) }
 {
     if send(out, end.bytes()).is_err() {
         let _ = send(err, b"output failed\n");

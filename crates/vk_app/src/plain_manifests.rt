@@ -3,7 +3,8 @@ ghost use Rattle.std.specs.Prelude.{◌≡◌, IfOk, map};
 ghost use Rattle.std.specs.List.{list_all};
 ghost use Rattle.vk_expr.specs.Views.{condition_of};
 ghost use Rattle.vk_model.specs.Views.{dependency_view, manifest_view};
-ghost use Rattle.vk_app.specs.PlainManifests.{is_always, is_plain, has_no_features, is_plain_root, wants_nothing};
+ghost use Rattle.vk_app.specs.PlainManifests.{is_always, is_plain, has_no_features, is_plain_root};
+ghost use Rattle.vk_app.specs.PlainManifests.{wants_nothing};
 
 use std::alloc::{AllocError, Global};
 use vk_base::{List, PortName};

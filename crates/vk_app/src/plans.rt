@@ -76,18 +76,15 @@ fn unbuilt(alloc: Global, folder: &TreePath) -> PlanStop
 
 // The ports that a root lists, each once and in byte order.
 fn ports_in(alloc: Global, root: &Manifest) -> Result<List<PortName>, AllocError>
-    ensures { IfOk result (λ l. l ≡ in_order (map (λ d. d.name) (manifest_view root.now).dependencies)) }
+    ensures { IfOk result
+        (λ l. l ≡ in_order (map (λ d. d.name) (manifest_view root.now).dependencies)) }
 {
     let ports = listed_ports(alloc, root.dependencies.as_slice())?;
     in_order(alloc, ports)
 }
 
 // The same, where a plan is made from the root today.
-fn ports_of(
-    alloc: Global,
-    folder: &TreePath,
-    root: &Manifest,
-) -> Result<List<PortName>, PlanStop>
+fn ports_of(alloc: Global, folder: &TreePath, root: &Manifest) -> Result<List<PortName>, PlanStop>
     ensures told { Gives (λ l. l) refused_of result (ports_of folder.now (manifest_view root.now)) }
     ensures calm { has_tree_failed result ≡ false }
 {

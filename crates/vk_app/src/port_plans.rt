@@ -27,11 +27,7 @@ use vk_version::{Ask, Version};
 use vk_world::World;
 
 // What is given for a port.
-#[tactic(auto, using(
-    vk_spec::proofs::AskLemmas::can_ask_version,
-    crate::proofs::AskReadingLemmas::asks_one,
-    crate::proofs::AskReadingLemmas::given_said_of
-))]
+#[tactic(auto, using(vk_spec::proofs::AskLemmas::can_ask_version, crate::proofs::AskReadingLemmas::asks_one, crate::proofs::AskReadingLemmas::given_said_of))]
 fn given<T: Tree>(world: &mut World<T>, port: &PortName) -> Result<Given, PortStop>
     ensures asks { AsksAs given_view result (given_for port.now)
         (state_of T.state world.old) (state_of T.state world.new) }
@@ -45,16 +41,13 @@ fn given<T: Tree>(world: &mut World<T>, port: &PortName) -> Result<Given, PortSt
 }
 
 // The version of a port that an ask means.
-#[tactic(auto, using(
-    vk_spec::proofs::AskLemmas::can_ask_manifest,
-    crate::proofs::AskReadingLemmas::asks_one,
-    crate::proofs::KnownLemmas::listed_known
-))]
+#[tactic(auto, using(vk_spec::proofs::AskLemmas::can_ask_manifest, crate::proofs::AskReadingLemmas::asks_one, crate::proofs::KnownLemmas::listed_known))]
 fn version<T: Tree>(world: &mut World<T>, port: &PortName, ask: &Ask) -> Result<Version, PortStop>
     requires { OnPage port.now CanAskVersion (state_of T.state world.old) }
     ensures asks { AsksAs (λ v. v) result (version_for port.now (ask_view ask.now))
         (state_of T.state world.old) (state_of T.state world.new) }
-    ensures can { OnOk result (OnPage port.now (CanAskManifest (ask_view ask.now)) (state_of T.state world.new)) }
+    ensures can { OnOk result
+        (OnPage port.now (CanAskManifest (ask_view ask.now)) (state_of T.state world.new)) }
     ensures known { IfOk result (λ v. Contains (known_in world.new.learned) (port.now, v)) }
     ensures located { IsLocated result (state_of T.state world.new) }
 {
@@ -72,7 +65,8 @@ fn manifest<T: Tree>(
     ask: &Ask,
 ) -> Result<Rc<Manifest>, PortStop>
     requires { OnPage port.now (CanAskManifest (ask_view ask.now)) (state_of T.state world.old) }
-    ensures asks { AsksAs (λ m. manifest_view m.value) result (manifest_for port.now (ask_view ask.now))
+    ensures asks { AsksAs (λ m. manifest_view m.value) result
+        (manifest_for port.now (ask_view ask.now))
         (state_of T.state world.old) (state_of T.state world.new) }
     ensures known { known_in world.new.learned ≡ known_in world.old.learned }
     ensures located { IsLocated result (state_of T.state world.new) }
@@ -92,7 +86,8 @@ fn located(port: &PortName, version: Version, folder: &TreePath) -> Result<Troub
 // A port at a version that was answered wants more than is planned today.
 fn wants_more<T: Tree>(world: &World<T>, port: &PortName, version: Version) -> PortStop
     requires { Contains (known_in world.now.learned) (port.now, version) }
-    ensures told { Fails {Y = plain.Item} (trouble_of result) (Err (plain.wants_more port.now version)) }
+    ensures told { Fails {Y = plain.Item} (trouble_of result)
+        (Err (plain.wants_more port.now version)) }
     ensures calm { is_failed result ≡ false }
     ensures located { IsLocatedStop result (state_of T.state world.now) }
 {
@@ -113,7 +108,8 @@ fn item_with<'a, T: Tree>(
     manifest: &Manifest,
 ) -> Result<Item<'a>, PortStop>
     requires { Contains (known_in world.now.learned) (port.now, version) }
-    ensures told { Gives item_view trouble_of result (item_with port.now version (manifest_view manifest.now)) }
+    ensures told { Gives item_view trouble_of result
+        (item_with port.now version (manifest_view manifest.now)) }
     ensures calm { has_failed result ≡ false }
     ensures located { IsLocated result (state_of T.state world.now) }
 {

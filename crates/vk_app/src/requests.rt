@@ -6,7 +6,8 @@ ghost use Rattle.vk_base.specs.PathReading.{path_of};
 ghost use Rattle.vk_app.specs.Forms.{formed};
 ghost use Rattle.vk_app.specs.declared.stops.WordsFault.TheVariants as fault;
 ghost use Rattle.vk_base.specs.Stops.{fault_in};
-ghost use Rattle.vk_app.specs.Requests.{value_after, command_of, target_of, overlay_of, plan_request, reads_request};
+ghost use Rattle.vk_app.specs.Requests.{value_after, command_of, target_of, overlay_of};
+ghost use Rattle.vk_app.specs.Requests.{plan_request, reads_request};
 ghost use Rattle.vk_app.specs.WordViews.{word_view, words_view, request_view};
 
 use crate::fronts::after;
@@ -112,7 +113,8 @@ fn plan_request(
     second: &Word,
     third: &Word,
 ) -> Result<Request, Unread<WordsFault>>
-    ensures { Gives request_view fault_in result (plan_request (word_view first.now) (word_view second.now) (word_view third.now)) }
+    ensures { Gives request_view fault_in result
+        (plan_request (word_view first.now) (word_view second.now) (word_view third.now)) }
 {
     check_command(first)?;
     let triplet = read_target(alloc, second)?;

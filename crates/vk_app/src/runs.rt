@@ -1,5 +1,6 @@
 //! The top call: `plan`, from the words to the status.
-ghost use Rattle.std.specs.Prelude.{◌≡◌, ◌≤◌, ◌<◌, ◌^◌, [], ℕ, List, false, Result, Err, IfSome, length};
+ghost use Rattle.std.specs.Prelude.{◌≡◌, ◌≤◌, ◌<◌, ◌^◌, [], ℕ, List, false, Result, Err, IfSome};
+ghost use Rattle.std.specs.Prelude.{length};
 ghost use Rattle.vk_spec.specs.Reading.{Gives, Fails};
 ghost use Rattle.vk_app.specs.Once.{IsReadOnce, OnlyReadOnce};
 ghost use Rattle.vk_app.specs.Answers.{report_of};
@@ -9,7 +10,8 @@ ghost use Rattle.vk_app.specs.Plans.{project_of, plan_of};
 ghost use Rattle.vk_app.specs.PlanReadings.{refused_of, is_tree_failed, has_tree_failed, reported};
 ghost use Rattle.vk_app.specs.Refusals.{Refused};
 ghost use Rattle.vk_app.specs.RefusalViews.{refusal_view};
-ghost use Rattle.vk_app.specs.Runs.{Answers, Completes, HasCauses, TellsLine, KeepsOut, JudgesWords};
+ghost use Rattle.vk_app.specs.Runs.{Answers, Completes, HasCauses, TellsLine, KeepsOut};
+ghost use Rattle.vk_app.specs.Runs.{JudgesWords};
 ghost use Rattle.vk_app.specs.WordViews.{words_view, request_view};
 
 use crate::ends::{End, tell};
@@ -40,7 +42,8 @@ struct Ended<T> {
 }
 
 fn refused(alloc: Global, refusal: &Refusal) -> End
-    ensures fits { (triplet : List ℕ) → EndFits result (report_of triplet (Err (refusal_view refusal.now))) }
+    ensures fits { (triplet : List ℕ) → EndFits result
+        (report_of triplet (Err (refusal_view refusal.now))) }
     ensures calm { end_failed result ≡ false }
     ensures plan { IsOfPlan result }
 {
@@ -51,7 +54,8 @@ fn refused(alloc: Global, refusal: &Refusal) -> End
 }
 
 fn end_of_stop(alloc: Global, stop: PlanStop) -> End
-    ensures fits { (triplet : List ℕ) (read : Result (List Item) Refused) → Fails (refused_of stop) read → EndFits result (report_of triplet read) }
+    ensures fits { (triplet : List ℕ) (read : Result (List Item) Refused) → Fails (refused_of stop)
+        read → EndFits result (report_of triplet read) }
     ensures failed { end_failed result ≡ is_tree_failed stop }
     ensures plan { IsOfPlan result }
 {
@@ -63,7 +67,8 @@ fn end_of_stop(alloc: Global, stop: PlanStop) -> End
 }
 
 fn end_of_report(alloc: Global, report: Result<Text, PlanStop>) -> End
-    ensures fits { (triplet : List ℕ) (read : Result (List Item) Refused) → Gives (λ t. t) refused_of report (reported triplet read) → EndFits result (report_of triplet read) }
+    ensures fits { (triplet : List ℕ) (read : Result (List Item) Refused) → Gives (λ t. t)
+        refused_of report (reported triplet read) → EndFits result (report_of triplet read) }
     ensures failed { end_failed result ≡ has_tree_failed report }
     ensures plan { IsOfPlan result }
 {
@@ -75,7 +80,9 @@ fn end_of_report(alloc: Global, report: Result<Text, PlanStop>) -> End
 
 fn end_of_plan<T: Tree>(alloc: Global, request: &Request, tree: T) -> Ended<T>
     ensures only { OnlyReadOnce [] (end_failed result.end) (T.state tree) (T.state result.tree) }
-    ensures content { IfSome (T.state tree).told (λ t. EndFits result.end (report_of request.now.triplet (plan_of (project_of (request_view request.now)) t.files))) }
+    ensures content { IfSome (T.state tree).told
+        (λ t. EndFits result.end
+        (report_of request.now.triplet (plan_of (project_of (request_view request.now)) t.files))) }
     ensures plan { IsOfPlan result.end }
 {
     let Planned { report, tree } = plan(alloc, request, tree);

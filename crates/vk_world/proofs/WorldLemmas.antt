@@ -99,15 +99,15 @@ told_stays : (before after : Library) (o p : Option Told) (more : List Path) →
     → IfSome o (IsSoundOn before) → IfSome p (IsSoundOn after)
     → asked_since (learned_view after) ≡ asked_since (learned_view before) ++ more
     → option_map (without_asked (asked_since (learned_view after))) p
-        ≡ option_map (without_asked (asked_since (learned_view before))) o
+    ≡ option_map (without_asked (asked_since (learned_view before))) o
 told_stays before after None p more e one two since = ap (option_map (without_asked (asked_since (learned_view after)))) e
 told_stays before after (Some t) p more e one two since =
     let was = asked_since (learned_view before) in
     let now = asked_since (learned_view after) in
     let log : t.log ++ more ≡ one.before ++ now =
-        ap (λ l. l ++ more) one.log ∙ append_assoc one.before was more ∙ ap (λ asked. one.before ++ asked) (sym since) in
+    ap (λ l. l ++ more) one.log ∙ append_assoc one.before was more ∙ ap (λ asked. one.before ++ asked) (sym since) in
     let same : log_before now (t.log ++ more) ≡ log_before was t.log =
-        before_is (t.log ++ more) one.before now log ∙ sym (before_is t.log one.before was one.log) in
+    before_is (t.log ++ more) one.before now log ∙ sym (before_is t.log one.before was one.log) in
     ap (option_map (without_asked now)) e ∙ (λ i. Some (record { files = t.files; log = same i }))
 
 same_failed : {X A : Type 0} (view : X → A) (answer : Result X CatStop) → is_failed (seen_by view answer) ≡ cat_failed answer
@@ -206,7 +206,7 @@ told_at_start : (lib : Library) (o : Option Told) → asked_since (learned_view 
 told_at_start lib None nothing = refl
 told_at_start lib (Some t) nothing =
     let log = before_is t.log t.log (asked_since (learned_view lib))
-        (sym (append-nil t.log) ∙ ap (λ asked. t.log ++ asked) (sym nothing)) in
+    (sym (append-nil t.log) ∙ ap (λ asked. t.log ++ asked) (sym nothing)) in
     λ i. Some (record { files = t.files; log = log i })
 
 pub origin_is : (lib : Library) (start : Start) (kept : Kept) (s : State) → lib.opened ≡ length kept

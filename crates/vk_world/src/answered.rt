@@ -3,7 +3,8 @@ ghost use Rattle.std.specs.Prelude.{◌≡◌, [], OnOk, OnErr};
 ghost use Rattle.std.specs.Cmp.{partial_equiv_from_equiv};
 ghost use Rattle.std.specs.Option.{option_copied};
 ghost use Rattle.vk_spec.specs.Versions.{same_class, same_version};
-ghost use Rattle.vk_world.specs.KnownVersions.{same_pair, pair_fed, folders_in, with_folder, folder_known};
+ghost use Rattle.vk_world.specs.KnownVersions.{same_pair, pair_fed, folders_in, with_folder};
+ghost use Rattle.vk_world.specs.KnownVersions.{folder_known};
 ghost use Rattle.vk_world.specs.PairLaws.{pair_laws, pair_hashed, pair_respected};
 
 use indexmap::{Equivalent, IndexMap};
@@ -37,7 +38,8 @@ fn same_version(one: &Version, other: &Version) -> bool
 
 // Whether a port and a version are another port and version.
 fn same_pair(one: &Pair, other: &Pair) -> bool
-    ensures { result ≡ same_pair one.now.port.now one.now.version.now other.now.port.now other.now.version.now }
+    ensures { result ≡ same_pair one.now.port.now one.now.version.now other.now.port.now
+        other.now.version.now }
 {
     *one.port == *other.port && same_version(one.version, other.version)
 }
@@ -140,7 +142,8 @@ impl KnownVersions {
         version: &Version,
         folder: TreePath,
     ) -> Result<(), Memory>
-        ensures ok { OnOk result (folders_in self.new ≡ with_folder port.now version.now folder (folders_in self.old)) }
+        ensures ok { OnOk result
+            (folders_in self.new ≡ with_folder port.now version.now folder (folders_in self.old)) }
         ensures err { OnErr result (folders_in self.new ≡ folders_in self.old) }
     {
         if self.folders.contains_key(Pair { port, version }) {

@@ -23,7 +23,9 @@ fn note_given(
     folder: &TreePath,
     given: &Given,
 ) -> Result<(), Memory>
-    ensures ok { OnOk result (folders_in known.new ≡ folders_by port.now folder.now (given_view given.now) (folders_in known.old)) }
+    ensures ok { OnOk result
+        (folders_in known.new ≡ folders_by port.now folder.now (given_view given.now)
+        (folders_in known.old)) }
     ensures err { OnErr result (folders_in known.new ≡ folders_in known.old) }
 {
     match given {
@@ -39,7 +41,9 @@ fn answer_given_at(
     home: &Home,
 ) -> Result<Given, CatStop>
     ensures told { IfOk result (λ given. given_view given ≡ given_at (home_view home.now)) }
-    ensures ok { OnOk result (folders_in known.new ≡ folders_by port.now (folder_at (home_view home.now)) (given_at (home_view home.now)) (folders_in known.old)) }
+    ensures ok { OnOk result
+        (folders_in known.new ≡ folders_by port.now (folder_at (home_view home.now))
+        (given_at (home_view home.now)) (folders_in known.old)) }
     ensures err { OnErr result (folders_in known.new ≡ folders_in known.old) }
     ensures calm { cat_failed result ≡ false }
 {
@@ -55,7 +59,9 @@ pub fn answer_given(
     found: &Result<Home, Wrong>,
 ) -> Result<Result<Given, Wrong>, CatStop>
     ensures told { IfOk result (λ given. given_said given ≡ given_in (found_home found.now)) }
-    ensures ok { OnOk result (folders_in known.new ≡ folders_given port.now (found_home found.now) (folders_in known.old)) }
+    ensures ok { OnOk result
+        (folders_in known.new ≡ folders_given port.now (found_home found.now)
+        (folders_in known.old)) }
     ensures err { OnErr result (folders_in known.new ≡ folders_in known.old) }
     ensures calm { cat_failed result ≡ false }
 {
@@ -72,8 +78,11 @@ fn answer_version_at(
     home: &Home,
     ask: &Ask,
 ) -> Result<Option<Version>, CatStop>
-    ensures told { IfOk result (λ v. v ≡ option_map (λ l. l.0) (listed_at (home_view home.now) (ask_view ask.now))) }
-    ensures ok { OnOk result (folders_in known.new ≡ folders_listed port.now (listed_at (home_view home.now) (ask_view ask.now)) (folders_in known.old)) }
+    ensures told { IfOk result
+        (λ v. v ≡ option_map (λ l. l.0) (listed_at (home_view home.now) (ask_view ask.now))) }
+    ensures ok { OnOk result
+        (folders_in known.new ≡ folders_listed port.now
+        (listed_at (home_view home.now) (ask_view ask.now)) (folders_in known.old)) }
     ensures err { OnErr result (folders_in known.new ≡ folders_in known.old) }
     ensures calm { cat_failed result ≡ false }
 {
@@ -93,8 +102,11 @@ pub fn answer_version(
     found: &Result<Home, Wrong>,
     ask: &Ask,
 ) -> Result<Option<Version>, CatStop>
-    ensures told { IfOk result (λ v. v ≡ option_map (λ l. l.0) (listed_in (found_home found.now) (ask_view ask.now))) }
-    ensures ok { OnOk result (folders_in known.new ≡ folders_listed port.now (listed_in (found_home found.now) (ask_view ask.now)) (folders_in known.old)) }
+    ensures told { IfOk result
+        (λ v. v ≡ option_map (λ l. l.0) (listed_in (found_home found.now) (ask_view ask.now))) }
+    ensures ok { OnOk result
+        (folders_in known.new ≡ folders_listed port.now
+        (listed_in (found_home found.now) (ask_view ask.now)) (folders_in known.old)) }
     ensures err { OnErr result (folders_in known.new ≡ folders_in known.old) }
     ensures calm { cat_failed result ≡ false }
 {

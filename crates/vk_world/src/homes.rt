@@ -1,5 +1,6 @@
 //! The homes of ports that were found.
-ghost use Rattle.std.specs.Prelude.{◌≡◌, ◌<◌, ◌++◌, ◌∷◌, [], ℕ, List, None, IsSome, OnOk, option_map};
+ghost use Rattle.std.specs.Prelude.{◌≡◌, ◌<◌, ◌++◌, ◌∷◌, [], ℕ, List, None, IsSome, OnOk};
+ghost use Rattle.std.specs.Prelude.{option_map};
 ghost use Rattle.std.specs.Option.{option_copied};
 ghost use Rattle.indexmap.specs.IndexMap.{spare};
 ghost use Rattle.vk_spec.specs.Files.{Files};
@@ -39,7 +40,10 @@ fn find_home<T: Tree>(
     tree: &mut T,
     port: &PortName,
 ) -> Result<Result<Home, Wrong>, CatStop>
-    ensures { Learns result (Means found_home (home_of (layout_view layout.now) port.now)) (AreBaselines (layout_view layout.now) (notes_of baselines.old)) (AreBaselines (layout_view layout.now) (notes_of baselines.new)) (held files.old (T.state tree.old)) (held files.new (T.state tree.new)) }
+    ensures { Learns result (Means found_home (home_of (layout_view layout.now) port.now))
+        (AreBaselines (layout_view layout.now) (notes_of baselines.old))
+        (AreBaselines (layout_view layout.now) (notes_of baselines.new))
+        (held files.old (T.state tree.old)) (held files.new (T.state tree.new)) }
 {
     settle(home_of(alloc, layout, files, baselines, tree, port))
 }
@@ -76,7 +80,9 @@ impl Homes {
         port: &PortName,
     ) -> Result<(), CatStop>
         requires { home_noted port.now self.old ≡ None }
-        ensures learns { Learns result SaysNothing (AreHomes (layout_view layout.now) self.old) (AreHomes (layout_view layout.now) self.new) (held files.old (T.state tree.old)) (held files.new (T.state tree.new)) }
+        ensures learns { Learns result SaysNothing (AreHomes (layout_view layout.now) self.old)
+            (AreHomes (layout_view layout.now) self.new) (held files.old (T.state tree.old))
+            (held files.new (T.state tree.new)) }
         ensures there { OnOk result (IsSome (home_noted port.now self.new)) }
     {
         let key = port.clone()?;
@@ -95,7 +101,9 @@ impl Homes {
         tree: &mut T,
         port: &PortName,
     ) -> Result<(), CatStop>
-        ensures learns { Learns result SaysNothing (AreHomes (layout_view layout.now) self.old) (AreHomes (layout_view layout.now) self.new) (held files.old (T.state tree.old)) (held files.new (T.state tree.new)) }
+        ensures learns { Learns result SaysNothing (AreHomes (layout_view layout.now) self.old)
+            (AreHomes (layout_view layout.now) self.new) (held files.old (T.state tree.old))
+            (held files.new (T.state tree.new)) }
         ensures there { OnOk result (IsSome (home_noted port.now self.new)) }
     {
         if self.found.contains_key(port) {

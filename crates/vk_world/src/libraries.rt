@@ -9,7 +9,8 @@ ghost use Rattle.vk_world.specs.Learning.{Learns, SaysNothing};
 ghost use Rattle.vk_world.specs.KnownVersions.{folders_in, pairs_of};
 ghost use Rattle.vk_world.specs.HomeNotes.{home_noted};
 ghost use Rattle.vk_world.specs.Answered.{pairs_given, pairs_listed};
-ghost use Rattle.vk_world.specs.Libraries.{start_of, IsRight, Stays, SaysGivenOf, SaysVersionOf, SaysManifestOf};
+ghost use Rattle.vk_world.specs.Libraries.{start_of, IsRight, Stays, SaysGivenOf, SaysVersionOf};
+ghost use Rattle.vk_world.specs.Libraries.{SaysManifestOf};
 
 use crate::answered::KnownVersions;
 use crate::answering::{answer_given, answer_version};
@@ -73,7 +74,8 @@ impl Library {
 
     // Looks for the home of a port.
     fn look<T: Tree>(&mut self, alloc: Global, tree: &mut T, port: &PortName) -> Result<(), CatStop>
-        ensures learns { Learns result SaysNothing (IsRight self.old) (IsRight self.new) (held self.old.files (T.state tree.old)) (held self.new.files (T.state tree.new)) }
+        ensures learns { Learns result SaysNothing (IsRight self.old) (IsRight self.new)
+            (held self.old.files (T.state tree.old)) (held self.new.files (T.state tree.new)) }
         ensures there { OnOk result (IsSome (home_noted port.now self.new.homes)) }
         ensures stays { Stays self.old self.new }
         ensures known { self.new.known ≡ self.old.known }
@@ -90,9 +92,12 @@ impl Library {
         tree: &mut T,
         port: &PortName,
     ) -> Result<Result<Given, Wrong>, CatStop>
-        ensures learns { Learns result (SaysGivenOf (start_of self.old) port.now) (IsRight self.old) (IsRight self.new) (held self.old.files (T.state tree.old)) (held self.new.files (T.state tree.new)) }
+        ensures learns { Learns result (SaysGivenOf (start_of self.old) port.now) (IsRight self.old)
+            (IsRight self.new) (held self.old.files (T.state tree.old))
+            (held self.new.files (T.state tree.new)) }
         ensures stays { Stays self.old self.new }
-        ensures known { pairs_of (folders_in self.new.known) ≡ pairs_given port.now (given_answer result) (pairs_of (folders_in self.old.known)) }
+        ensures known { pairs_of (folders_in self.new.known) ≡ pairs_given port.now
+            (given_answer result) (pairs_of (folders_in self.old.known)) }
     {
         self.look(alloc, tree, port)?;
         let found = self.homes.get(port).unwrap();
@@ -107,9 +112,13 @@ impl Library {
         port: &PortName,
         ask: &Ask,
     ) -> Result<Option<Version>, CatStop>
-        ensures learns { Learns result (SaysVersionOf (start_of self.old) port.now (ask_view ask.now)) (IsRight self.old) (IsRight self.new) (held self.old.files (T.state tree.old)) (held self.new.files (T.state tree.new)) }
+        ensures learns { Learns result
+            (SaysVersionOf (start_of self.old) port.now (ask_view ask.now)) (IsRight self.old)
+            (IsRight self.new) (held self.old.files (T.state tree.old))
+            (held self.new.files (T.state tree.new)) }
         ensures stays { Stays self.old self.new }
-        ensures known { pairs_of (folders_in self.new.known) ≡ pairs_listed port.now (version_answer result) (pairs_of (folders_in self.old.known)) }
+        ensures known { pairs_of (folders_in self.new.known) ≡ pairs_listed port.now
+            (version_answer result) (pairs_of (folders_in self.old.known)) }
     {
         self.look(alloc, tree, port)?;
         let found = self.homes.get(port).unwrap();
@@ -125,7 +134,10 @@ impl Library {
         port: &PortName,
         ask: &Ask,
     ) -> Result<Result<Rc<Manifest>, Wrong>, CatStop>
-        ensures learns { Learns result (SaysManifestOf (start_of self.old) port.now (ask_view ask.now)) (IsRight self.old) (IsRight self.new) (held self.old.files (T.state tree.old)) (held self.new.files (T.state tree.new)) }
+        ensures learns { Learns result
+            (SaysManifestOf (start_of self.old) port.now (ask_view ask.now)) (IsRight self.old)
+            (IsRight self.new) (held self.old.files (T.state tree.old))
+            (held self.new.files (T.state tree.new)) }
         ensures stays { Stays self.old self.new }
         ensures known { self.new.known ≡ self.old.known }
     {

@@ -6,7 +6,8 @@ ghost use Rattle.vk_model.specs.Views.{manifest_view};
 ghost use Rattle.vk_version.specs.AskViews.{ask_view};
 ghost use Rattle.vk_catalogue.specs.Views.{cat_failed, given_view, manifest_said};
 ghost use Rattle.vk_pages.specs.HomeViews.{home_view};
-ghost use Rattle.vk_world.specs.Listed.{agreed, folder_at, given_at, listed_at, own_listed, row_listed, row_meant, table_listed};
+ghost use Rattle.vk_world.specs.Listed.{agreed, folder_at, given_at, listed_at, own_listed};
+ghost use Rattle.vk_world.specs.Listed.{row_listed, row_meant, table_listed};
 ghost use Rattle.vk_world.specs.ListedViews.{listed_view};
 
 use crate::settling::settle;
@@ -79,7 +80,8 @@ fn listed_row(alloc: Global, registry: &TreePath, row: &Row) -> Result<Listed, C
 
 // An overlay's version, if it is what an ask means, and its folder.
 fn own_version(folder: &TreePath, version: &Version, ask: &Ask) -> Result<Option<Listed>, CatStop>
-    ensures told { IfOk result (λ o. option_map listed_view o ≡ own_listed folder.now version.now (ask_view ask.now)) }
+    ensures told { IfOk result
+        (λ o. option_map listed_view o ≡ own_listed folder.now version.now (ask_view ask.now)) }
     ensures calm { cat_failed result ≡ false }
 {
     if version.ask() != ask {
@@ -98,7 +100,8 @@ fn table_version(
     table: &Table,
     ask: &Ask,
 ) -> Result<Option<Listed>, CatStop>
-    ensures told { IfOk result (λ o. option_map listed_view o ≡ table_listed registry.now table.now (ask_view ask.now)) }
+    ensures told { IfOk result
+        (λ o. option_map listed_view o ≡ table_listed registry.now table.now (ask_view ask.now)) }
     ensures calm { cat_failed result ≡ false }
 {
     match row_meant(table, ask) {
@@ -109,7 +112,8 @@ fn table_version(
 
 /// The version that an ask means at a home, and its folder; `None` exactly where there is none.
 pub fn listed_at(alloc: Global, home: &Home, ask: &Ask) -> Result<Option<Listed>, CatStop>
-    ensures told { IfOk result (λ o. option_map listed_view o ≡ listed_at (home_view home.now) (ask_view ask.now)) }
+    ensures told { IfOk result
+        (λ o. option_map listed_view o ≡ listed_at (home_view home.now) (ask_view ask.now)) }
     ensures calm { cat_failed result ≡ false }
 {
     match home {
@@ -130,7 +134,9 @@ fn agreed_manifest(
     version: &Version,
     manifest: &Rc<Manifest>,
 ) -> Result<Result<Rc<Manifest>, Wrong>, CatStop>
-    ensures told { IfOk result (λ m. manifest_said m ≡ agreed path.now port.now version.now (Ok (manifest_view manifest.now.value))) }
+    ensures told { IfOk result
+        (λ m. manifest_said m ≡ agreed path.now port.now version.now
+        (Ok (manifest_view manifest.now.value))) }
     ensures calm { cat_failed result ≡ false }
 {
     match settle(agree(alloc, path, port, version, manifest))? {
@@ -147,7 +153,8 @@ pub fn agreed(
     version: &Version,
     found: &Result<Rc<Manifest>, Wrong>,
 ) -> Result<Result<Rc<Manifest>, Wrong>, CatStop>
-    ensures told { IfOk result (λ m. manifest_said m ≡ agreed path.now port.now version.now (manifest_said found.now)) }
+    ensures told { IfOk result
+        (λ m. manifest_said m ≡ agreed path.now port.now version.now (manifest_said found.now)) }
     ensures calm { cat_failed result ≡ false }
 {
     match found {

@@ -37,7 +37,8 @@ fn shared_manifest<T: Tree>(
     tree: &mut T,
     path: &TreePath,
 ) -> Result<Rc<Manifest>, Stop<Wrong>>
-    ensures { ReadsAs wrong_view (λ m. manifest_view m.value) result (manifest_file path.now) (held files.old (T.state tree.old)) (held files.new (T.state tree.new)) }
+    ensures { ReadsAs wrong_view (λ m. manifest_view m.value) result (manifest_file path.now)
+        (held files.old (T.state tree.old)) (held files.new (T.state tree.new)) }
 {
     let manifest = content(alloc, files, tree, path, &PortFile)?;
     Ok(Rc::new(alloc, manifest)?)
@@ -57,7 +58,8 @@ impl Manifests {
     fn keep(&mut self, path: TreePath, manifest: Result<Rc<Manifest>, Wrong>)
         requires room { 0 < spare self.old.found }
         requires new { manifest_noted path self.old ≡ None }
-        ensures { manifests_in self.new ≡ manifests_in self.old ++ (path, manifest_said manifest) ∷ [] }
+        ensures { manifests_in self.new ≡ manifests_in self.old ++ (path, manifest_said manifest) ∷
+            [] }
     {
         keep(&mut self.found, path, manifest);
     }
@@ -71,7 +73,8 @@ impl Manifests {
         path: &TreePath,
     ) -> Result<(), CatStop>
         requires { manifest_noted path.now self.old ≡ None }
-        ensures learns { Learns result SaysNothing (AreManifests self.old) (AreManifests self.new) (held files.old (T.state tree.old)) (held files.new (T.state tree.new)) }
+        ensures learns { Learns result SaysNothing (AreManifests self.old) (AreManifests self.new)
+            (held files.old (T.state tree.old)) (held files.new (T.state tree.new)) }
         ensures there { OnOk result (IsSome (manifest_noted path.now self.new)) }
     {
         let key = path.clone()?;
@@ -89,7 +92,8 @@ impl Manifests {
         tree: &mut T,
         path: &TreePath,
     ) -> Result<(), CatStop>
-        ensures learns { Learns result SaysNothing (AreManifests self.old) (AreManifests self.new) (held files.old (T.state tree.old)) (held files.new (T.state tree.new)) }
+        ensures learns { Learns result SaysNothing (AreManifests self.old) (AreManifests self.new)
+            (held files.old (T.state tree.old)) (held files.new (T.state tree.new)) }
         ensures there { OnOk result (IsSome (manifest_noted path.now self.new)) }
     {
         if self.found.contains_key(path) {
@@ -100,7 +104,8 @@ impl Manifests {
 
     /// What was found at a path; `None` exactly where none was looked for.
     pub fn get(&self, path: &TreePath) -> Option<&Result<Rc<Manifest>, Wrong>>
-        ensures { option_map manifest_said (option_copied result) ≡ manifest_noted path.now self.now }
+        ensures { option_map manifest_said (option_copied result) ≡ manifest_noted path.now
+            self.now }
     {
         self.found.get(path)
     }

@@ -45,7 +45,10 @@ fn row_manifest<T: Tree>(
     registry: &TreePath,
     row: &Row,
 ) -> Result<Result<Rc<Manifest>, Wrong>, CatStop>
-    ensures { Learns result (Means manifest_said (row_manifest port.now registry.now (row_view row.now))) (AreManifests manifests.old) (AreManifests manifests.new) (held files.old (T.state tree.old)) (held files.new (T.state tree.new)) }
+    ensures { Learns result
+        (Means manifest_said (row_manifest port.now registry.now (row_view row.now)))
+        (AreManifests manifests.old) (AreManifests manifests.new)
+        (held files.old (T.state tree.old)) (held files.new (T.state tree.new)) }
 {
     let path = row_path(alloc, registry, row)?;
     manifests.look(alloc, files, tree, &path)?;
@@ -71,7 +74,9 @@ fn table_manifest<T: Tree>(
     table: &Table,
     ask: &Ask,
 ) -> Result<Result<Rc<Manifest>, Wrong>, CatStop>
-    ensures { Learns result (IsRowManifest port.now registry.now table.now (ask_view ask.now)) (AreManifests manifests.old) (AreManifests manifests.new) (held files.old (T.state tree.old)) (held files.new (T.state tree.new)) }
+    ensures { Learns result (IsRowManifest port.now registry.now table.now (ask_view ask.now))
+        (AreManifests manifests.old) (AreManifests manifests.new)
+        (held files.old (T.state tree.old)) (held files.new (T.state tree.new)) }
 {
     match row_meant(table, ask) {
         Some(row) => row_manifest(alloc, files, manifests, tree, port, registry, row),
@@ -89,7 +94,9 @@ fn home_manifest<T: Tree>(
     home: &Home,
     ask: &Ask,
 ) -> Result<Result<Rc<Manifest>, Wrong>, CatStop>
-    ensures { Learns result (IsManifestFor port.now (Ok (home_view home.now)) (ask_view ask.now)) (AreManifests manifests.old) (AreManifests manifests.new) (held files.old (T.state tree.old)) (held files.new (T.state tree.new)) }
+    ensures { Learns result (IsManifestFor port.now (Ok (home_view home.now)) (ask_view ask.now))
+        (AreManifests manifests.old) (AreManifests manifests.new)
+        (held files.old (T.state tree.old)) (held files.new (T.state tree.new)) }
 {
     match home {
         Home::Overlay { manifest, .. } => Ok(Ok(manifest.clone()?)),
@@ -110,7 +117,9 @@ pub fn manifest_for<T: Tree>(
     found: &Result<Home, Wrong>,
     ask: &Ask,
 ) -> Result<Result<Rc<Manifest>, Wrong>, CatStop>
-    ensures { Learns result (IsManifestFor port.now (found_home found.now) (ask_view ask.now)) (AreManifests manifests.old) (AreManifests manifests.new) (held files.old (T.state tree.old)) (held files.new (T.state tree.new)) }
+    ensures { Learns result (IsManifestFor port.now (found_home found.now) (ask_view ask.now))
+        (AreManifests manifests.old) (AreManifests manifests.new)
+        (held files.old (T.state tree.old)) (held files.new (T.state tree.new)) }
 {
     match found {
         Ok(home) => home_manifest(alloc, files, manifests, tree, port, home, ask),

@@ -64,8 +64,10 @@ impl<T: Tree> World<T> {
     pub fn on(alloc: Global, start: Start, tree: T) -> World<T>
         requires { IfSome (T.state tree).told (λ t. IsOf t.files (opened_files start)) }
         ensures tree { result.tree ≡ tree }
-        ensures pages { (state_of T.state result).pages ≡ pages_in (start_view start) (T.state tree).told }
-        ensures origin { (state_of T.state result).origin ≡ origin_on (start_view start) (paths_of (opened_files start)) (T.state tree) }
+        ensures pages { (state_of T.state result).pages ≡ pages_in (start_view start)
+            (T.state tree).told }
+        ensures origin { (state_of T.state result).origin ≡ origin_on (start_view start)
+            (paths_of (opened_files start)) (T.state tree) }
         ensures known { known_in result.learned ≡ [] }
     {
         World {
@@ -87,8 +89,12 @@ impl<T: Tree> World<T> {
     /// The folder where a version of a port stands; `None` exactly where that version wasn't
     /// answered. Takes no memory.
     pub fn folder(&self, port: &PortName, version: &Version) -> Option<&TreePath>
-        ensures none { (result ≡ None) ↔ (Contains (known_in self.now.learned) (port.now, version.now) → ⊥) }
-        ensures stands { IfSome result (λ folder. IfSome (state_of T.state self.now).pages (λ _. (state_of T.state self.now).origin.places port.now version.now ≡ Some folder.now)) }
+        ensures none { (result ≡ None) ↔
+            (Contains (known_in self.now.learned) (port.now, version.now) → ⊥) }
+        ensures stands { IfSome result
+            (λ folder. IfSome (state_of T.state self.now).pages
+            (λ _. (state_of T.state self.now).origin.places port.now version.now ≡ Some
+            folder.now)) }
     {
         self.library.known.get(port, version)
     }
@@ -98,16 +104,20 @@ impl<T: Tree> Catalogue for World<T> {
     ghost state = { state_of T.state };
 
     fn given(&mut self, port: &PortName) -> Result<Result<Given, Wrong>, CatStop>
-        ensures asks { Asks port.now SaysGiven (given_answer result) (state_of T.state self.old) (state_of T.state self.new) }
-        ensures known { known_in self.new.learned ≡ pairs_given port.now (given_answer result) (known_in self.old.learned) }
+        ensures asks { Asks port.now SaysGiven (given_answer result) (state_of T.state self.old)
+            (state_of T.state self.new) }
+        ensures known { known_in self.new.learned ≡ pairs_given port.now (given_answer result)
+            (known_in self.old.learned) }
     {
         self.library.given(self.alloc, &mut self.tree, port)
     }
 
     fn version(&mut self, port: &PortName, ask: &Ask) -> Result<Option<Version>, CatStop>
         requires { OnPage port.now CanAskVersion (state_of T.state self.old) }
-        ensures asks { Asks port.now (SaysVersion (ask_view ask.now)) (version_answer result) (state_of T.state self.old) (state_of T.state self.new) }
-        ensures known { known_in self.new.learned ≡ pairs_listed port.now (version_answer result) (known_in self.old.learned) }
+        ensures asks { Asks port.now (SaysVersion (ask_view ask.now)) (version_answer result)
+            (state_of T.state self.old) (state_of T.state self.new) }
+        ensures known { known_in self.new.learned ≡ pairs_listed port.now (version_answer result)
+            (known_in self.old.learned) }
     {
         self.library.version(self.alloc, &mut self.tree, port, ask)
     }
@@ -118,7 +128,8 @@ impl<T: Tree> Catalogue for World<T> {
         ask: &Ask,
     ) -> Result<Result<Rc<Manifest>, Wrong>, CatStop>
         requires { OnPage port.now (CanAskManifest (ask_view ask.now)) (state_of T.state self.old) }
-        ensures asks { Asks port.now (SaysManifest (ask_view ask.now)) (manifest_answer result) (state_of T.state self.old) (state_of T.state self.new) }
+        ensures asks { Asks port.now (SaysManifest (ask_view ask.now)) (manifest_answer result)
+            (state_of T.state self.old) (state_of T.state self.new) }
         ensures known { known_in self.new.learned ≡ known_in self.old.learned }
     {
         self.library.manifest(self.alloc, &mut self.tree, port, ask)
