@@ -1,3 +1,4 @@
+-- what functions, laws and examples say besides
 pub mod Views
 pub mod PageViews
 pub mod Shelves

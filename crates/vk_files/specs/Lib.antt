@@ -1,7 +1,9 @@
-pub mod Notes
+-- what is promised
 pub mod Kept
+pub mod Readings
+-- what functions, laws and examples say besides
+pub mod Notes
 pub mod ReadFaults
 pub mod Views
 pub mod StopViews
-pub mod Readings
 pub mod StandingViews

@@ -1,11 +1,13 @@
+-- what is promised
 pub mod Places
 pub mod Documents
-pub mod DocumentView
 pub mod Looks
-pub mod KeyOrders
 pub mod Readings
+pub mod Words
+-- what functions, laws and examples say besides
+pub mod DocumentView
+pub mod KeyOrders
 pub mod FaultViews
 pub mod Digits
-pub mod Words
 pub mod Files
 pub mod Standing

@@ -1,3 +1,5 @@
+-- what is promised
 pub mod Manifests
+-- what functions, laws and examples say besides
 pub mod Keys
 pub mod Names

@@ -1,3 +1,4 @@
+-- what is promised
 pub mod Projects
 pub mod Starts
 pub mod Roots
@@ -5,6 +6,7 @@ pub mod Configurations
 pub mod TripletFiles
 pub mod Overlays
 pub mod Openings
+-- what functions, laws and examples say besides
 pub mod Views
 pub mod Opened
 pub mod OpeningViews

@@ -1,8 +1,10 @@
+-- what is promised
 pub mod RegistryFiles
 pub mod Wrongs
 pub mod Agreement
 pub mod Homes
-pub mod BaselineNotes
 pub mod Pages
+-- what functions, laws and examples say besides
+pub mod BaselineNotes
 pub mod HomeViews
 pub mod NoteViews

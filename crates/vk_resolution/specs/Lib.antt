@@ -1,17 +1,19 @@
+-- what is promised
 pub mod Keys
 pub mod Least
 pub mod Settings
 pub mod Givens
 pub mod Asking
 pub mod Consequences
-pub mod Sentences
-pub mod Causes
 pub mod Choices
 pub mod Reasons
 pub mod Planning
 pub mod Faults
 pub mod Outcomes
 pub mod Lines
+-- what functions, laws and examples say besides
+pub mod Sentences
+pub mod Causes
 pub mod Closures
 pub mod Selections
 pub mod Computed

@@ -1,14 +1,12 @@
+-- what is promised
 pub mod Counts
 pub mod Lists
 pub mod Paths
 pub mod Files
 pub mod States
-pub mod Standing
-pub mod Calls
 pub mod Sinks
 pub mod Fronts
 pub mod Reading
-pub mod AskedCalls
 pub mod Versions
 pub mod Conditions
 pub mod Manifests
@@ -16,3 +14,7 @@ pub mod Settings
 pub mod Pages
 pub mod Earlies
 pub mod Catalogues
+-- what functions, laws and examples say besides
+pub mod Standing
+pub mod Calls
+pub mod AskedCalls

@@ -1,6 +1,8 @@
+-- what is promised
 pub mod Schemes
 pub mod Texts
 pub mod Readings
+-- what functions, laws and examples say besides
 pub mod Orders
 pub mod Views
 pub mod Steps
