@@ -16,8 +16,6 @@ mod reports;
 mod requests;
 mod runs;
 mod stops;
-#[cfg(test)]
-mod tests;
 mod troubles;
 
 pub use runs::{Ran, run};
