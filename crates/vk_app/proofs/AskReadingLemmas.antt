@@ -31,7 +31,7 @@ use Rattle.vk_app.specs.declared.troubles.PortStop.TheVariants as stop
 pub asks_pure : {X Y : Type 0} (view : X → Y) (answer : Result X PortStop) (meaning : Pages Condition → Result Y Trouble) (s : CatalogueState Condition) → has_failed answer ≡ false → ((p : Pages Condition) → Gives view trouble_of answer (meaning p)) → AsksAs view answer meaning s s
 asks_pure view answer meaning s calm gives = record { only = rw calm (asked_nothing s); content = of_each s.pages gives }
 
--- want of memory
+-- out of memory
 pub asks_memory : {X Y : Type 0} (view : X → Y) (meaning : Pages Condition → Result Y Trouble) (s : CatalogueState Condition) → AsksAs view (Err stop.Memory) meaning s s
 asks_memory view meaning s = asks_pure view (Err stop.Memory) meaning s refl (λ p. tt)
 

@@ -35,7 +35,7 @@ shows_end Form shown status before after fits three four sent line is = rw fits 
 shows_end Memory shown status before after fits three four sent line is = absurd (three is)
 shows_end TreeFailed shown status before after fits three four sent line is = absurd (four is)
 
--- any end but want of memory and a failure is the answer
+-- any end but out of memory and a failure is the answer
 pub shows_answer : (end : End) (shown : Shown) (status : ℕ) (before after : World) → EndFits end shown → TellsBy end status before after → status ≢ 3 → status ≢ 4 → status ≢ 5 → Shows shown status before after
 shows_answer end shown status before after fits (both false false sent line is) three four five = shows_end end shown status before after fits three four sent line is
 shows_answer end shown status before after fits (both false true sent line is) three four five = absurd (five is)
@@ -242,7 +242,7 @@ status_none end status before after request fits (both false true sent line is) 
 status_none end status before after request fits (both true false sent line is) none = inr (inr is)
 status_none end status before after request fits (both true true sent line is) none = inr (inr is)
 
--- when the words are of no form
+-- when the command line is malformed
 pub judges_words : (words : Words) (end : End) (status : ℕ) (before after : World) → EndsAs words end before.tree after.tree → Tells end status before.out after.out before.err after.err → JudgesWords words status before after
 judges_words words end status before after ends t =
     let parts = parts_of end status before after t in

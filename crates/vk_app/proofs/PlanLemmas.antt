@@ -148,6 +148,6 @@ not_read {failed = failed} {s = s} calm = rw calm (none_asked [] s tt)
 pub plan_refused : (triplet : List ℕ) (folder : Path) (o : Opened) (e : Early) (earlier : List Path) (s : State) → o ≡ opened.Refused e → NoRepeats earlier → PlansAs {X = Text} (λ t. t) (Err (plan_stop.Refused (refusal.Early e))) (report_after triplet folder o) earlier s s
 plan_refused triplet folder o e earlier s is distinct = record { only = none_asked earlier s distinct; content = rw is (of_each s.told (λ t. refl)) }
 
--- want of memory before anything was read
+-- out of memory before anything was read
 pub plan_lacking : (meaning : Files → Result (List ℕ) Refused) (s : State) → PlansAs {X = Text} (λ t. t) (Err plan_stop.Memory) meaning [] s s
 plan_lacking meaning s = record { only = none_asked [] s tt; content = of_each s.told (λ t. tt) }

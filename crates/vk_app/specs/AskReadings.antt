@@ -20,7 +20,7 @@ trouble_view (trouble.WantsMore port version folder) = plain.wants_more port ver
 abbrev pub item_view : Item → plain.Item
 item_view item = record { port = item.port.now; ask = record { text = item.version.text; port = item.version.port } }
 
--- the trouble that is told, unless the catalogue failed or memory was wanting
+-- the trouble that is told, unless the catalogue failed or memory ran out
 abbrev pub trouble_of : PortStop → Option plain.Trouble
 trouble_of (stop.Trouble t) = Some (trouble_view t)
 trouble_of stop.Failed = None

@@ -47,12 +47,12 @@ IsOfPlan Form = ⊥
 IsOfPlan Memory = Unit {0}
 IsOfPlan TreeFailed = Unit {0}
 
--- the end of words that aren't of the form, or for which memory was wanting
+-- the end of a malformed command line, or for which memory ran out
 abbrev pub end_of_words : Unread WordsFault → End
 end_of_words (unread.Fault fault) = Form
 end_of_words (unread.Memory m) = Memory
 
--- the end is the answer, unless it is a failure or want of memory
+-- the end is the answer, unless it is a failure or out of memory
 abbrev pub EndFits : End → Shown → Type 0
 EndFits (Planned bytes) shown = shown ≡ record { status = 0; out = bytes; err = [] }
 EndFits (Refused bytes) shown = shown ≡ record { status = 1; out = bytes; err = [] }
@@ -60,7 +60,7 @@ EndFits Form shown = shown ≡ told 2 words_line
 EndFits Memory shown = Unit {0}
 EndFits TreeFailed shown = Unit {0}
 
--- words of no form have an end of their own
+-- a malformed command line has an end of its own
 abbrev pub FormFits : End → Option Request → Type 0
 FormFits (Planned bytes) request = IsSome request
 FormFits (Refused bytes) request = IsSome request

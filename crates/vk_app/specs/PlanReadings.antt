@@ -28,7 +28,7 @@ use Rattle.vk_app.specs.ShortReports.{planned_report}
 use Rattle.vk_app.specs.declared.refusals.PlanStop.{PlanStop}
 use Rattle.vk_app.specs.declared.refusals.PlanStop.TheVariants as plan_stop
 
--- the refusal that is told, unless the tree failed or memory was wanting
+-- the refusal that is told, unless the tree failed or memory ran out
 abbrev pub refused_of : PlanStop → Option Refused
 refused_of (plan_stop.Refused r) = Some (refusal_view r)
 refused_of plan_stop.TreeFailed = None

@@ -25,7 +25,7 @@ pub record Shows (shown : Shown) (status : ℕ) (before after : World) : Type 0 
   pub out : Taken before.out.taken shown.out after.out.taken
   pub err : Taken before.err.taken shown.err after.err.taken
 
--- where the files are told and nothing outside failed, any end but want of memory is the answer
+-- where the files are told and nothing outside failed, any end but out of memory is the answer
 abbrev pub Answers : Words → ℕ → World → World → Type 0
 Answers words status before after =
     IfSome before.tree.told (λ t. IsCalm before after → status ≢ 3 → Shows (answer_of words t.files) status before after)
@@ -36,7 +36,7 @@ pub record IsSure (shown : Shown) (before : World) : Type 0 where
   pub out : length shown.out ≤ before.out.room
   pub err : length output_line ≤ before.err.room
 
--- where nothing can fail, nothing but want of memory stands in place of the answer
+-- where nothing can fail, nothing but out of memory stands in place of the answer
 abbrev pub Completes : Words → ℕ → World → World → Type 0
 Completes words status before after =
     IfSome before.tree.told (λ t. IsSure (answer_of words t.files) before → status ≢ 3 → Shows (answer_of words t.files) status before after)
@@ -53,7 +53,7 @@ pub record HasCauses (status : ℕ) (before after : World) : Type 0 where
 abbrev pub lines : List (List ℕ)
 lines = words_line ∷ memory_line ∷ tree_line ∷ output_line ∷ []
 
--- a front of a line was taken, where the sink's count may have risen
+-- a first part of a line was taken, where the sink's count may have increased
 pub record TookSome (before after : SinkState) : Type 0 where
   pub line : List ℕ
   pub defined : Contains lines line
@@ -61,7 +61,7 @@ pub record TookSome (before after : SinkState) : Type 0 where
   pub rest : List ℕ
   pub took : TookFront before.taken line rest after.taken
 
--- what `err` took: the line of the status whole; under 5 that of the output, or a front of a line
+-- what `err` took: the line of the status whole; under 5 that of the output, or a first part of a line
 pub record TellsLine (status : ℕ) (before after : World) : Type 0 where
   pub done : status ≤ 1 → Taken before.err.taken [] after.err.taken
   pub form : status ≡ 2 → Taken before.err.taken words_line after.err.taken
@@ -69,12 +69,12 @@ pub record TellsLine (status : ℕ) (before after : World) : Type 0 where
   pub tree : status ≡ 4 → Taken before.err.taken tree_line after.err.taken
   pub output : status ≡ 5 → Taken before.err.taken output_line after.err.taken ⊎ TookSome before.err after.err
 
--- what `out` took: nothing under 2, 3 and 4, and never anything but a front of the answer's bytes
+-- what `out` took: nothing under 2, 3 and 4, and never anything but a first part of the answer's bytes
 pub record KeepsOut (words : Words) (status : ℕ) (before after : World) : Type 0 where
   pub nothing : 2 ≤ status → status ≤ 4 → Taken before.out.taken [] after.out.taken
   pub front : IfSome before.tree.told (λ t. (rest : List ℕ) × TookFront before.out.taken (answer_of words t.files).out rest after.out.taken)
 
--- 2 comes for words of no form alone, and for those nothing was read
+-- 2 comes for a malformed command line alone, and then nothing was read
 pub record JudgesWords (words : Words) (status : ℕ) (before after : World) : Type 0 where
   pub only : status ≡ 2 → (request_of words ≡ None) × (after.tree ≡ before.tree)
   pub comes : request_of words ≡ None → ((status ≡ 2) ⊎ (status ≡ 3) ⊎ (status ≡ 5)) × (after.tree ≡ before.tree)

@@ -12,7 +12,7 @@ pub enum End {
     Planned(Text),
     /// The plan was refused: the report of that.
     Refused(Text),
-    /// The words are of no form.
+    /// The command line is malformed.
     Form,
     /// Memory was wanting.
     Memory,

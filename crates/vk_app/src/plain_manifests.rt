@@ -44,8 +44,8 @@ fn are_plain(dependencies: &[Dependency]) -> bool
     dependencies.iter().all(|dependency| is_plain(dependency))
 }
 
-/// Whether a root is one that a plan is made from today: it has no feature, no default feature and no
-/// condition, and wants nothing of a port but that it is there.
+/// Whether a root is one that a plan is made from today: it has no feature, no default feature and
+/// no condition, and wants nothing of a port but that it is there.
 pub fn is_plain_root(manifest: &Manifest) -> bool
     ensures { result ≡ is_plain_root (manifest_view manifest.now) }
 {

@@ -27,7 +27,7 @@ use vk_tree::{Sink, Tree};
 /// How a run ended, and the tree as it stands.
 #[derive(Drop)]
 pub struct Ran<T> {
-    /// 0: a plan. 1: refused. 2: words of no form. 3: want of memory. 4: the tree failed.
+    /// 0: a plan. 1: refused. 2: a malformed command line. 3: out of memory. 4: the tree failed.
     /// 5: a sink stopped.
     pub status: u8,
     /// The tree that was moved in.
@@ -117,8 +117,8 @@ fn end_of<T: Tree>(alloc: Global, words: &List<Word>, tree: T) -> Ended<T>
 
 /// Does what the words ask for, over a tree that is moved in and handed back: `plan` prints the
 /// plan of the project in the working folder, or its refusal, on `out`. Other ends have a line on
-/// `err`: 2 for words of no form, 3 for want of memory, 4 where a call of the tree failed, 5 where
-/// a sink stopped.
+/// `err`: 2 for a malformed command line, 3 when out of memory, 4 where a call of the tree failed,
+/// 5 where a sink stopped.
 pub fn run<T: Tree, O: Sink, E: Sink>(
     alloc: Global,
     words: &List<Word>,
@@ -131,15 +131,15 @@ pub fn run<T: Tree, O: Sink, E: Sink>(
     ensures answers { Answers (words_view words.now) result.status
         (record { tree = T.state tree; out = O.state out.old; err = E.state err.old })
         (record { tree = T.state result.tree; out = O.state out.new; err = E.state err.new }) }
-    // Where nothing can fail, nothing but want of memory stands in its place.
+    // Where nothing can fail, nothing but out of memory stands in its place.
     ensures completes { Completes (words_view words.now) result.status
         (record { tree = T.state tree; out = O.state out.old; err = E.state err.old })
         (record { tree = T.state result.tree; out = O.state out.new; err = E.state err.new }) }
-    // 4 and 5 come only where a count may have risen, and a count that rose is told.
+    // 4 and 5 come only where a count may have increased, and a count that rose is told.
     ensures causes { HasCauses result.status
         (record { tree = T.state tree; out = O.state out.old; err = E.state err.old })
         (record { tree = T.state result.tree; out = O.state out.new; err = E.state err.new }) }
-    // 2 comes for words of no form alone, and then nothing was read.
+    // 2 comes for a malformed command line alone, and then nothing was read.
     ensures words { JudgesWords (words_view words.now) result.status
         (record { tree = T.state tree; out = O.state out.old; err = E.state err.old })
         (record { tree = T.state result.tree; out = O.state out.new; err = E.state err.new }) }

@@ -65,7 +65,7 @@ impl<T> List<T> {
         self.inner.is_empty()
     }
 
-    /// Its items, lent.
+    /// Its items, borrowed.
     pub fn as_slice(&self) -> &[T]
         ensures { result.now ≡ self.now }
     {
@@ -86,7 +86,7 @@ impl<T> List<T> {
         self.inner.as_slice().get(place)
     }
 
-    /// Puts an item at the end. Where memory is wanting the list stays as it was.
+    /// Puts an item at the end. When memory runs out, the list stays as it was.
     pub fn push(&mut self, item: T) -> Result<(), AllocFailed<T>>
         ensures ok { OnOk result (self.new ≡ self.old ++ item ∷ []) }
         ensures err { OnErr result (self.new ≡ self.old) }
@@ -113,7 +113,7 @@ impl<T: Copy> List<T> {
         })
     }
 
-    /// Puts copies of these items at the end. Where memory is wanting the list stays as it was.
+    /// Puts copies of these items at the end. When memory runs out, the list stays as it was.
     pub fn extend_from_slice(&mut self, more: &[T]) -> Result<(), AllocError>
         ensures ok { OnOk result (self.new ≡ self.old ++ more.now) }
         ensures err { OnErr result (self.new ≡ self.old) }

@@ -97,7 +97,7 @@ impl TreePath {
         self.ups
     }
 
-    /// Its parts, lent.
+    /// Its parts, borrowed.
     pub fn parts(&self) -> &[Text]
         ensures parts { result.now ≡ parts_of self.now }
         ensures key { anchor (is_rooted self.now) (ups_of self.now) ∷ result.now ≡ self.now }

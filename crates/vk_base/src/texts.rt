@@ -58,14 +58,14 @@ impl Text {
         self.inner
     }
 
-    /// The text, lent.
+    /// The text, borrowed.
     pub fn as_str(&self) -> &str
         ensures { result.now ≡ self.now }
     {
         self.inner.as_str()
     }
 
-    /// Its bytes, lent.
+    /// Its bytes, borrowed.
     pub fn as_bytes(&self) -> &[u8]
         ensures { result.now ≡ self.now }
     {
@@ -86,7 +86,7 @@ impl Text {
         self.inner.is_empty()
     }
 
-    /// Puts more text at the end. Where memory is wanting the text stays as it was.
+    /// Puts more text at the end. When memory runs out, the text stays as it was.
     pub fn push_str(&mut self, more: &str) -> Result<(), AllocError>
         ensures ok { OnOk result (self.new ≡ self.old ++ more.now) }
         ensures err { OnErr result (self.new ≡ self.old) }

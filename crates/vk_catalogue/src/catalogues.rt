@@ -12,7 +12,7 @@ use vk_version::{Ask, Version};
 
 /// What there is of each port: its given version, its versions, and their manifests, or what is
 /// wrong with them. That is the port's page, and no call changes it. `Failed` comes only where the
-/// count of faults may have risen; any other answer leaves the count.
+/// count of faults may have increased; any other answer leaves the count.
 pub trait Catalogue {
     ghost use Rattle.vk_catalogue.specs.Views.{given_answer, version_answer, manifest_answer};
 

@@ -56,7 +56,7 @@ impl MemCatalogue {
         page.is_sound(self.alloc)
     }
 
-    /// Puts the page of a port that has none yet. It counts as no call. Where memory is wanting
+    /// Puts the page of a port that has none yet. It counts as no call. When memory runs out,
     /// the catalogue stays as it was.
     pub fn put(&mut self, page: Page) -> Result<(), Memory>
         requires { IsPageFor page.port (page_view page) (pages_put self.old) }

@@ -66,7 +66,7 @@ impl Shelf {
         let _ = &self.inner;
     }
 
-    /// Puts the page of a port that has none. Where memory is wanting the shelf stays as it was.
+    /// Puts the page of a port that has none. When memory runs out, the shelf stays as it was.
     pub fn put(&mut self, page: Page) -> Result<(), Memory>
         requires { IsPageFor page.port (page_view page) (pages_of self.old) }
         ensures ok { OnOk result

@@ -9,7 +9,7 @@ use vk_base as base;
 pub enum CatStop {
     /// The catalogue failed.
     Failed,
-    /// Want of memory.
+    /// Out of memory.
     Memory,
 }
 

@@ -90,8 +90,8 @@ impl FileCache {
         let _ = self.found.insert(path, found);
     }
 
-    // Asks the tree for a path that it wasn't asked for yet. The room for what stands there is taken
-    // first, so that nothing that was read is forgotten.
+    // Asks the tree for a path that it wasn't asked for yet. The room for what stands there is
+    // taken first, so that nothing that was read is forgotten.
     #[tactic(auto, using(crate::proofs::OnceLemmas::still_read, crate::proofs::OnceLemmas::found_read, crate::proofs::OnceLemmas::nothing_found, crate::proofs::OnceLemmas::seen_told, crate::proofs::CacheLemmas::last_kept))]
     fn ask<T: Tree, F>(&mut self, tree: &mut T, path: &TreePath) -> Result<(), Stop<F>>
         requires { kept_at path.now (kept_of self.old) ≡ None }

@@ -13,8 +13,8 @@ ghost use Rattle.vk_manifest.specs.Names.{IsNamed, IsPort};
 ghost use Rattle.vk_manifest.specs.Keys.{manifest_keys, dependency_keys, use_keys};
 ghost use Rattle.vk_manifest.specs.Keys.{feature_keys, override_keys, AgreeOn};
 
-/// Members that the manual doesn't name change nothing: two objects that have the same members under
-/// the keys of their kind read alike, to the same value or the same first fault.
+/// Members that the manual doesn't name change nothing: two objects that have the same members
+/// under the keys of their kind read alike, to the same value or the same first fault.
 pub fn unknown_members()
     ensures manifest { (root : Bool) (ms ns : Members) → AgreeOn manifest_keys (object ms)
         (object ns) →

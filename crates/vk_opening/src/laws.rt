@@ -13,8 +13,8 @@ ghost use Rattle.vk_opening.specs.Projects.{manifest_path, config_path, triplet_
 ghost use Rattle.vk_opening.specs.Roots.{Root, root_in, early_at};
 ghost use Rattle.vk_opening.specs.TripletFiles.{triplet_in, triplet_at};
 
-/// Where a root manifest reads, two configurations are refused whatever they hold: one in it beside a
-/// file, or two in it. A configuration file that is too long is told before that.
+/// Where a root manifest reads, two configurations are refused whatever they hold: one in it beside
+/// a file, or two in it. A configuration file that is too long is told before that.
 pub fn two_places()
     ensures beside { (project : Project) (root : Root) (files : Files) → early_at root_in
         (manifest_path project.folder) files ≡ Ok root → has_configuration root.document ≡ true →
@@ -30,8 +30,8 @@ pub fn two_places()
         (bad_file (config_path project.folder) [] (codes "large")) }
 {}
 
-/// A triplet is that of the first folder that has its file, whatever the later folders have; and where
-/// none has it, that is told.
+/// A triplet is that of the first folder that has its file, whatever the later folders have; and
+/// where none has it, that is told.
 pub fn first_triplet()
     ensures first { (name : List ℕ) (front rest : List Path) (folder : Path) (files : Files) →
         NoneHas name front files → is_at files (triplet_path name folder) ≡ true → triplet_at name
@@ -41,8 +41,8 @@ pub fn first_triplet()
         files → triplet_at name folders files ≡ Err (no_triplet name) }
 {}
 
-/// What an opened project gives is decided by its early files alone: whatever else stands in the tree,
-/// it is the same.
+/// What an opened project gives is decided by its early files alone: whatever else stands in the
+/// tree, it is the same.
 pub fn early_files()
     ensures { (project : Project) (opening : Opening) (one other : Files) → AgreeAt
         (early_paths project opening.start.config) one other → opened_of project one ≡ Ok opening →

@@ -41,7 +41,7 @@ pub enum Opened {
 pub enum OpenStop {
     /// A call of the tree failed.
     TreeFailed,
-    /// Want of memory.
+    /// Out of memory.
     Memory,
 }
 

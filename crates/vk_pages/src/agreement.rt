@@ -147,9 +147,9 @@ fn version_agrees(
     same_port(alloc, path, said.port(), found.port())
 }
 
-/// That the manifest at a path is the port's, at the version. `Refused` says that it has no version,
-/// or in which field it disagrees: the first of name, class, text and port-version. The tree isn't
-/// asked, so `TreeFailed` never comes.
+/// That the manifest at a path is the port's, at the version. `Refused` says that it has no
+/// version, or in which field it disagrees: the first of name, class, text and port-version. The
+/// tree isn't asked, so `TreeFailed` never comes.
 #[tactic(auto, unfolding(crate::specs::Agreement::agreeing))]
 pub fn agree(
     alloc: Global,

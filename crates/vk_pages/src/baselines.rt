@@ -111,8 +111,8 @@ impl Baselines {
         let _ = self.read.insert(place, read);
     }
 
-    // Reads the baseline of a registry that wasn't looked at yet. The room for it is taken first, so
-    // that nothing that was read is forgotten.
+    // Reads the baseline of a registry that wasn't looked at yet. The room for it is taken first,
+    // so that nothing that was read is forgotten.
     fn note<T: Tree>(
         &mut self,
         alloc: Global,

@@ -105,7 +105,7 @@ fn own_version(
     Ok(stated_version(alloc, &path, manifest)?.clone()?)
 }
 
-// The home of a port in its folder, whose manifest is lent.
+// The home of a port in its folder, whose manifest is borrowed.
 fn port_home(alloc: Global, folder: &TreePath, manifest: &Rc<Manifest>) -> Result<Home, Stop<Wrong>>
     ensures told { Gives home_view (fault_seen wrong_view) result
         (overlay_home folder.now (manifest_view manifest.now.value)) }

@@ -12,7 +12,7 @@ use vk_base::{TreePath, Unread};
 use vk_fields::path_of;
 use vk_json::{FileFault, Reader, Why, text, wrong};
 
-// What is left of a text after a front, where it begins with it.
+// What is left of a text after its first part, where it begins with that.
 fn after<'a>(text: &'a str, front: &str) -> Option<&'a str>
     ensures { option_map (λ rest. rest.now) result ≡ after front.now text.now }
 {

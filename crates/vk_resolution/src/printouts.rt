@@ -13,8 +13,8 @@ ghost use Rattle.vk_resolution.specs.Projects.{superseded_minimum, two_failing_p
 ghost use Rattle.vk_resolution.specs.Projects.{two_missing_minimums, unserved, unsupported_feature};
 ghost use Rattle.vk_resolution.specs.Projects.{unsupported_port, wrong_at_a_place};
 
-/// Six reports, byte for byte: nothing to plan, a raised minimum, a port that no registry serves, an
-/// overlay, an override, two minimums that the table lacks.
+/// Six reports, byte for byte: nothing to plan, a raised minimum, a port that no registry serves,
+/// an overlay, an override, two minimums that the table lacks.
 pub fn reports_are_printed()
     ensures smallest { Prints smallest smallest_printed }
     ensures raised { Prints raised_minimum raised_minimum_printed }

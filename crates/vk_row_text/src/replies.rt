@@ -6,7 +6,7 @@ use std::alloc::{AllocError, Global};
 use std::str::FromStr;
 use vk_base::{List, Memory, Text, TreePath, Unread, token};
 
-/// A row is of no form, or what it says can't be done.
+/// A row is malformed, or what it says can't be done.
 #[derive(Clone, Copy, Debug, PartialEq, Eq, Drop)]
 pub struct NoRow;
 
@@ -40,7 +40,7 @@ impl Reply {
         self.is_silent = true;
     }
 
-    /// The row is of no form, or what it says can't be done.
+    /// The row is malformed, or what it says can't be done.
     pub fn refuse(&mut self) {
         self.stop = Some(Unread::Fault(NoRow));
     }

@@ -6,7 +6,7 @@ use Rattle.vk_spec.specs.Counts.{Counted, MayHaveRisen, Rose}
 pub counted_then : (failed : Bool) (a b c : ℕ) → b ≡ a → Counted failed b c → Counted failed a c
 counted_then failed a b c e h = rw (← e) h
 
--- a failure comes only where the count may have risen
+-- a failure comes only where the count may have increased
 pub counted_risen : {failed : Bool} (a b : ℕ) → Counted failed a b → failed ≡ true → MayHaveRisen a b
 counted_risen a b h e = (subst (λ f. Counted f a b) e h).1
 

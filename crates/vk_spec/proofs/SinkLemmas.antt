@@ -34,7 +34,7 @@ took_more {before} {mid} {now} {bytes} {rest} n so_far then = record {
 pub took_all : {before now : Option (List ℕ)} {bytes : List ℕ} → TookFront before bytes [] now → Taken before bytes now
 took_all {before} {now} {bytes} took = rw (took.split ∙ append-nil took.front) took.taken
 
--- a front of the later bytes is, with the earlier ones, a front of both
+-- the first part of the later bytes is, with the earlier ones, a first part of both
 front_then : (before mid now : Option (List ℕ)) (xs ys rest : List ℕ) → Taken before xs mid → TookFront mid ys rest now → TookFront before (xs ++ ys) rest now
 front_then before mid now xs ys rest first then = record {
   front = xs ++ then.front;
@@ -80,7 +80,7 @@ send_more s x e = sent_then x (send_once s e)
 pub send_cut : {xs : List ℕ} {answer : Result (Unit {0}) Stop} {a b : SinkState} (ys : List ℕ) → Sends xs answer a b → is_err answer ≡ true → Sent (xs ++ ys) true a b
 send_cut ys s e = sent_stopped ys (send_once s e)
 
--- a stop comes only where the sink's count may have risen
+-- a stop comes only where the sink's count may have increased
 pub sent_risen : {bytes : List ℕ} {stopped : Bool} {a b : SinkState} → Sent bytes stopped a b → stopped ≡ true → MayHaveRisen a.faults b.faults
 sent_risen s e = counted_risen _ _ s.faults e
 

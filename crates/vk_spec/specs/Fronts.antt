@@ -1,4 +1,4 @@
--- What is left of bytes after a front.
+-- What is left of bytes after their first part.
 use Rattle.std.specs.Prelude.{◌==◌, ℕ, List, [], ◌∷◌, Option, Some, None, if◌then◌else◌}
 
 -- the rest, where the bytes begin with the front

@@ -1,6 +1,6 @@
 //! The world outside: a tree of files and a sink of bytes, by what is known of each, and both in
-//! memory. It promises upwards that a failure is told only where a count of faults may have risen,
-//! and that a count that rose forces the answer which tells it.
+//! memory. It promises upwards that a failure is told only where a count of faults may have
+//! increased, and that a count that rose forces the answer which tells it.
 #![tactic(auto)]
 
 mod buffers;

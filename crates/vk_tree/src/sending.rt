@@ -17,8 +17,8 @@ pub enum OutStop {
 }
 
 /// Puts bytes into a sink, call by call, until all are taken. It stops, and answers why, only
-/// where the sink's count of faults may have risen; where the count rose, it never answers `Ok`.
-/// Takes no memory.
+/// where the sink's count of faults may have increased; where the count rose, it never answers
+/// `Ok`. Takes no memory.
 pub fn send<S: Sink>(sink: &mut S, bytes: &[u8]) -> Result<(), OutStop>
     ensures { Sends bytes.now (sent_answer result) (S.state sink.old) (S.state sink.new) }
 {

@@ -13,9 +13,9 @@ pub trait Sink {
     /// isn't empty, and how many more bytes it is sure to take.
     ghost state: { Self → SinkState };
 
-    /// Takes the first part of the piece, and answers its length in bytes. It fails, or takes nothing of
-    /// a piece that isn't empty, only where its count of faults may have risen; any other answer
-    /// leaves the count.
+    /// Takes the first part of the piece, and answers its length in bytes. It fails, or takes
+    /// nothing of a piece that isn't empty, only where its count of faults may have increased; any
+    /// other answer leaves the count.
     fn put(&mut self, piece: &[u8]) -> Result<usize, SinkFailed>
         ensures { Puts piece.now (result_ok result) (state self.old) (state self.new) };
 

@@ -24,7 +24,7 @@ pub trait Tree {
 
     /// The bytes of a file, at most `limit` of them. `Missing` exactly where no file stands at the
     /// path, `TooLarge` exactly where it is longer than the limit, `Failed` only where the count
-    /// of faults may have risen; any other answer leaves the count.
+    /// of faults may have increased; any other answer leaves the count.
     fn read(&mut self, path: &TreePath, limit: u64) -> Result<List<u8>, Stop<ReadFault>>
         ensures { Made (read_of path.now limit) (read_answer result) (state self.old)
             (state self.new) };

@@ -4,7 +4,7 @@ use denote.Ref.{Bor}
 use Rattle.vk_triplet.specs.Marks as the
 use Rattle.vk_triplet.specs.declared.tables.Row.{Row}
 
--- texts that are lent, by their bytes
+-- texts that are borrowed, by their bytes
 abbrev pub texts_of : List (Bor (List ℕ)) → List (List ℕ)
 texts_of texts = map (λ t. t.now) texts
 

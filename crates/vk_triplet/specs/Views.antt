@@ -15,7 +15,7 @@ is_in kind.Name = is_name_byte
 is_in kind.Bare = is_bare_byte
 is_in kind.Quoted = is_quoted_byte
 
--- two texts that are lent, by their bytes
+-- two texts that are borrowed, by their bytes
 abbrev pub pair_view : Bor (List ℕ) × Bor (List ℕ) → List ℕ × List ℕ
 pair_view cut = (cut.0.now, cut.1.now)
 

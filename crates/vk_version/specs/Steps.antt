@@ -26,7 +26,7 @@ reads_form text =
 abbrev pub form_view : Bor (List ℕ) × Prerelease → List ℕ × List ℕ
 form_view form = (form.0.now, pre_text form.1)
 
--- the parts of a text that is lent, if it is there
+-- the parts of a text that is borrowed, if it is there
 abbrev pub parts_in : Option (Bor (List ℕ)) → List (List ℕ)
 parts_in None = []
 parts_in (Some text) = parts text.now

@@ -22,7 +22,7 @@ use Rattle.vk_files.proofs.ReadLemmas.{still_right}
 use Rattle.vk_spec.proofs.OptionLemmas.{of_each, of_both}
 use Rattle.vk_world.specs.Learning.{Learns, Means, settled}
 
--- files were read, and then memory was wanting
+-- files were read, and then memory ran out
 pub reads_lacking : {X Y Z W F P : Type 0} {refusal : F → P} {view : X → Y} {x : X} {meaning : Files → Result Y P} {a b : Held} {m : Memory} (next_view : Z → W) (whole : Files → Result W P)
     → ReadsAs refusal view (Ok x) meaning a b → ReadsAs {X = Z} refusal next_view (Err (stop.Memory m)) whole a b
 reads_lacking {a = a} next_view whole one = record { once = one.once; content = of_each a.tree.told (λ t _. tt) }
@@ -52,7 +52,7 @@ pub learns_pure : {X : Type 0} (answer : Result X CatStop) (Says : Files → X �
     → ((f : Files) → Before f → After f × IfOk answer (Says f)) → Learns answer Says Before After h h
 learns_pure answer Says Before After h calm holds = record { once = rw calm (nothing_read h); content = of_each h.tree.told (λ t old. holds t.files) }
 
--- want of memory
+-- out of memory
 pub learns_memory : {X : Type 0} (Says : Files → X → Type 0) (Known : Files → Type 0) (h : Held) → Learns (Err cat.Memory) Says Known Known h h
 learns_memory Says Known h = learns_pure (Err cat.Memory) Says Known Known h refl (λ f known. (known, tt))
 

@@ -21,7 +21,7 @@ SaysNothing files x = Unit {0}
 abbrev pub Means : {X Y : Type 0} → (X → Y) → (Files → Y) → Files → X → Type 0
 Means view meaning files x = view x ≡ meaning files
 
--- a refusal is an answer too; the tree's failure and want of memory are none
+-- a refusal is an answer too; the tree's failure and out of memory are none
 abbrev pub unanswered : {X F : Type 0} → Stop F → Result (Result X F) CatStop
 unanswered (stop.Fault refusal) = Ok (Err refusal)
 unanswered stop.Failed = Err cat.Failed

@@ -22,7 +22,7 @@ pub struct PortVersion {
     pub version: Version,
 }
 
-/// The same, lent, so that looking up takes no memory.
+/// The same, borrowed, so that looking up takes no memory.
 #[derive(Clone, Copy)]
 struct Pair<'a> {
     port: &'a PortName,
@@ -135,7 +135,7 @@ impl KnownVersions {
     }
 
     /// Notes that a version of a port was answered, and the folder where it stands, unless it was
-    /// before. Where memory is wanting all stays as it was.
+    /// before. When memory runs out, all stays as it was.
     pub fn note(
         &mut self,
         port: &PortName,

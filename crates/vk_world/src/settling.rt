@@ -5,7 +5,7 @@ ghost use Rattle.vk_world.specs.Learning.{settled};
 use vk_base::Stop;
 use vk_catalogue::CatStop;
 
-/// A value or a refusal; the tree's failure and want of memory are no answer.
+/// A value or a refusal; the tree's failure and out of memory are no answer.
 pub fn settle<X, F>(answer: Result<X, Stop<F>>) -> Result<Result<X, F>, CatStop>
     ensures { result ≡ settled answer }
 {
