@@ -4,8 +4,10 @@
 use crate::documents::document_of;
 use crate::shows::{Show, tell};
 use serde_json::Value;
-use vk_fields::{AskText, ExpressionText, FeatureNameText, PathText, PlainText, PortNameText};
-use vk_fields::{ask_under, key, port_version, scheme, version, version_needed};
+use vk_fields::{
+    AskText, ExpressionText, FeatureNameText, PathText, PlainText, PortNameText, ask_under, key,
+    port_version, scheme, version, version_needed,
+};
 use vk_json::{Reader, wanted};
 use vk_row_text::{Reply, cut};
 use vk_version::Scheme;

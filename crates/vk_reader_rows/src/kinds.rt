@@ -1,7 +1,9 @@
 //! The kinds of rows, by their first two words.
 
-use crate::{configurations, documents, expressions, fields, names, paths, registries};
-use crate::{tokens, triplets, versions};
+use crate::{
+    configurations, documents, expressions, fields, names, paths, registries, tokens, triplets,
+    versions,
+};
 
 /// What is read, and what is asked of it.
 #[derive(Clone, Copy)]
@@ -58,12 +60,24 @@ const KINDS: [(&str, Kind); 57] = [
     ("version show", Kind::Version(versions::Question::Shown)),
     ("version order", Kind::Version(versions::Question::Order)),
     ("version ask", Kind::Version(versions::Question::Ask)),
-    ("expression read", Kind::Expression(expressions::Question::Read)),
-    ("expression truth", Kind::Expression(expressions::Question::Truth)),
-    ("expression has", Kind::Expression(expressions::Question::Has)),
+    (
+        "expression read",
+        Kind::Expression(expressions::Question::Read),
+    ),
+    (
+        "expression truth",
+        Kind::Expression(expressions::Question::Truth),
+    ),
+    (
+        "expression has",
+        Kind::Expression(expressions::Question::Has),
+    ),
     ("triplet read", Kind::Triplet(triplets::Question::Read)),
     ("triplet marks", Kind::Triplet(triplets::Question::Marks)),
-    ("triplet native-marks", Kind::Triplet(triplets::Question::NativeMarks)),
+    (
+        "triplet native-marks",
+        Kind::Triplet(triplets::Question::NativeMarks),
+    ),
     ("triplet keeps", Kind::Triplet(triplets::Question::Keeps)),
     ("json read", Kind::Json(documents::Question::Read)),
     ("json keys", Kind::Json(documents::Question::Keys)),
@@ -71,28 +85,58 @@ const KINDS: [(&str, Kind); 57] = [
     ("json item", Kind::Json(documents::Question::Item)),
     ("json word", Kind::Json(documents::Question::Word)),
     ("field port-name", Kind::Field(fields::Question::PortName)),
-    ("field feature-name", Kind::Field(fields::Question::FeatureName)),
+    (
+        "field feature-name",
+        Kind::Field(fields::Question::FeatureName),
+    ),
     ("field path", Kind::Field(fields::Question::Path)),
-    ("field expression", Kind::Field(fields::Question::Expression)),
+    (
+        "field expression",
+        Kind::Field(fields::Question::Expression),
+    ),
     ("field ask", Kind::Field(fields::Question::Ask)),
     ("field text", Kind::Field(fields::Question::Text)),
     ("field scheme", Kind::Field(fields::Question::Scheme)),
-    ("field port-version", Kind::Field(fields::Question::PortVersion)),
+    (
+        "field port-version",
+        Kind::Field(fields::Question::PortVersion),
+    ),
     ("field version", Kind::Field(fields::Question::Version)),
-    ("field version-needed", Kind::Field(fields::Question::VersionNeeded)),
+    (
+        "field version-needed",
+        Kind::Field(fields::Question::VersionNeeded),
+    ),
     ("field ask-under", Kind::Field(fields::Question::AskUnder)),
     ("manifest root", Kind::Manifest { is_root: true }),
     ("manifest port", Kind::Manifest { is_root: false }),
-    ("configuration read", Kind::Configuration(configurations::Question::Read)),
-    ("configuration sizes", Kind::Configuration(configurations::Question::Sizes)),
-    ("configuration embedded", Kind::Configuration(configurations::Question::Embedded)),
-    ("configuration serves", Kind::Configuration(configurations::Question::Serves)),
+    (
+        "configuration read",
+        Kind::Configuration(configurations::Question::Read),
+    ),
+    (
+        "configuration sizes",
+        Kind::Configuration(configurations::Question::Sizes),
+    ),
+    (
+        "configuration embedded",
+        Kind::Configuration(configurations::Question::Embedded),
+    ),
+    (
+        "configuration serves",
+        Kind::Configuration(configurations::Question::Serves),
+    ),
     (
         "configuration embedded-serves",
         Kind::Configuration(configurations::Question::EmbeddedServes),
     ),
-    ("baseline read", Kind::Registry(registries::Question::Baseline)),
-    ("baseline entry", Kind::Registry(registries::Question::Entry)),
+    (
+        "baseline read",
+        Kind::Registry(registries::Question::Baseline),
+    ),
+    (
+        "baseline entry",
+        Kind::Registry(registries::Question::Entry),
+    ),
     ("table read", Kind::Registry(registries::Question::Table)),
     ("table find", Kind::Registry(registries::Question::Find)),
 ];

@@ -43,7 +43,11 @@ fn read_letters(rest: &str, reply: &mut Reply) {
 
 fn parts(rest: &str, reply: &mut Reply) {
     let path = reply.path(rest);
-    reply.push(if path.is_rooted() { "rooted, " } else { "not rooted, " });
+    reply.push(if path.is_rooted() {
+        "rooted, "
+    } else {
+        "not rooted, "
+    });
     reply.push_number(u64::from(path.steps_up()));
     reply.push(" steps up, ");
     reply.push_number(path.parts().len() as u64);

@@ -2,8 +2,10 @@
 //! last of which may hold blanks.
 
 use crate::kinds::{Kind, kind_of};
-use crate::{configurations, documents, expressions, fields, manifests, names, paths};
-use crate::{registries, tokens, triplets, versions};
+use crate::{
+    configurations, documents, expressions, fields, manifests, names, paths, registries, tokens,
+    triplets, versions,
+};
 use vk_row_text::{Answering, Reply, cut};
 
 /// Answers rows about what is read of one text.
@@ -30,7 +32,10 @@ fn answer(kind: Kind, rest: &str, reply: &mut Reply) {
 fn cut_two(row: &str) -> (&str, &str) {
     let (subject, rest) = cut(row);
     let (question, others) = cut(rest);
-    let length = subject.len().saturating_add(1).saturating_add(question.len());
+    let length = subject
+        .len()
+        .saturating_add(1)
+        .saturating_add(question.len());
     match row.split_at_checked(length) {
         Some((words, _)) => (words, others),
         None => (row, ""),

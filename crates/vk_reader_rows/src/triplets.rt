@@ -65,7 +65,11 @@ fn marks(bytes: &List<u8>, native: bool, reply: &mut Reply) {
 fn keeps(bytes: &List<u8>, reply: &mut Reply) {
     if let Some(triplet) = triplet_of(bytes, reply) {
         reply.push(triplet.name().as_str());
-        reply.push(if triplet.bytes() == bytes.as_slice() { " and" } else { " without" });
+        reply.push(if triplet.bytes() == bytes.as_slice() {
+            " and"
+        } else {
+            " without"
+        });
         reply.push(" its bytes");
     }
 }

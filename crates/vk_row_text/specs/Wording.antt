@@ -25,7 +25,7 @@ ReadsBytes word (Err (Memory _)) = Unit {0}
 -- a word of no text: the token of no bytes, or of bytes that are no UTF-8
 abbrev pub IsNoText : List ℕ → Type 0
 IsNoText word =
-  ReadsToken word None ⊎ ((bytes : List ℕ) × ReadsToken word (Some bytes) × (IsUtf8 bytes → ⊥))
+    ReadsToken word None ⊎ ((bytes : List ℕ) × ReadsToken word (Some bytes) × (IsUtf8 bytes → ⊥))
 
 -- bytes as a text, or that they are none
 abbrev pub IsTextOf : List ℕ → Read (List ℕ) → Type 0
@@ -48,12 +48,12 @@ IsPathOf text (Err (Memory _)) = Unit {0}
 -- a word of no path: it is of no text, or that text is no path
 abbrev pub IsNoPath : List ℕ → Type 0
 IsNoPath word =
-  (text : List ℕ) × (fault : PathFault) × ReadsToken word (Some text) × (path_of text ≡ Err fault)
+    (text : List ℕ) × (fault : PathFault) × ReadsToken word (Some text) × (path_of text ≡ Err fault)
 
 -- the path whose text a word is the token of, or that there is none
 abbrev pub ReadsPath : List ℕ → Read Path → Type 0
 ReadsPath word (Ok path) =
-  (text : List ℕ) × ReadsToken word (Some text) × (path_of text ≡ Ok path)
+    (text : List ℕ) × ReadsToken word (Some text) × (path_of text ≡ Ok path)
 ReadsPath word (Err (Fault _)) = IsNoText word ⊎ IsNoPath word
 ReadsPath word (Err (Memory _)) = Unit {0}
 

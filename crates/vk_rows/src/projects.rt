@@ -64,11 +64,7 @@ pub fn version_of(word: &str, reply: &mut Reply) -> Option<Version> {
 }
 
 // Puts the paths of a word at the end, with commas between; `-` has none.
-fn push_paths(
-    alloc: Global,
-    paths: &mut List<TreePath>,
-    word: &str,
-) -> Result<(), Unread<NoRow>> {
+fn push_paths(alloc: Global, paths: &mut List<TreePath>, word: &str) -> Result<(), Unread<NoRow>> {
     if word == "-" {
         return Ok(());
     }

@@ -14,12 +14,10 @@
 use crate::asks::ask;
 use crate::lines::tell_paths;
 use crate::openings::{Opening, folder, open_on};
-use crate::page_rows;
 use crate::projects::project_of;
 use crate::runs::{ROOM, Room, Sinks, room_of, tell_ended, words_of};
-use crate::sink_rows;
-use crate::tree_rows;
 use crate::workspaces::{Workspace, done};
+use crate::{page_rows, sink_rows, tree_rows};
 use std::alloc::Global;
 use vk_app::run;
 use vk_base::{List, Memory, Unread, Word};
