@@ -296,7 +296,7 @@ pub fn name_order()
     ensures features { ⟦<FeatureName as Ord>⟧.cmp ≡ on feature_view (slice_cmp nat_cmp) }
     ensures instances { ⟦<Instance as Ord>⟧.cmp
         ≡ then_cmp (on (λ i. i.port) (slice_cmp nat_cmp))
-            (on (λ i. i.triplet) (slice_cmp nat_cmp)) }
+        (on (λ i. i.triplet) (slice_cmp nat_cmp)) }
     ensures total { IsTotalOrder (slice_cmp nat_cmp) }
     ensures ties { IsAntisymmetric (slice_cmp nat_cmp) }
 {}

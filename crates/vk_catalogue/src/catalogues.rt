@@ -1,5 +1,6 @@
 ghost use Rattle.std.specs.Prelude.{◌≡◌};
-ghost use Rattle.vk_spec.specs.Catalogues.{CatalogueState, Asks, OnPage, CanAskVersion, CanAskManifest, SaysGiven, SaysVersion, SaysManifest};
+ghost use Rattle.vk_spec.specs.Catalogues.{CatalogueState, Asks, OnPage, CanAskVersion};
+ghost use Rattle.vk_spec.specs.Catalogues.{CanAskManifest, SaysGiven, SaysVersion, SaysManifest};
 ghost use Rattle.vk_version.specs.AskViews.{ask_view};
 ghost use Rattle.vk_spec.specs.Conditions.{Condition};
 
@@ -27,7 +28,8 @@ pub trait Catalogue {
     /// has none such. It is asked only of a port with a given version.
     fn version(&mut self, port: &PortName, ask: &Ask) -> Result<Option<Version>, CatStop>
         requires { OnPage port.now CanAskVersion (state self.old) }
-        ensures { Asks port.now (SaysVersion (ask_view ask.now)) (version_answer result) (state self.old) (state self.new) };
+        ensures { Asks port.now (SaysVersion (ask_view ask.now)) (version_answer result)
+            (state self.old) (state self.new) };
 
     /// The manifest of that version, or what is wrong with it. It is asked only where there is a
     /// version for the ask.
@@ -37,7 +39,8 @@ pub trait Catalogue {
         ask: &Ask,
     ) -> Result<Result<Rc<Manifest>, Wrong>, CatStop>
         requires { OnPage port.now (CanAskManifest (ask_view ask.now)) (state self.old) }
-        ensures { Asks port.now (SaysManifest (ask_view ask.now)) (manifest_answer result) (state self.old) (state self.new) };
+        ensures { Asks port.now (SaysManifest (ask_view ask.now)) (manifest_answer result)
+            (state self.old) (state self.new) };
 
     /// Its count of faults, which never falls.
     fn faults(&self) -> u64

@@ -29,7 +29,8 @@ fn listed_manifest<C: Catalogue>(
     ask: &Ask,
 ) -> Result<GivenManifest, CatStop>
     requires { OnPage port.now (CanAskManifest (ask_view ask.now)) (C.state cat.old) }
-    ensures { Asks port.now (SaysAt (ask_view ask.now)) (at_answer result) (C.state cat.old) (C.state cat.new) }
+    ensures { Asks port.now (SaysAt (ask_view ask.now)) (at_answer result) (C.state cat.old)
+        (C.state cat.new) }
 {
     match cat.manifest(port, ask)? {
         Ok(manifest) => Ok(GivenManifest::Found(manifest)),
@@ -45,7 +46,8 @@ fn manifest_for<C: Catalogue>(
     ask: &Ask,
 ) -> Result<GivenManifest, CatStop>
     requires { OnPage port.now CanAskVersion (C.state cat.old) }
-    ensures { Asks port.now (SaysAt (ask_view ask.now)) (at_answer result) (C.state cat.old) (C.state cat.new) }
+    ensures { Asks port.now (SaysAt (ask_view ask.now)) (at_answer result) (C.state cat.old)
+        (C.state cat.new) }
 {
     match cat.version(port, ask)? {
         Some(_) => listed_manifest(cat, port, ask),

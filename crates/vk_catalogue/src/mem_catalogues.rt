@@ -1,11 +1,15 @@
 ghost use Rattle.std.specs.Prelude.{◌≡◌, ◌↔◌, ◌++◌, ◌∷◌, [], IsTrue, IfOk, OnOk, OnErr, false};
-ghost use Rattle.vk_spec.specs.Catalogues.{Asks, OnlyAsked, OnPage, CanAskVersion, CanAskManifest, SaysGiven, SaysVersion, SaysManifest};
+ghost use Rattle.vk_spec.specs.Catalogues.{Asks, OnlyAsked, OnPage, CanAskVersion, CanAskManifest};
+ghost use Rattle.vk_spec.specs.Catalogues.{SaysGiven, SaysVersion, SaysManifest};
 ghost use Rattle.vk_version.specs.AskViews.{ask_view};
-ghost use Rattle.vk_catalogue.specs.Views.{cat_failed, given_answer, version_answer, manifest_answer};
+ghost use Rattle.vk_catalogue.specs.Views.{cat_failed, given_answer, version_answer};
+ghost use Rattle.vk_catalogue.specs.Views.{manifest_answer};
 ghost use Rattle.vk_catalogue.specs.PageViews.{page_view};
 ghost use Rattle.vk_base.specs.Schedules.{with_listed};
 ghost use Rattle.vk_catalogue.specs.Shelves.{page_on};
-ghost use Rattle.vk_catalogue.specs.MemCatalogues.{IsNewCatalogue, IsPageFor, MemCalls, mem_schedule, mem_state, pages_put, with_schedule};
+ghost use Rattle.vk_catalogue.specs.MemCatalogues.{IsNewCatalogue, IsPageFor, MemCalls};
+ghost use Rattle.vk_catalogue.specs.MemCatalogues.{mem_schedule, mem_state, pages_put};
+ghost use Rattle.vk_catalogue.specs.MemCatalogues.{with_schedule};
 
 use crate::catalogues::Catalogue;
 use crate::pages::Page;
@@ -42,7 +46,9 @@ impl MemCatalogue {
 
     /// Whether a page may be put: its port has none yet, and it is sound.
     pub fn fits(&self, page: &Page) -> Result<bool, Memory>
-        ensures { IfOk result (λ fits. IsTrue fits ↔ IsPageFor page.now.port (page_view page.now) (pages_put self.now)) }
+        ensures { IfOk result
+            (λ fits. IsTrue fits ↔ IsPageFor page.now.port (page_view page.now)
+            (pages_put self.now)) }
     {
         if !self.shelf.lacks(&page.port) {
             return Ok(false);
@@ -54,7 +60,8 @@ impl MemCatalogue {
     /// the catalogue stays as it was.
     pub fn put(&mut self, page: Page) -> Result<(), Memory>
         requires { IsPageFor page.port (page_view page) (pages_put self.old) }
-        ensures ok { OnOk result (pages_put self.new ≡ pages_put self.old ++ (page.port, page_view page) ∷ []) }
+        ensures ok { OnOk result
+            (pages_put self.new ≡ pages_put self.old ++ (page.port, page_view page) ∷ []) }
         ensures err { OnErr result (pages_put self.new ≡ pages_put self.old) }
         ensures faults { (mem_state self.new).faults ≡ (mem_state self.old).faults }
         ensures schedule { mem_schedule self.new ≡ mem_schedule self.old }
@@ -65,7 +72,8 @@ impl MemCatalogue {
     /// The calls with these numbers fail, counted from 1 over every call of the trait but
     /// `faults`, in place of those named before. The calls are counted on.
     pub fn fail_at(&mut self, calls: &[u64]) -> Result<(), Memory>
-        ensures ok { OnOk result (self.new ≡ with_schedule (with_listed calls.now (mem_schedule self.old)) self.old) }
+        ensures ok { OnOk result
+            (self.new ≡ with_schedule (with_listed calls.now (mem_schedule self.old)) self.old) }
         ensures err { OnErr result (self.new ≡ self.old) }
     {
         self.schedule.list(self.alloc, calls)?;
@@ -99,7 +107,8 @@ fn given_on(shelf: &Shelf, port: &PortName) -> Result<Result<Given, Wrong>, CatS
 
 // The version that a port has for an ask.
 fn version_on(shelf: &Shelf, port: &PortName, ask: &Ask) -> Result<Option<Version>, CatStop>
-    ensures told { IfOk (version_answer result) (SaysVersion (ask_view ask.now) (page_on shelf.now port.now)) }
+    ensures told { IfOk (version_answer result)
+        (SaysVersion (ask_view ask.now) (page_on shelf.now port.now)) }
     ensures calm { cat_failed result ≡ false }
 {
     match shelf.row(port, ask) {
@@ -115,7 +124,8 @@ fn manifest_on(
     ask: &Ask,
 ) -> Result<Result<Rc<Manifest>, Wrong>, CatStop>
     requires { CanAskManifest (ask_view ask.now) (page_on shelf.now port.now) }
-    ensures told { IfOk (manifest_answer result) (SaysManifest (ask_view ask.now) (page_on shelf.now port.now)) }
+    ensures told { IfOk (manifest_answer result)
+        (SaysManifest (ask_view ask.now) (page_on shelf.now port.now)) }
     ensures calm { cat_failed result ≡ false }
 {
     let row = shelf.row(port, ask).unwrap();
@@ -126,7 +136,8 @@ impl Catalogue for MemCatalogue {
     ghost state = { mem_state };
 
     fn given(&mut self, port: &PortName) -> Result<Result<Given, Wrong>, CatStop>
-        ensures asks { Asks port.now SaysGiven (given_answer result) (mem_state self.old) (mem_state self.new) }
+        ensures asks { Asks port.now SaysGiven (given_answer result) (mem_state self.old)
+            (mem_state self.new) }
         ensures exact { MemCalls (cat_failed result) self.old self.new }
     {
         self.shelf.known();
@@ -138,7 +149,8 @@ impl Catalogue for MemCatalogue {
 
     fn version(&mut self, port: &PortName, ask: &Ask) -> Result<Option<Version>, CatStop>
         requires { OnPage port.now CanAskVersion (mem_state self.old) }
-        ensures asks { Asks port.now (SaysVersion (ask_view ask.now)) (version_answer result) (mem_state self.old) (mem_state self.new) }
+        ensures asks { Asks port.now (SaysVersion (ask_view ask.now)) (version_answer result)
+            (mem_state self.old) (mem_state self.new) }
         ensures exact { MemCalls (cat_failed result) self.old self.new }
     {
         self.shelf.known();
@@ -154,7 +166,8 @@ impl Catalogue for MemCatalogue {
         ask: &Ask,
     ) -> Result<Result<Rc<Manifest>, Wrong>, CatStop>
         requires { OnPage port.now (CanAskManifest (ask_view ask.now)) (mem_state self.old) }
-        ensures asks { Asks port.now (SaysManifest (ask_view ask.now)) (manifest_answer result) (mem_state self.old) (mem_state self.new) }
+        ensures asks { Asks port.now (SaysManifest (ask_view ask.now)) (manifest_answer result)
+            (mem_state self.old) (mem_state self.new) }
         ensures exact { MemCalls (cat_failed result) self.old self.new }
     {
         self.shelf.known();

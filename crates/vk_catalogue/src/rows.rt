@@ -17,7 +17,8 @@ fn is_meant(version: &Version, ask: &Ask) -> bool
 
 /// The row that an ask means; `None` exactly where there is none. It looks at the rows in order.
 pub fn row_for<'a>(rows: &'a [PageRow], ask: &Ask) -> Option<&'a PageRow>
-    ensures { option_copied result ≡ find (λ r. same_ask (ask_of r.version) (ask_view ask.now)) rows.now }
+    ensures { option_copied result ≡ find (λ r. same_ask (ask_of r.version) (ask_view ask.now))
+        rows.now }
 {
     rows.iter().find(|row| is_meant(&row.version, ask))
 }

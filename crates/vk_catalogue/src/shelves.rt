@@ -1,4 +1,5 @@
-ghost use Rattle.std.specs.Prelude.{◌≡◌, ◌↔◌, ◌++◌, ◌∷◌, [], None, IsTrue, OnOk, OnErr, bytes_eq, option_map};
+ghost use Rattle.std.specs.Prelude.{◌≡◌, ◌↔◌, ◌++◌, ◌∷◌, [], None, IsTrue, OnOk, OnErr, bytes_eq};
+ghost use Rattle.std.specs.Prelude.{option_map};
 ghost use Rattle.std.specs.Map.{lookup};
 ghost use Rattle.std.specs.Option.{option_copied};
 ghost use Rattle.vk_spec.specs.Pages.{row_in};
@@ -9,11 +10,11 @@ ghost use Rattle.vk_catalogue.specs.Shelves.{IsPageFor, page_on, pages_of};
 
 use crate::pages::{Page, PageRow};
 use crate::rows::row_for;
-use vk_model::{Given, Wrong};
 use indexmap::IndexMap;
 use std::alloc::Global;
 use std::marker::Model;
 use vk_base::{List, Memory, PortName};
+use vk_model::{Given, Wrong};
 use vk_version::Ask;
 
 /// What is held of a port.
@@ -68,7 +69,8 @@ impl Shelf {
     /// Puts the page of a port that has none. Where memory is wanting the shelf stays as it was.
     pub fn put(&mut self, page: Page) -> Result<(), Memory>
         requires { IsPageFor page.port (page_view page) (pages_of self.old) }
-        ensures ok { OnOk result (pages_of self.new ≡ pages_of self.old ++ (page.port, page_view page) ∷ []) }
+        ensures ok { OnOk result
+            (pages_of self.new ≡ pages_of self.old ++ (page.port, page_view page) ∷ []) }
         ensures err { OnErr result (self.new ≡ self.old) }
     {
         let Page { port, given, rows } = page;
@@ -88,14 +90,16 @@ impl Shelf {
 
     /// What is held of a port; `None` exactly where no page was put for it.
     pub fn get(&self, port: &PortName) -> Option<&Held>
-        ensures { option_map held_view (option_copied result) ≡ lookup (bytes_eq port.now) (pages_of self.now) }
+        ensures { option_map held_view (option_copied result) ≡ lookup (bytes_eq port.now)
+            (pages_of self.now) }
     {
         self.inner.get(port)
     }
 
     /// The row of a port that an ask means; `None` exactly where there is none.
     pub fn row(&self, port: &PortName, ask: &Ask) -> Option<&PageRow>
-        ensures { option_map row_view (option_copied result) ≡ row_in (page_on self.now port.now).rows (ask_view ask.now) }
+        ensures { option_map row_view (option_copied result) ≡ row_in
+            (page_on self.now port.now).rows (ask_view ask.now) }
     {
         match self.get(port) {
             Some(held) => row_for(held.rows.as_slice(), ask),

@@ -6,20 +6,25 @@ ghost use Rattle.vk_spec.specs.Catalogues.{CanBeOfGiven, HasOwnAlone, IsPage};
 ghost use Rattle.vk_version.specs.AskViews.{ask_view};
 ghost use Rattle.vk_catalogue.specs.Views.{given_view, wrong_view};
 ghost use Rattle.vk_catalogue.specs.PageViews.{page_view, row_view};
-ghost use Rattle.vk_catalogue.specs.SoundPages.{FitsGiven, asks_in, can_be_of_row, distinct_after, is_row_right};
+ghost use Rattle.vk_catalogue.specs.SoundPages.{FitsGiven, asks_in, can_be_of_row, distinct_after};
+ghost use Rattle.vk_catalogue.specs.SoundPages.{is_row_right};
 
 use crate::pages::{Page, PageRow};
-use vk_model::{Field, Given, Wrong};
 use indexmap::IndexSet;
 use std::alloc::Global;
 use std::cmp::Ordering;
 use vk_base::Memory;
+use vk_model::{Field, Given, Wrong};
 use vk_version::{Ask, Version, order};
 
 // Notes the ask of a row, and tells whether it is new.
 fn note_ask(seen: &mut IndexSet<Ask>, row: &PageRow) -> Result<bool, Memory>
-    ensures new { IfOk result (λ new. new ≡ not (list_any (same_ask (ask_of row.now.version)) (map ask_view seen.old.keys))) }
-    ensures noted { IfOk result (λ new. new ≡ true → map ask_view seen.new.keys ≡ map ask_view seen.old.keys ++ ask_of row.now.version ∷ []) }
+    ensures new { IfOk result
+        (λ new. new ≡ not
+        (list_any (same_ask (ask_of row.now.version)) (map ask_view seen.old.keys))) }
+    ensures noted { IfOk result
+        (λ new. new ≡ true → map ask_view seen.new.keys ≡ map ask_view seen.old.keys ++ ask_of
+        row.now.version ∷ []) }
 {
     let ask = row.version.ask().clone()?;
     let new = seen.insert(ask)?;

@@ -12,8 +12,10 @@ said_here word (Ok x) = Ok x
 said_here word (Err fault) = Err (here (word fault))
 
 -- the same value, or the fault by its word; out of memory stays
-abbrev pub IsSaid : {A F : Type 0} → (F → Why) → Result A (Unread F) → Result A (Unread FileFault) → Type 0
+abbrev pub IsSaid : {A F : Type 0}
+    → (F → Why) → Result A (Unread F) → Result A (Unread FileFault) → Type 0
 IsSaid word (Ok x) (Ok said) = said ≡ x
-IsSaid word (Err e) (Err said) = fault_in said ≡ option_map (λ fault. here (word fault)) (fault_in e)
+IsSaid word (Err e) (Err said) =
+    fault_in said ≡ option_map (λ fault. here (word fault)) (fault_in e)
 IsSaid word (Ok x) (Err said) = ⊥
 IsSaid word (Err e) (Ok said) = ⊥

@@ -54,7 +54,9 @@ pub record WrittenAsk : Type 0 where
   pub numbered : Bool
 
 unfoldable pub reads_written : List ℕ → Result WrittenAsk VersionFault
-reads_written text = reads_ask text >>= λ ask. Ok (record { ask = ask; numbered = list_any is_hash text })
+reads_written text = do
+  ask ← reads_ask text
+  Ok (record { ask = ask; numbered = list_any is_hash text })
 
 abbrev pub written_at : Reading WrittenAsk
 written_at = by_rule version_word reads_written

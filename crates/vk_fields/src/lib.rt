@@ -1,6 +1,6 @@
 //! Readers of the texts and keys that several files of a project share: names, paths, platform
-//! expressions, asks and versions. Each promises upwards the value that the text or the keys mean, or
-//! the first fault with its place and its word.
+//! expressions, asks and versions. Each promises upwards the value that the text or the keys mean,
+//! or the first fault with its place and its word.
 #![tactic(auto)]
 
 mod texts;

@@ -34,7 +34,8 @@ use vk_version::{Ask, Scheme, VersionFault, read, read_ask};
 /// The port's name that a text is. The fault is `Name` where it is none.
 #[tactic(auto, using(crate::proofs::Saying::said_gives))]
 pub fn port_name_of(alloc: Global, text: &str) -> Result<PortName, Unread<FileFault>>
-    ensures { Gives (λ name. name) fault_in result (said_here name_word (reads_name port_rule text.now)) }
+    ensures { Gives (λ name. name) fault_in result
+        (said_here name_word (reads_name port_rule text.now)) }
 {
     said(alloc, PortName::read(alloc, text))
 }

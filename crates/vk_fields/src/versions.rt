@@ -9,7 +9,8 @@ ghost use Rattle.vk_base.specs.Stops.{fault_in};
 ghost use Rattle.vk_version.specs.AskViews.{ask_view};
 ghost use Rattle.vk_version.specs.Views.{scheme_view};
 ghost use Rattle.vk_fields.specs.TextViews.{written_view};
-ghost use Rattle.vk_fields.specs.Versions.{key_of, next_scheme, scheme_by, scheme_in, scheme_needed};
+ghost use Rattle.vk_fields.specs.Versions.{key_of, next_scheme, scheme_by, scheme_in};
+ghost use Rattle.vk_fields.specs.Versions.{scheme_needed};
 ghost use Rattle.vk_fields.specs.Versions.{port_version_at, version_text_at, version_under};
 ghost use Rattle.vk_fields.specs.Versions.{version_if, version_at, version_needed_at, ask_under};
 ghost use Rattle.vk_fields.specs.Versions.{with_port_beside, written_ask_under};
@@ -82,8 +83,8 @@ pub fn scheme(alloc: Global, value: &Value) -> Result<Option<Scheme>, Unread<Fil
     scheme_of(alloc, value)
 }
 
-/// The scheme of the one version key, which has to be there. The fault is `NoVersion` where there is
-/// none, and `TwoVersions` at a second key.
+/// The scheme of the one version key, which has to be there. The fault is `NoVersion` where there
+/// is none, and `TwoVersions` at a second key.
 pub fn scheme_needed(alloc: Global, value: &Value) -> Result<Scheme, Unread<FileFault>>
     ensures { Gives scheme_view fault_in result (scheme_needed (view value.now)) }
 {

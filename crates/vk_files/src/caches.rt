@@ -1,5 +1,6 @@
 //! What was read of a tree, by path.
-ghost use Rattle.std.specs.Prelude.{◌≡◌, ◌<◌, ◌++◌, ◌∷◌, [], ℕ, List, Option, None, IsSome, OnOk, IfOk, IfErr, length, option_map};
+ghost use Rattle.std.specs.Prelude.{◌≡◌, ◌<◌, ◌++◌, ◌∷◌, [], ℕ, List, Option, None, IsSome, OnOk};
+ghost use Rattle.std.specs.Prelude.{IfOk, IfErr, length, option_map};
 ghost use Rattle.std.specs.Option.{option_copied};
 ghost use Rattle.indexmap.specs.IndexMap.{spare};
 ghost use Rattle.vk_spec.specs.Lists.{NoRepeats};
@@ -42,7 +43,8 @@ fn found_by(fault: ReadFault) -> Found
 #[tactic(auto, using(crate::proofs::OnceLemmas::seen_by_fault))]
 fn found_in<F>(read: Result<List<u8>, Stop<ReadFault>>) -> Result<Found, Stop<F>>
     requires { NoLonger most_bytes (read_answer read) }
-    ensures seen { (path : Path) (d : Disk) → Says (read_of path most_bytes) (read_answer read) d → IfOk result (λ found. seen_view found ≡ seen_in (d path)) }
+    ensures seen { (path : Path) (d : Disk) → Says (read_of path most_bytes) (read_answer read) d →
+        IfOk result (λ found. seen_view found ≡ seen_in (d path)) }
     ensures no_fault { IfErr result (λ e. stop_fault_in e ≡ None) }
     ensures failed { has_failed result ≡ read_failed read }
     ensures noted { (path : Path) → noted path (read_answer read) ≡ noted_by path result }
@@ -93,7 +95,8 @@ impl FileCache {
     #[tactic(auto, using(crate::proofs::OnceLemmas::still_read, crate::proofs::OnceLemmas::found_read, crate::proofs::OnceLemmas::nothing_found, crate::proofs::OnceLemmas::seen_told, crate::proofs::CacheLemmas::last_kept))]
     fn ask<T: Tree, F>(&mut self, tree: &mut T, path: &TreePath) -> Result<(), Stop<F>>
         requires { kept_at path.now (kept_of self.old) ≡ None }
-        ensures once { ReadOnce (has_failed result) (held self.old (T.state tree.old)) (held self.new (T.state tree.new)) }
+        ensures once { ReadOnce (has_failed result) (held self.old (T.state tree.old))
+            (held self.new (T.state tree.new)) }
         ensures there { OnOk result (IsSome (kept_at path.now (kept_of self.new))) }
         ensures no_fault { IfErr result (λ e. stop_fault_in e ≡ None) }
     {
@@ -107,7 +110,8 @@ impl FileCache {
     /// Looks at a path, for which the tree is asked unless it was before. It finds no fault, of
     /// whatever type the caller's faults are.
     pub fn look<T: Tree, F>(&mut self, tree: &mut T, path: &TreePath) -> Result<(), Stop<F>>
-        ensures once { ReadOnce (has_failed result) (held self.old (T.state tree.old)) (held self.new (T.state tree.new)) }
+        ensures once { ReadOnce (has_failed result) (held self.old (T.state tree.old))
+            (held self.new (T.state tree.new)) }
         ensures there { OnOk result (IsSome (kept_at path.now (kept_of self.new))) }
         ensures no_fault { IfErr result (λ e. stop_fault_in e ≡ None) }
     {
@@ -119,7 +123,8 @@ impl FileCache {
 
     /// What stands at a path; `None` exactly where it wasn't looked at.
     pub fn get(&self, path: &TreePath) -> Option<&Found>
-        ensures { option_map seen_view (option_copied result) ≡ kept_at path.now (kept_of self.now) }
+        ensures { option_map seen_view (option_copied result) ≡ kept_at path.now
+            (kept_of self.now) }
     {
         self.found.get(path)
     }

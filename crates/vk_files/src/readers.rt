@@ -5,7 +5,8 @@ ghost use Rattle.vk_base.specs.Stops.{fault_in, has_failed, is_failure};
 ghost use Rattle.vk_json.specs.declared.faults.FileFault as faults;
 ghost use Rattle.vk_files.specs.Views.{held, seen_view};
 ghost use Rattle.vk_files.specs.StopViews.{fault_seen};
-ghost use Rattle.vk_files.specs.Readings.{ReadsAs, IsFaultOf, told_at, bad_view, file_at, seen_file, standing_at, standing_by, is_there};
+ghost use Rattle.vk_files.specs.Readings.{ReadsAs, IsFaultOf, told_at, bad_view, file_at};
+ghost use Rattle.vk_files.specs.Readings.{seen_file, standing_at, standing_by, is_there};
 ghost use Rattle.vk_files.specs.StandingViews.{standing_view};
 
 use crate::bad_files::BadFile;
@@ -92,7 +93,8 @@ fn told<R: FileReader>(
     path: &TreePath,
     answer: Result<R::Out, Unread<FileFault>>,
 ) -> Result<R::Out, Stop<BadFile>>
-    ensures told { (read : Result R.Plain faults.FileFault) → Gives R.plain fault_in answer read → Gives R.plain (fault_seen bad_view) result (told_at path.now read) }
+    ensures told { (read : Result R.Plain faults.FileFault) → Gives R.plain fault_in answer read →
+        Gives R.plain (fault_seen bad_view) result (told_at path.now read) }
     ensures tree_ok { has_failed result ≡ false }
 {
     match answer {
@@ -110,7 +112,8 @@ pub fn read_file<T: Tree, R: FileReader>(
     path: &TreePath,
     reader: &R,
 ) -> Result<R::Out, Stop<BadFile>>
-    ensures { ReadsAs bad_view R.plain result (file_at (R.reads reader.now) path.now) (held files.old (T.state tree.old)) (held files.new (T.state tree.new)) }
+    ensures { ReadsAs bad_view R.plain result (file_at (R.reads reader.now) path.now)
+        (held files.old (T.state tree.old)) (held files.new (T.state tree.new)) }
 {
     files.look::<T, BadFile>(tree, path)?;
     told::<R>(path, read_found(alloc, files.get(path).unwrap(), reader))
@@ -132,7 +135,8 @@ pub fn file_standing<T: Tree>(
     tree: &mut T,
     path: &TreePath,
 ) -> Result<Standing, Stop<BadFile>>
-    ensures { ReadsAs bad_view standing_view result (λ f. Ok (standing_at path.now f)) (held files.old (T.state tree.old)) (held files.new (T.state tree.new)) }
+    ensures { ReadsAs bad_view standing_view result (λ f. Ok (standing_at path.now f))
+        (held files.old (T.state tree.old)) (held files.new (T.state tree.new)) }
 {
     files.look::<T, BadFile>(tree, path)?;
     Ok(standing_of(files.get(path).unwrap()))

@@ -10,7 +10,8 @@ use Rattle.vk_json.specs.Places.{here}
 
 -- the bytes after a byte order mark, if they begin with one
 abbrev pub without_mark : List ℕ → List ℕ
-without_mark (a ∷ b ∷ c ∷ rest) = if a == 239 && b == 187 && c == 191 then rest else a ∷ b ∷ c ∷ rest
+without_mark (a ∷ b ∷ c ∷ rest) =
+    if a == 239 && b == 187 && c == 191 then rest else a ∷ b ∷ c ∷ rest
 without_mark bytes = bytes
 
 -- the value of bytes, where they have one

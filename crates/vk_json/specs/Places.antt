@@ -1,5 +1,6 @@
 -- Places in a document: JSON Pointers (RFC 6901).
-use Rattle.std.specs.Prelude.{◌++◌, ◌==◌, ℕ, List, [], ◌∷◌, codes, decimal, Result, Ok, Err, if◌then◌else◌}
+use Rattle.std.specs.Prelude.{◌++◌, ◌==◌, ℕ, List, [], ◌∷◌, codes, decimal}
+use Rattle.std.specs.Prelude.{Result, Ok, Err, if◌then◌else◌}
 use Rattle.std.specs.List.{flat_map}
 use Rattle.std.specs.Str.{chars}
 use Rattle.std.specs.Char.{encode_utf8}
@@ -49,4 +50,5 @@ place_text (b ∷ bytes) = token_of (b ∷ bytes)
 
 -- the line of a bad file: the file, the place in it, and the word for what is wrong there
 abbrev pub file_line : Path → List ℕ → List ℕ → List ℕ
-file_line path place word = codes "bad-file " ++ path_text path ++ codes " " ++ place_text place ++ codes " " ++ word
+file_line path place word =
+    codes "bad-file " ++ path_text path ++ codes " " ++ place_text place ++ codes " " ++ word

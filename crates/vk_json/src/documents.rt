@@ -65,8 +65,6 @@ fn without_mark(bytes: &[u8]) -> &[u8]
 
 /// In a document, the keys of each object ascend, whatever their order in the bytes was.
 pub fn document_keys()
-    ensures {
-        (bytes place : List ℕ) (d found : Data) →
-        json_of bytes ≡ Ok d → Leads place d found → KeysAscend found
-    }
+    ensures { (bytes place : List ℕ) (d found : Data) →
+        json_of bytes ≡ Ok d → Leads place d found → KeysAscend found }
 {}

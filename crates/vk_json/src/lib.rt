@@ -1,5 +1,6 @@
 //! JSON documents as `serde_json` reads them, and getters that answer by the value that was read.
-//! It promises upwards that bytes have one value or one fault, and that a getter loses nothing of it.
+//! It promises upwards that bytes have one value or one fault, and that a getter loses nothing of
+//! it.
 #![tactic(auto)]
 
 mod digits;

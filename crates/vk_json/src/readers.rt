@@ -48,10 +48,8 @@ fn read_in_member<R: Reader>(
     value: &Value,
     reader: &R,
 ) -> Result<R::Out, Unread<FileFault>>
-    ensures {
-        Gives R.plain fault_in result
-            (inside (member_step key.now) (R.reads reader.now (view value.now)))
-    }
+    ensures { Gives R.plain fault_in result
+        (inside (member_step key.now) (R.reads reader.now (view value.now))) }
 {
     match reader.read(alloc, value) {
         Ok(read) => Ok(read),
@@ -82,9 +80,7 @@ pub fn wanted<R: Reader>(
     key: &str,
     reader: &R,
 ) -> Result<R::Out, Unread<FileFault>>
-    ensures {
-        Gives R.plain fault_in result (wanted (R.reads reader.now) key.now (view value.now))
-    }
+    ensures { Gives R.plain fault_in result (wanted (R.reads reader.now) key.now (view value.now)) }
 {
     match member(value, key) {
         Some(found) => read_in_member(alloc, key, found, reader),
@@ -100,10 +96,8 @@ pub fn optional<R: Reader>(
     key: &str,
     reader: &R,
 ) -> Result<Option<R::Out>, Unread<FileFault>>
-    ensures {
-        Gives (option_map R.plain) fault_in result
-            (optional (R.reads reader.now) key.now (view value.now))
-    }
+    ensures { Gives (option_map R.plain) fault_in result
+        (optional (R.reads reader.now) key.now (view value.now)) }
 {
     match member(value, key) {
         Some(found) => Ok(Some(read_in_member(alloc, key, found, reader)?)),
@@ -120,10 +114,8 @@ pub fn optional_or<R: Reader>(
     reader: &R,
     default: R::Out,
 ) -> Result<R::Out, Unread<FileFault>>
-    ensures {
-        Gives R.plain fault_in result
-            (optional_or (R.plain default) (R.reads reader.now) key.now (view value.now))
-    }
+    ensures { Gives R.plain fault_in result
+        (optional_or (R.plain default) (R.reads reader.now) key.now (view value.now)) }
 {
     match member(value, key) {
         Some(found) => read_in_member(alloc, key, found, reader),
@@ -150,10 +142,8 @@ fn read_items<R: Reader>(
     values: &[Value],
     reader: &R,
 ) -> Result<List<R::Out>, Unread<FileFault>>
-    ensures {
-        Gives (map R.plain) fault_in result
-            (read_each (item_at (R.reads reader.now)) 0 (map view values.now))
-    }
+    ensures { Gives (map R.plain) fault_in result
+        (read_each (item_at (R.reads reader.now)) 0 (map view values.now)) }
 {
     let mut read = List::new(alloc);
     for (n, value) in values.iter().enumerate() {
@@ -170,9 +160,8 @@ pub fn each_item<R: Reader>(
     value: &Value,
     reader: &R,
 ) -> Result<List<R::Out>, Unread<FileFault>>
-    ensures {
-        Gives (map R.plain) fault_in result (each_item (R.reads reader.now) (view value.now))
-    }
+    ensures { Gives (map R.plain) fault_in result
+        (each_item (R.reads reader.now) (view value.now)) }
 {
     match items(value) {
         Some(values) => read_items(alloc, values, reader),
@@ -202,10 +191,8 @@ fn read_member<R: MemberReader>(
     value: &Value,
     reader: &R,
 ) -> Result<R::Out, Unread<FileFault>>
-    ensures {
-        Gives R.plain fault_in result
-            (member_at (R.reads reader.now) (key.now, view value.now))
-    }
+    ensures { Gives R.plain fault_in result
+        (member_at (R.reads reader.now) (key.now, view value.now)) }
 {
     match reader.read(alloc, key, value) {
         Ok(read) => Ok(read),
@@ -218,10 +205,8 @@ fn read_members<R: MemberReader>(
     object: &Map<String, Value>,
     reader: &R,
 ) -> Result<List<R::Out>, Unread<FileFault>>
-    ensures read {
-        Gives (map R.plain) fault_in result
-            (members_by (R.reads reader.now) (members_view object.now.entries))
-    }
+    ensures read { Gives (map R.plain) fault_in result
+        (members_by (R.reads reader.now) (members_view object.now.entries)) }
     ensures order { IfOk result (λ read. NamesAscend (members_view object.now.entries)) }
 {
     let mut read = List::new(alloc);
@@ -232,17 +217,16 @@ fn read_members<R: MemberReader>(
     Ok(read)
 }
 
-/// An object, each of whose members is read by a reader, in byte order of keys. The fault is `Object`
-/// where it is no object.
+/// An object, each of whose members is read by a reader, in byte order of keys. The fault is
+/// `Object` where it is no object.
 #[tactic(auto, unfolding(crate::specs::Readings::each_member))]
 pub fn each_member<R: MemberReader>(
     alloc: Global,
     value: &Value,
     reader: &R,
 ) -> Result<List<R::Out>, Unread<FileFault>>
-    ensures read {
-        Gives (map R.plain) fault_in result (each_member (R.reads reader.now) (view value.now))
-    }
+    ensures read { Gives (map R.plain) fault_in result
+        (each_member (R.reads reader.now) (view value.now)) }
     ensures order { IfOk result (λ read. KeysAscend (view value.now)) }
 {
     match value.as_object() {

@@ -53,7 +53,8 @@ impl Why {
     /// memory.
     pub fn read(text: &str) -> Option<Why>
         ensures found { IfSome result (λ why. word_of why ≡ text.now) }
-        ensures known { (why : Why) → HasSmallNumber why → word_of why ≡ text.now → result ≡ Some why }
+        ensures known { (why : Why) → HasSmallNumber why → word_of why ≡ text.now → result ≡ Some
+            why }
     {
         match text.split_once(':') {
             None => named(text, None),
@@ -124,7 +125,8 @@ fn first_named<'a>(whys: &'a [Why], name: &str) -> Option<&'a Why>
 /// The fault with this name and number, or without a number.
 fn named(name: &str, number: Option<u32>) -> Option<Why>
     ensures found { IfSome result (λ why. (name_of why ≡ name.now) × (number_in why ≡ number)) }
-    ensures known { (why : Why) → name_of why ≡ name.now → number_in why ≡ number → result ≡ Some why }
+    ensures known { (why : Why) → name_of why ≡ name.now → number_in why ≡ number → result ≡ Some
+        why }
 {
     match number {
         None => first_named(&PLAIN, name).copied(),
@@ -143,5 +145,6 @@ fn named(name: &str, number: Option<u32>) -> Option<Why>
 
 /// No two faults have one word, so a word is read as the fault that it was printed for.
 pub fn word_rule()
-    ensures { (one other : Why) → HasSmallNumber one → HasSmallNumber other → word_of one ≡ word_of other → one ≡ other }
+    ensures { (one other : Why) → HasSmallNumber one → HasSmallNumber other →
+        word_of one ≡ word_of other → one ≡ other }
 {}

@@ -1,4 +1,5 @@
 mod OverrideLemmas
 mod KeyLemmas
+mod FeatureOrders
 pub mod TellingLemmas
 pub mod DocumentLemmas

@@ -1,6 +1,6 @@
 -- What the parts of a manifest give, and where what they tell stands.
 use Rattle.std.proofs.Common.{◌≡◌, ℕ, Bool, true, false, List, [], ◌∷◌, ◌++◌, inl, inr, refl, sym, subst}
-use Rattle.std.specs.Prelude.{Option, Some, None, IfSome, IsSome, Ok, Err, codes, if◌then◌else◌}
+use Rattle.std.specs.Prelude.{Option, Some, None, IfSome, IsSome, Result, Ok, Err, codes, if◌then◌else◌}
 use Rattle.std.specs.List.{All, Contains, list_any}
 use Rattle.std.specs.Str.{bytes_eq}
 use Rattle.std.proofs.lemmas.List.{map-append}
@@ -10,11 +10,12 @@ use Rattle.serde_json.specs.Data.{Data}
 use Rattle.serde_json.specs.Data as json
 use Rattle.serde_json.specs.Find.{get}
 use Rattle.vk_spec.specs.Lists.{NoRepeats}
-use Rattle.vk_spec.specs.Manifests.{Override, Manifest}
+use Rattle.vk_spec.specs.Manifests.{Feature, Override, Manifest}
 use Rattle.vk_spec.proofs.ListLemmas.{contains_nothing, contains_cases, no_repeats_push}
 use Rattle.vk_base.specs.Names.{IsName, IsFeatureName, port_rule, reads_feature}
 use Rattle.vk_base.proofs.NameLemmas.{neither}
 use Rattle.vk_spec.specs.Conditions.{Condition, always}
+use Rattle.vk_json.specs.declared.faults.FileFault.{FileFault}
 use Rattle.vk_json.specs.declared.faults.Why.TheVariants as why
 use Rattle.vk_json.specs.Places.{at_member}
 use Rattle.vk_json.specs.Readings.{bool_at, optional, each_item, each_member}
@@ -24,7 +25,9 @@ use Rattle.vk_fields.specs.Texts.{port_name_at, feature_name_at, expression_at, 
 use Rattle.vk_fields.specs.Versions.{key_of, scheme_needed, written_ask_under}
 use Rattle.vk_fields.proofs.TellingLemmas.{name_there, said_says, feature_keeps, port_name_says, feature_name_says, expression_says, ask_says, scheme_needed_says, version_says, version_needed_says, written_ask_says}
 use Rattle.vk_manifest.specs.Manifests.{condition_under, use_of_text, use_of_object, use_at, uses_under, dependency_of_text, dependency_with, dependency_of_object, dependency_at, dependencies_in, feature_at, features_in, new_name, new_name_at, override_ask_at, override_from, names_of, overrides_at, overrides_in, name_in, version_in, overrides_if, manifest_at}
-use Rattle.vk_manifest.specs.Names.{IsNamedUse, IsNamedDependency, IsNamedFeature, IsNamedOverride, IsNamed, IsPort}
+use Rattle.vk_json.specs.KeyOrders.{Ascend}
+use Rattle.vk_manifest.proofs.FeatureOrders.{AllAscend, features_ascend}
+use Rattle.vk_manifest.specs.Names.{feature_names, IsNamedUse, IsNamedDependency, IsNamedFeature, IsNamedOverride, IsNamed, IsPort}
 
 condition_says : (key : List ℕ) → Reads Anything (condition_under key)
 condition_says key d = optional_or_says Anything expression_at expression_says key d always tt
@@ -192,19 +195,31 @@ is_port : (root : Bool) (m : Manifest Condition) → IsNeeded root m.name → Is
 is_port true m name version overrides = tt
 is_port false m name version overrides = record { named = name; versioned = version; sets_none = overrides }
 
--- the names are names, and a port has what it needs
-abbrev pub IsRead : Bool → Manifest Condition → Type 0
-IsRead root m = IsNamed m × IsPortUnless root m
+-- what is said of a value, and what its reading gives besides
+says_and : {A : Type 0} (P R : A → Type 0) (d : Data) (r : Result A FileFault) → Says P d r → ((x : A) → r ≡ Ok x → R x) → Says (λ x. P x × R x) d r
+says_and P R d (Ok x) says gives = (says, gives x refl)
+says_and P R d (Err e) says gives = says
 
-pub manifest_says : (root : Bool) → Reads (IsRead root) (manifest_at root)
+-- the features that are read ascend where the keys of each object do
+abbrev FeaturesAre : Data → List (Feature Condition) → Type 0
+FeaturesAre d features = All IsNamedFeature features × (AllAscend d → Ascend (feature_names features))
+
+features_are : (d : Data) → Says (FeaturesAre d) d (features_in d)
+features_are d = says_and (All IsNamedFeature) (λ features. AllAscend d → Ascend (feature_names features)) d (features_in d) (features_says d) (λ features e. features_ascend d features e)
+
+-- the names are names, and a port has what it needs
+abbrev pub IsRead : Bool → Data → Manifest Condition → Type 0
+IsRead root d m = (AllAscend d → IsNamed m) × IsPortUnless root m
+
+pub manifest_says : (root : Bool) (d : Data) → Says (IsRead root d) d (manifest_at root d)
 unfolding manifest_at
 manifest_says root d =
-    says_then Anything (IsRead root) d _ _ (object_says d) (λ object any.
-    says_then (λ name. IfSome name (IsName port_rule) × IsNeeded root name) (IsRead root) d _ _ (name_says root d) (λ name own.
-    says_then (IsNeeded root) (IsRead root) d _ _ (version_in_says root d) (λ version needed.
-    says_then Anything (IsRead root) d _ _ (condition_says (codes "supports") d) (λ supports any.
-    says_then (All IsNamedDependency) (IsRead root) d _ _ (dependencies_says d) (λ dependencies wants.
-    says_then (All IsNamedUse) (IsRead root) d _ _ (uses_says (codes "default-features") d) (λ defaults uses.
-    says_then (All IsNamedFeature) (IsRead root) d _ _ (features_says d) (λ features offers.
-    says_then (λ overrides. AreNew overrides × IsRootsOwn root overrides) (IsRead root) d _ _ (overrides_if_says root d) (λ overrides sets.
-    (record { own = own.0; wants = wants; defaults = uses; offers = offers; sets = sets.0.0; once = sets.0.1 }, is_port root _ own.1 needed sets.1)))))))))
+    says_then Anything (IsRead root d) d _ _ (object_says d) (λ object any.
+    says_then (λ name. IfSome name (IsName port_rule) × IsNeeded root name) (IsRead root d) d _ _ (name_says root d) (λ name own.
+    says_then (IsNeeded root) (IsRead root d) d _ _ (version_in_says root d) (λ version needed.
+    says_then Anything (IsRead root d) d _ _ (condition_says (codes "supports") d) (λ supports any.
+    says_then (All IsNamedDependency) (IsRead root d) d _ _ (dependencies_says d) (λ dependencies wants.
+    says_then (All IsNamedUse) (IsRead root d) d _ _ (uses_says (codes "default-features") d) (λ defaults uses.
+    says_then (FeaturesAre d) (IsRead root d) d _ _ (features_are d) (λ features offers.
+    says_then (λ overrides. AreNew overrides × IsRootsOwn root overrides) (IsRead root d) d _ _ (overrides_if_says root d) (λ overrides sets.
+    (λ ascend. record { own = own.0; wants = wants; defaults = uses; offers = offers.0; order = offers.1 ascend; sets = sets.0.0; once = sets.0.1 }, is_port root _ own.1 needed sets.1)))))))))

@@ -5,10 +5,15 @@ use Rattle.serde_json.specs.Data.{Data}
 use Rattle.serde_json.specs.Find.{get}
 
 abbrev pub manifest_keys : List (List ℕ)
-manifest_keys = codes "name" ∷ codes "version" ∷ codes "version-semver" ∷ codes "version-date" ∷ codes "version-string" ∷ codes "port-version" ∷ codes "supports" ∷ codes "dependencies" ∷ codes "default-features" ∷ codes "features" ∷ codes "overrides" ∷ []
+manifest_keys =
+    codes "name" ∷ codes "version" ∷ codes "version-semver" ∷ codes "version-date"
+    ∷ codes "version-string" ∷ codes "port-version" ∷ codes "supports" ∷ codes "dependencies"
+    ∷ codes "default-features" ∷ codes "features" ∷ codes "overrides" ∷ []
 
 abbrev pub dependency_keys : List (List ℕ)
-dependency_keys = codes "name" ∷ codes "default-features" ∷ codes "features" ∷ codes "host" ∷ codes "platform" ∷ codes "version>=" ∷ []
+dependency_keys =
+    codes "name" ∷ codes "default-features" ∷ codes "features" ∷ codes "host"
+    ∷ codes "platform" ∷ codes "version>=" ∷ []
 
 -- of a feature that a list names
 abbrev pub use_keys : List (List ℕ)
@@ -18,7 +23,9 @@ abbrev pub feature_keys : List (List ℕ)
 feature_keys = codes "dependencies" ∷ codes "supports" ∷ []
 
 abbrev pub override_keys : List (List ℕ)
-override_keys = codes "name" ∷ codes "version" ∷ codes "version-semver" ∷ codes "version-date" ∷ codes "version-string" ∷ codes "port-version" ∷ []
+override_keys =
+    codes "name" ∷ codes "version" ∷ codes "version-semver" ∷ codes "version-date"
+    ∷ codes "version-string" ∷ codes "port-version" ∷ []
 
 -- two values have the same members under these keys
 abbrev pub AgreeOn : List (List ℕ) → Data → Data → Type 0

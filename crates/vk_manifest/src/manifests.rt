@@ -107,8 +107,8 @@ pub fn read_manifest_in(
     Ok(manifest)
 }
 
-/// The manifest that bytes are, of the root or of a port. The fault is the first one in the order of
-/// reading, with its place (a JSON Pointer, RFC 6901) and its word: the object, its name, its
+/// The manifest that bytes are, of the root or of a port. The fault is the first one in the order
+/// of reading, with its place (a JSON Pointer, RFC 6901) and its word: the object, its name, its
 /// version, `supports`, `dependencies`, `default-features`, `features`, and a root's `overrides`.
 pub fn read_manifest(alloc: Global, bytes: &[u8], root: bool) -> Result<Manifest, Unread<FileFault>>
     requires { length bytes.now < 2 ^ 32 }

@@ -1,7 +1,5 @@
 //! The versions that a root sets.
-ghost use Rattle.std.specs.Prelude.{◌≡◌, ◌==◌, List, map, codes, ◌++◌, [], ◌∷◌, Result, IfOk, OnOk};
-ghost use Rattle.std.specs.List.{list_any};
-ghost use Rattle.std.specs.Str.{bytes_eq};
+ghost use Rattle.std.specs.Prelude.{◌≡◌, ◌++◌, List, [], ◌∷◌, map, IfOk, OnOk};
 ghost use Rattle.serde_json.specs.View.{view};
 ghost use Rattle.vk_spec.specs.Reading.{Gives, read_after};
 ghost use Rattle.vk_spec.specs.Manifests as plain;
@@ -68,7 +66,8 @@ fn read_override(
     value: &Value,
     names: &mut IndexSet<PortName>,
 ) -> Result<Override, Unread<FileFault>>
-    ensures value { Gives override_view fault_in result (override_from names.old.keys (view value.now)) }
+    ensures value { Gives override_view fault_in result
+        (override_from names.old.keys (view value.now)) }
     ensures noted { IfOk result (λ o. names.new.keys ≡ names.old.keys ++ o.name ∷ []) }
 {
     object(alloc, value)?;
@@ -83,7 +82,8 @@ fn read_item(
     value: &Value,
     names: &mut IndexSet<PortName>,
 ) -> Result<Override, Unread<FileFault>>
-    ensures value { Gives override_view fault_in result (inside (item_step n) (override_from names.old.keys (view value.now))) }
+    ensures value { Gives override_view fault_in result
+        (inside (item_step n) (override_from names.old.keys (view value.now))) }
     ensures noted { IfOk result (λ o. names.new.keys ≡ names.old.keys ++ o.name ∷ []) }
 {
     match read_override(alloc, value, names) {
@@ -93,7 +93,8 @@ fn read_item(
 }
 
 fn read_items(alloc: Global, values: &[Value]) -> Result<List<Override>, Unread<FileFault>>
-    ensures { Gives (map override_view) fault_in result (read_after override_item [] 0 (map view values.now)) }
+    ensures { Gives (map override_view) fault_in result
+        (read_after override_item [] 0 (map view values.now)) }
 {
     let mut read = List::new(alloc);
     let mut names = IndexSet::new(alloc);

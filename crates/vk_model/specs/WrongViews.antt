@@ -25,7 +25,8 @@ abbrev pub wrong_view : Wrong → plain.Wrong
 wrong_view wrong.NoRegistry = plain.no_registry
 wrong_view wrong.NoBaseline = plain.no_baseline
 wrong_view (wrong.BadFile path place why) = plain.bad_file path place (word_of why)
-wrong_view (wrong.Disagrees path f table manifest) = plain.disagrees path (field_view f) table manifest
+wrong_view (wrong.Disagrees path f table manifest) =
+    plain.disagrees path (field_view f) table manifest
 
 abbrev pub given_view : Given → plain.Given
 given_view (given.Overlay v) = plain.overlay v
@@ -40,5 +41,6 @@ or_wrong view (Err e) = Err (wrong_view e)
 abbrev pub given_said : Result Given Wrong → Result plain.Given plain.Wrong
 given_said = or_wrong given_view
 
-abbrev pub manifest_said : {Z : Type 0} → Result (Rc Manifest Z) Wrong → Result (manifests.Manifest Condition) plain.Wrong
+abbrev pub manifest_said : {Z : Type 0}
+    → Result (Rc Manifest Z) Wrong → Result (manifests.Manifest Condition) plain.Wrong
 manifest_said = or_wrong (λ m. manifest_view m.value)

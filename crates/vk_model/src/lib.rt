@@ -1,6 +1,6 @@
-//! The types that readers, resolution and reports share: a manifest as it was read, the project that
-//! the words name, what a plan is made under, and what is given of a port or wrong with it. They
-//! promise upwards what their views say: plain data, nothing hidden.
+//! The types that readers, resolution and reports share: a manifest as it was read, the project
+//! that the words name, what a plan is made under, and what is given of a port or wrong with it.
+//! They promise upwards what their views say: plain data, nothing hidden.
 #![tactic(auto)]
 
 mod earlies;

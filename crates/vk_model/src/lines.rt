@@ -39,12 +39,7 @@ pub fn path_token(alloc: Global, path: &TreePath) -> Result<Text, Memory>
 }
 
 /// `bad-file`, the file, the place in it and the word for what is wrong there.
-pub fn file_line(
-    alloc: Global,
-    path: &TreePath,
-    place: &Text,
-    why: Why,
-) -> Result<Text, Memory>
+pub fn file_line(alloc: Global, path: &TreePath, place: &Text, why: Why) -> Result<Text, Memory>
     ensures { IfOk result (λ t. t ≡ file_line path.now place.now (word_of why)) }
 {
     let path = path_token(alloc, path)?;
@@ -89,7 +84,8 @@ fn disagrees_line(
     table: &Text,
     manifest: &Text,
 ) -> Result<Text, Memory>
-    ensures { IfOk result (λ t. t ≡ disagrees_line path.now (field_view field) table.now manifest.now) }
+    ensures { IfOk result
+        (λ t. t ≡ disagrees_line path.now (field_view field) table.now manifest.now) }
 {
     let path = path_token(alloc, path)?;
     let said = both_said(alloc, table, manifest)?;

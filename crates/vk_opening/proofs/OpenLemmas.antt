@@ -33,7 +33,7 @@ pub found_is : (project : Project) (root : Root) (config : Config) (found : Foun
     → found.own.folder ≡ project.folder → found.own.overrides ≡ root.manifest.overrides
     → found.own.features ≡ project.features
     → opening_with project (root_view root) config (triplets_view found.triplets) (map overlay_view found.overlays)
-        ≡ opening_found project (root_view root) config found
+    ≡ opening_found project (root_view root) config found
 found_is project root config found folder overrides features = rw (folder, overrides, features) refl
 
 -- a stop is the same under any view

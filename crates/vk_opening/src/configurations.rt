@@ -14,7 +14,8 @@ ghost use Rattle.vk_files.specs.Readings.{ReadsAs, told_at};
 ghost use Rattle.vk_model.specs.EarlyViews.{early_view};
 ghost use Rattle.vk_opening.specs.Projects.{manifest_path, config_path};
 ghost use Rattle.vk_opening.specs.Roots.{or_early, early_at};
-ghost use Rattle.vk_opening.specs.Configurations.{has_configuration, only_of, embedded_in, alone_in, config_by, config_in};
+ghost use Rattle.vk_opening.specs.Configurations.{has_configuration, only_of, embedded_in};
+ghost use Rattle.vk_opening.specs.Configurations.{alone_in, config_by, config_in};
 
 use crate::projects::{config_path, manifest_path};
 use crate::readings::{bad_file, read_early, standing};
@@ -53,7 +54,8 @@ fn has_configuration(document: &Value) -> bool
 
 // The configuration that counts, by what the root manifest has of it.
 fn only_of(alloc: Global, embedded: Embedded) -> Result<Config, Stop<Early>>
-    ensures given { Gives config_view (fault_seen early_view) result (only_of (embedded_view embedded)) }
+    ensures given { Gives config_view (fault_seen early_view) result
+        (only_of (embedded_view embedded)) }
     ensures calm { has_failed result ≡ false }
 {
     match embedded {
@@ -74,7 +76,8 @@ fn read_embedded(
     folder: &TreePath,
     document: &Value,
 ) -> Result<Embedded, Stop<Early>>
-    ensures given { Gives embedded_view (fault_seen early_view) result (or_early (told_at (manifest_path folder.now) (embedded_at (view document.now)))) }
+    ensures given { Gives embedded_view (fault_seen early_view) result
+        (or_early (told_at (manifest_path folder.now) (embedded_at (view document.now)))) }
     ensures calm { has_failed result ≡ false }
 {
     let path = manifest_path(alloc, folder)?;
@@ -86,7 +89,8 @@ fn read_embedded(
 
 // The configuration in the root manifest.
 fn embedded_in(alloc: Global, folder: &TreePath, document: &Value) -> Result<Config, Stop<Early>>
-    ensures given { Gives config_view (fault_seen early_view) result (embedded_in folder.now (view document.now)) }
+    ensures given { Gives config_view (fault_seen early_view) result
+        (embedded_in folder.now (view document.now)) }
     ensures calm { has_failed result ≡ false }
 {
     only_of(alloc, read_embedded(alloc, folder, document)?)
@@ -99,7 +103,8 @@ fn config_file<T: Tree>(
     tree: &mut T,
     folder: &TreePath,
 ) -> Result<Config, Stop<Early>>
-    ensures { ReadsAs early_view config_view result (early_at config_of (config_path folder.now)) (held files.old (T.state tree.old)) (held files.new (T.state tree.new)) }
+    ensures { ReadsAs early_view config_view result (early_at config_of (config_path folder.now))
+        (held files.old (T.state tree.old)) (held files.new (T.state tree.new)) }
 {
     let path = config_path(alloc, folder)?;
     read_early(alloc, files, tree, &path, &ConfigFile)
@@ -113,7 +118,8 @@ fn alone_in<T: Tree>(
     folder: &TreePath,
     document: &Value,
 ) -> Result<Config, Stop<Early>>
-    ensures { ReadsAs early_view config_view result (alone_in folder.now (view document.now)) (held files.old (T.state tree.old)) (held files.new (T.state tree.new)) }
+    ensures { ReadsAs early_view config_view result (alone_in folder.now (view document.now))
+        (held files.old (T.state tree.old)) (held files.new (T.state tree.new)) }
 {
     if has_configuration(document) {
         return Err(Stop::Fault(Early::TwoConfigurations));
@@ -130,7 +136,9 @@ fn config_by<T: Tree>(
     folder: &TreePath,
     document: &Value,
 ) -> Result<Config, Stop<Early>>
-    ensures { ReadsAs early_view config_view result (config_by (standing_view standing) folder.now (view document.now)) (held files.old (T.state tree.old)) (held files.new (T.state tree.new)) }
+    ensures { ReadsAs early_view config_view result
+        (config_by (standing_view standing) folder.now (view document.now))
+        (held files.old (T.state tree.old)) (held files.new (T.state tree.new)) }
 {
     match standing {
         Standing::Missing => embedded_in(alloc, folder, document),
@@ -147,7 +155,8 @@ pub fn read_configuration<T: Tree>(
     folder: &TreePath,
     document: &Value,
 ) -> Result<Config, Stop<Early>>
-    ensures { ReadsAs early_view config_view result (config_in folder.now (view document.now)) (held files.old (T.state tree.old)) (held files.new (T.state tree.new)) }
+    ensures { ReadsAs early_view config_view result (config_in folder.now (view document.now))
+        (held files.old (T.state tree.old)) (held files.new (T.state tree.new)) }
 {
     let path = config_path(alloc, folder)?;
     let standing = standing(files, tree, &path)?;

@@ -16,20 +16,35 @@ ghost use Rattle.vk_opening.specs.TripletFiles.{triplet_in, triplet_at};
 /// Where a root manifest reads, two configurations are refused whatever they hold: one in it beside a
 /// file, or two in it. A configuration file that is too long is told before that.
 pub fn two_places()
-    ensures beside { (project : Project) (root : Root) (files : Files) → early_at root_in (manifest_path project.folder) files ≡ Ok root → has_configuration root.document ≡ true → standing_at (config_path project.folder) files ≡ readable → opened_of project files ≡ Err two_configurations }
-    ensures within { (project : Project) (root : Root) (files : Files) → early_at root_in (manifest_path project.folder) files ≡ Ok root → has_both root.document ≡ true → standing_at (config_path project.folder) files ≡ missing → opened_of project files ≡ Err two_configurations }
-    ensures long { (project : Project) (root : Root) (files : Files) → early_at root_in (manifest_path project.folder) files ≡ Ok root → standing_at (config_path project.folder) files ≡ too_long → opened_of project files ≡ Err (bad_file (config_path project.folder) [] (codes "large")) }
+    ensures beside { (project : Project) (root : Root) (files : Files) → early_at root_in
+        (manifest_path project.folder) files ≡ Ok root → has_configuration root.document ≡ true →
+        standing_at (config_path project.folder) files ≡ readable → opened_of project files ≡ Err
+        two_configurations }
+    ensures within { (project : Project) (root : Root) (files : Files) → early_at root_in
+        (manifest_path project.folder) files ≡ Ok root → has_both root.document ≡ true → standing_at
+        (config_path project.folder) files ≡ missing → opened_of project files ≡ Err
+        two_configurations }
+    ensures long { (project : Project) (root : Root) (files : Files) → early_at root_in
+        (manifest_path project.folder) files ≡ Ok root → standing_at (config_path project.folder)
+        files ≡ too_long → opened_of project files ≡ Err
+        (bad_file (config_path project.folder) [] (codes "large")) }
 {}
 
 /// A triplet is that of the first folder that has its file, whatever the later folders have; and where
 /// none has it, that is told.
 pub fn first_triplet()
-    ensures first { (name : List ℕ) (front rest : List Path) (folder : Path) (files : Files) → NoneHas name front files → is_at files (triplet_path name folder) ≡ true → triplet_at name (front ++ folder ∷ rest) files ≡ early_at (triplet_in name) (triplet_path name folder) files }
-    ensures none { (name : List ℕ) (folders : List Path) (files : Files) → NoneHas name folders files → triplet_at name folders files ≡ Err (no_triplet name) }
+    ensures first { (name : List ℕ) (front rest : List Path) (folder : Path) (files : Files) →
+        NoneHas name front files → is_at files (triplet_path name folder) ≡ true → triplet_at name
+        (front ++ folder ∷ rest) files ≡ early_at (triplet_in name) (triplet_path name folder)
+        files }
+    ensures none { (name : List ℕ) (folders : List Path) (files : Files) → NoneHas name folders
+        files → triplet_at name folders files ≡ Err (no_triplet name) }
 {}
 
 /// What an opened project gives is decided by its early files alone: whatever else stands in the tree,
 /// it is the same.
 pub fn early_files()
-    ensures { (project : Project) (opening : Opening) (one other : Files) → AgreeAt (early_paths project opening.start.config) one other → opened_of project one ≡ Ok opening → opened_of project other ≡ Ok opening }
+    ensures { (project : Project) (opening : Opening) (one other : Files) → AgreeAt
+        (early_paths project opening.start.config) one other → opened_of project one ≡ Ok opening →
+        opened_of project other ≡ Ok opening }
 {}

@@ -99,7 +99,8 @@ fn triplets_of<T: Tree>(
     project: &Project,
     config: &Config,
 ) -> Result<Triplets, Stop<Early>>
-    ensures { ReadsAs early_view triplets_view result (triplets_of project.now (config_view config.now))
+    ensures { ReadsAs early_view triplets_view result
+        (triplets_of project.now (config_view config.now))
         (held files.old (T.state tree.old)) (held files.new (T.state tree.new)) }
 {
     let configured = config.overlay_triplets.as_slice();
@@ -127,7 +128,8 @@ fn overlays_of<T: Tree>(
     project: &Project,
     config: &Config,
 ) -> Result<List<Overlay>, Stop<Early>>
-    ensures { ReadsAs early_view (λ l. map overlay_view l) result (overlays_of project.now (config_view config.now))
+    ensures { ReadsAs early_view (λ l. map overlay_view l) result
+        (overlays_of project.now (config_view config.now))
         (held files.old (T.state tree.old)) (held files.new (T.state tree.new)) }
 {
     let configured = config.overlay_ports.as_slice();

@@ -49,7 +49,8 @@ pub fn read_early<R: FileReader, T: Tree>(
     path: &TreePath,
     reader: &R,
 ) -> Result<R::Out, Stop<Early>>
-    ensures { ReadsAs early_view R.plain result (early_at (R.reads reader.now) path.now) (held files.old (T.state tree.old)) (held files.new (T.state tree.new)) }
+    ensures { ReadsAs early_view R.plain result (early_at (R.reads reader.now) path.now)
+        (held files.old (T.state tree.old)) (held files.new (T.state tree.new)) }
 {
     match files::read_file(alloc, files, tree, path, reader) {
         Ok(out) => Ok(out),
@@ -63,7 +64,8 @@ pub fn standing<T: Tree>(
     tree: &mut T,
     path: &TreePath,
 ) -> Result<Standing, Stop<Early>>
-    ensures { ReadsAs early_view standing_view result (λ files. Ok (standing_at path.now files)) (held files.old (T.state tree.old)) (held files.new (T.state tree.new)) }
+    ensures { ReadsAs early_view standing_view result (λ files. Ok (standing_at path.now files))
+        (held files.old (T.state tree.old)) (held files.new (T.state tree.new)) }
 {
     match files::file_standing(files, tree, path) {
         Ok(standing) => Ok(standing),

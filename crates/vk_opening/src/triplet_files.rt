@@ -73,7 +73,8 @@ fn triplet_file<T: Tree>(
     name: &TripletName,
     folders: &[TreePath],
 ) -> Result<Option<TreePath>, Stop<Early>>
-    ensures { ReadsAs early_view (λ path. path) result (λ files. Ok (triplet_file name.now folders.now files))
+    ensures { ReadsAs early_view (λ path. path) result
+        (λ files. Ok (triplet_file name.now folders.now files))
         (held files.old (T.state tree.old)) (held files.new (T.state tree.new)) }
 {
     for folder in folders {
@@ -86,7 +87,8 @@ fn triplet_file<T: Tree>(
 }
 
 fn no_triplet(name: &TripletName) -> Stop<Early>
-    ensures told { Fails {Y = plain.Triplet} (fault_seen early_view result) (Err (early.no_triplet name.now)) }
+    ensures told { Fails {Y = plain.Triplet} (fault_seen early_view result)
+        (Err (early.no_triplet name.now)) }
     ensures calm { is_failure result ≡ false }
 {
     match name.clone() {

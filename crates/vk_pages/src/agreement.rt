@@ -11,7 +11,8 @@ ghost use Rattle.vk_catalogue.specs.Views.{field_view, wrong_view};
 ghost use Rattle.vk_base.specs.Stops.{has_failed};
 ghost use Rattle.vk_files.specs.StopViews.{fault_seen};
 ghost use Rattle.vk_pages.specs.Wrongs.{stated_version};
-ghost use Rattle.vk_pages.specs.Agreement.{class_word, name_text, same_in, named, version_agrees, agreeing};
+ghost use Rattle.vk_pages.specs.Agreement.{class_word, name_text, same_in, named, version_agrees};
+ghost use Rattle.vk_pages.specs.Agreement.{agreeing};
 
 use std::alloc::Global;
 use vk_base::{Memory, PortName, Stop, Text, TreePath};
@@ -38,7 +39,8 @@ fn disagreement(
     said: &str,
     found: &str,
 ) -> Result<Wrong, Memory>
-    ensures { IfOk result (λ w. wrong_view w ≡ disagrees path.now (field_view field) said.now found.now) }
+    ensures { IfOk result
+        (λ w. wrong_view w ≡ disagrees path.now (field_view field) said.now found.now) }
 {
     Ok(Wrong::Disagrees {
         path: path.clone()?,
@@ -56,7 +58,8 @@ fn same_in(
     said: &str,
     found: &str,
 ) -> Result<(), Stop<Wrong>>
-    ensures told { Gives (λ done. tt) (fault_seen wrong_view) result (same_in path.now (field_view field) said.now found.now) }
+    ensures told { Gives (λ done. tt) (fault_seen wrong_view) result
+        (same_in path.now (field_view field) said.now found.now) }
     ensures calm { has_failed result ≡ false }
 {
     if said == found {
@@ -81,7 +84,8 @@ pub fn named(
     port: &PortName,
     manifest: &Manifest,
 ) -> Result<(), Stop<Wrong>>
-    ensures told { Gives (λ done. tt) (fault_seen wrong_view) result (named path.now port.now (manifest_view manifest.now)) }
+    ensures told { Gives (λ done. tt) (fault_seen wrong_view) result
+        (named path.now port.now (manifest_view manifest.now)) }
     ensures calm { has_failed result ≡ false }
 {
     same_in(alloc, path, Field::Name, port.as_str(), name_text(manifest))
@@ -104,7 +108,8 @@ pub fn stated_version<'a>(
     path: &TreePath,
     manifest: &'a Manifest,
 ) -> Result<&'a Version, Stop<Wrong>>
-    ensures told { Gives (λ v. v.now) (fault_seen wrong_view) result (stated_version path.now (manifest_view manifest.now)) }
+    ensures told { Gives (λ v. v.now) (fault_seen wrong_view) result
+        (stated_version path.now (manifest_view manifest.now)) }
     ensures calm { has_failed result ≡ false }
 {
     match &manifest.version {
@@ -114,7 +119,8 @@ pub fn stated_version<'a>(
 }
 
 fn same_port(alloc: Global, path: &TreePath, said: u32, found: u32) -> Result<(), Stop<Wrong>>
-    ensures told { Gives (λ done. tt) (fault_seen wrong_view) result (same_in path.now the.port (decimal said) (decimal found)) }
+    ensures told { Gives (λ done. tt) (fault_seen wrong_view) result
+        (same_in path.now the.port (decimal said) (decimal found)) }
     ensures calm { has_failed result ≡ false }
 {
     let said = format!(in alloc; "{said}")?;
@@ -130,7 +136,8 @@ fn version_agrees(
     said: &Version,
     found: &Version,
 ) -> Result<(), Stop<Wrong>>
-    ensures told { Gives (λ done. tt) (fault_seen wrong_view) result (version_agrees path.now said.now found.now) }
+    ensures told { Gives (λ done. tt) (fault_seen wrong_view) result
+        (version_agrees path.now said.now found.now) }
     ensures calm { has_failed result ≡ false }
 {
     let class = class_word(said.class());
@@ -151,7 +158,8 @@ pub fn agree(
     version: &Version,
     manifest: &Manifest,
 ) -> Result<(), Stop<Wrong>>
-    ensures told { Gives (λ done. tt) (fault_seen wrong_view) result (agreeing path.now port.now version.now (manifest_view manifest.now)) }
+    ensures told { Gives (λ done. tt) (fault_seen wrong_view) result
+        (agreeing path.now port.now version.now (manifest_view manifest.now)) }
     ensures calm { has_failed result ≡ false }
 {
     named(alloc, path, port, manifest)?;

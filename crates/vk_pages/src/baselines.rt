@@ -1,5 +1,6 @@
 //! The baselines that were read, so that each file is read and parsed once.
-ghost use Rattle.std.specs.Prelude.{◌≡◌, ◌<◌, ◌++◌, ◌∷◌, [], List, Result, Ok, None, IsSome, OnOk, false, option_map};
+ghost use Rattle.std.specs.Prelude.{◌≡◌, ◌<◌, ◌++◌, ◌∷◌, [], List, Result, Ok, None, IsSome, OnOk};
+ghost use Rattle.std.specs.Prelude.{false, option_map};
 ghost use Rattle.std.specs.Option.{option_copied};
 ghost use Rattle.indexmap.specs.IndexMap.{spare};
 ghost use Rattle.vk_spec.specs.Reading.{Gives, Fails};
@@ -35,7 +36,8 @@ pub struct Baselines {
 
 // A stop, which at a bad file is none.
 fn or_bad(stop: Stop<BadFile>) -> Result<Result<Baseline, BadFile>, Stop<Wrong>>
-    ensures told { (meaning : Result (List Entry) Bad) → Fails (fault_seen bad_view stop) meaning → Gives read_view (fault_seen wrong_view) result (Ok meaning) }
+    ensures told { (meaning : Result (List Entry) Bad) → Fails (fault_seen bad_view stop) meaning →
+        Gives read_view (fault_seen wrong_view) result (Ok meaning) }
     ensures failed { has_failed result ≡ is_failure stop }
 {
     match stop {
@@ -52,7 +54,9 @@ fn read_baseline<T: Tree>(
     tree: &mut T,
     served: &Served,
 ) -> Result<Result<Baseline, BadFile>, Stop<Wrong>>
-    ensures { ReadsAs wrong_view read_view result (λ f. Ok (baseline_file (served_view served.now) f)) (held files.old (T.state tree.old)) (held files.new (T.state tree.new)) }
+    ensures { ReadsAs wrong_view read_view result
+        (λ f. Ok (baseline_file (served_view served.now) f)) (held files.old (T.state tree.old))
+        (held files.new (T.state tree.new)) }
 {
     let path = baseline_path(alloc, &served.folder)?;
     let reader = NamedBaseline {
@@ -66,7 +70,8 @@ fn read_baseline<T: Tree>(
 
 // What a baseline has for a port.
 fn given_by_baseline(baseline: &Baseline, port: &PortName) -> Result<Given, Stop<Wrong>>
-    ensures told { Gives given_view (fault_seen wrong_view) result (baseline_given port.now (Ok baseline.now)) }
+    ensures told { Gives given_view (fault_seen wrong_view) result
+        (baseline_given port.now (Ok baseline.now)) }
     ensures calm { has_failed result ≡ false }
 {
     match baseline_of(baseline, port) {
@@ -77,7 +82,8 @@ fn given_by_baseline(baseline: &Baseline, port: &PortName) -> Result<Given, Stop
 
 // What a baseline that was read has for a port, or what is wrong with its file.
 fn given_in(read: &Result<Baseline, BadFile>, port: &PortName) -> Result<Given, Stop<Wrong>>
-    ensures told { Gives given_view (fault_seen wrong_view) result (baseline_given port.now (read_view read.now)) }
+    ensures told { Gives given_view (fault_seen wrong_view) result
+        (baseline_given port.now (read_view read.now)) }
     ensures calm { has_failed result ≡ false }
 {
     match read {
@@ -115,7 +121,10 @@ impl Baselines {
         served: &Served,
     ) -> Result<(), Stop<Wrong>>
         requires { note_at served.now.place (notes_of self.old) ≡ None }
-        ensures noted { (start : plain.Start) → served_at start served.now.place ≡ Ok (served_view served.now) → ReadsNoting wrong_view (λ done. tt) result nothing_said (AreBaselines start (notes_of self.old)) (AreBaselines start (notes_of self.new)) (held files.old (T.state tree.old)) (held files.new (T.state tree.new)) }
+        ensures noted { (start : plain.Start) → served_at start served.now.place ≡ Ok
+            (served_view served.now) → ReadsNoting wrong_view (λ done. tt) result nothing_said
+            (AreBaselines start (notes_of self.old)) (AreBaselines start (notes_of self.new))
+            (held files.old (T.state tree.old)) (held files.new (T.state tree.new)) }
         ensures there { OnOk result (IsSome (note_at served.now.place (notes_of self.new))) }
     {
         self.read.reserve(1)?;
@@ -132,7 +141,10 @@ impl Baselines {
         tree: &mut T,
         served: &Served,
     ) -> Result<(), Stop<Wrong>>
-        ensures noted { (start : plain.Start) → served_at start served.now.place ≡ Ok (served_view served.now) → ReadsNoting wrong_view (λ done. tt) result nothing_said (AreBaselines start (notes_of self.old)) (AreBaselines start (notes_of self.new)) (held files.old (T.state tree.old)) (held files.new (T.state tree.new)) }
+        ensures noted { (start : plain.Start) → served_at start served.now.place ≡ Ok
+            (served_view served.now) → ReadsNoting wrong_view (λ done. tt) result nothing_said
+            (AreBaselines start (notes_of self.old)) (AreBaselines start (notes_of self.new))
+            (held files.old (T.state tree.old)) (held files.new (T.state tree.new)) }
         ensures there { OnOk result (IsSome (note_at served.now.place (notes_of self.new))) }
     {
         if self.read.contains_key(&served.place) {
@@ -158,7 +170,11 @@ impl Baselines {
         served: &Served,
         port: &PortName,
     ) -> Result<Given, Stop<Wrong>>
-        ensures { (start : plain.Start) → served_at start served.now.place ≡ Ok (served_view served.now) → ReadsNoting wrong_view given_view result (baseline_for (served_view served.now) port.now) (AreBaselines start (notes_of self.old)) (AreBaselines start (notes_of self.new)) (held files.old (T.state tree.old)) (held files.new (T.state tree.new)) }
+        ensures { (start : plain.Start) → served_at start served.now.place ≡ Ok
+            (served_view served.now) → ReadsNoting wrong_view given_view result
+            (baseline_for (served_view served.now) port.now)
+            (AreBaselines start (notes_of self.old)) (AreBaselines start (notes_of self.new))
+            (held files.old (T.state tree.old)) (held files.new (T.state tree.new)) }
     {
         self.look(alloc, files, tree, served)?;
         given_in(self.get(served.place).unwrap(), port)

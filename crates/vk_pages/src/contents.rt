@@ -86,7 +86,8 @@ pub fn content<T: Tree, R: FileReader>(
     path: &TreePath,
     reader: &R,
 ) -> Result<R::Out, Stop<Wrong>>
-    ensures { ReadsAs wrong_view R.plain result (file_or_wrong (R.reads reader.now) path.now) (held files.old (T.state tree.old)) (held files.new (T.state tree.new)) }
+    ensures { ReadsAs wrong_view R.plain result (file_or_wrong (R.reads reader.now) path.now)
+        (held files.old (T.state tree.old)) (held files.new (T.state tree.new)) }
 {
     match read_file(alloc, files, tree, path, reader) {
         Ok(out) => Ok(out),
@@ -100,7 +101,8 @@ pub fn stands<T: Tree>(
     tree: &mut T,
     path: &TreePath,
 ) -> Result<bool, Stop<Wrong>>
-    ensures { ReadsAs wrong_view (λ b. b) result (λ f. Ok (is_at f path.now)) (held files.old (T.state tree.old)) (held files.new (T.state tree.new)) }
+    ensures { ReadsAs wrong_view (λ b. b) result (λ f. Ok (is_at f path.now))
+        (held files.old (T.state tree.old)) (held files.new (T.state tree.new)) }
 {
     match file_standing(files, tree, path) {
         Ok(standing) => Ok(standing.is_there()),

@@ -70,7 +70,10 @@ pub fn home_of<T: Tree>(
     tree: &mut T,
     port: &PortName,
 ) -> Result<Home, Stop<Wrong>>
-    ensures { ReadsNoting wrong_view home_view result (home_of (layout_view layout.now) port.now) (AreBaselines (layout_view layout.now) (notes_of baselines.old)) (AreBaselines (layout_view layout.now) (notes_of baselines.new)) (held files.old (T.state tree.old)) (held files.new (T.state tree.new)) }
+    ensures { ReadsNoting wrong_view home_view result (home_of (layout_view layout.now) port.now)
+        (AreBaselines (layout_view layout.now) (notes_of baselines.old))
+        (AreBaselines (layout_view layout.now) (notes_of baselines.new))
+        (held files.old (T.state tree.old)) (held files.new (T.state tree.new)) }
 {
     match overlay_for(alloc, layout.overlays.as_slice(), files, tree, port)? {
         Some(overlay) => home_in(alloc, files, tree, overlay, port),

@@ -44,7 +44,9 @@ fn holds_port<T: Tree>(
     folder: &TreePath,
     port: &PortName,
 ) -> Result<bool, Stop<Wrong>>
-    ensures { ReadsAs wrong_view (λ b. b) result (λ f. Ok (is_at f (manifest_path (port_folder folder.now port.now)))) (held files.old (T.state tree.old)) (held files.new (T.state tree.new)) }
+    ensures { ReadsAs wrong_view (λ b. b) result
+        (λ f. Ok (is_at f (manifest_path (port_folder folder.now port.now))))
+        (held files.old (T.state tree.old)) (held files.new (T.state tree.new)) }
 {
     let folder = port_folder(alloc, folder, port)?;
     let path = manifest_path(alloc, &folder)?;
@@ -58,7 +60,9 @@ fn has_port<T: Tree>(
     overlay: &Overlay,
     port: &PortName,
 ) -> Result<bool, Stop<Wrong>>
-    ensures { ReadsAs wrong_view (λ b. b) result (λ f. Ok (has_port port.now f (overlay_view overlay.now))) (held files.old (T.state tree.old)) (held files.new (T.state tree.new)) }
+    ensures { ReadsAs wrong_view (λ b. b) result
+        (λ f. Ok (has_port port.now f (overlay_view overlay.now)))
+        (held files.old (T.state tree.old)) (held files.new (T.state tree.new)) }
 {
     match overlay {
         Overlay::Port(_, manifest) => Ok(is_named(manifest, port)),
@@ -74,7 +78,9 @@ pub fn overlay_for<'a, T: Tree>(
     tree: &mut T,
     port: &PortName,
 ) -> Result<Option<&'a Overlay>, Stop<Wrong>>
-    ensures { ReadsAs wrong_view (option_map (λ o. overlay_view o.now)) result (λ f. Ok (overlay_for (map overlay_view overlays.now) port.now f)) (held files.old (T.state tree.old)) (held files.new (T.state tree.new)) }
+    ensures { ReadsAs wrong_view (option_map (λ o. overlay_view o.now)) result
+        (λ f. Ok (overlay_for (map overlay_view overlays.now) port.now f))
+        (held files.old (T.state tree.old)) (held files.new (T.state tree.new)) }
 {
     for overlay in overlays {
         if has_port(alloc, files, tree, overlay, port)? {
@@ -202,7 +208,8 @@ pub fn home_in<T: Tree>(
     overlay: &Overlay,
     port: &PortName,
 ) -> Result<Home, Stop<Wrong>>
-    ensures { ReadsAs wrong_view home_view result (home_in (overlay_view overlay.now) port.now) (held files.old (T.state tree.old)) (held files.new (T.state tree.new)) }
+    ensures { ReadsAs wrong_view home_view result (home_in (overlay_view overlay.now) port.now)
+        (held files.old (T.state tree.old)) (held files.new (T.state tree.new)) }
 {
     match overlay {
         Overlay::Port(folder, manifest) => port_home(alloc, folder, manifest),

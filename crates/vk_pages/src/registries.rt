@@ -10,7 +10,8 @@ ghost use Rattle.vk_base.specs.Stops.{has_failed};
 ghost use Rattle.vk_files.specs.StopViews.{fault_seen};
 ghost use Rattle.vk_files.specs.Readings.{ReadsAs, ReadsNoting};
 ghost use Rattle.vk_opening.specs.Starts as plain;
-ghost use Rattle.vk_pages.specs.Homes.{served_at, override_for, given_by, table_in, served_home, registry_home};
+ghost use Rattle.vk_pages.specs.Homes.{served_at, override_for, given_by, table_in, served_home};
+ghost use Rattle.vk_pages.specs.Homes.{registry_home};
 ghost use Rattle.vk_pages.specs.BaselineNotes.{AreBaselines};
 ghost use Rattle.vk_pages.specs.HomeViews.{home_view, table_home, layout_view, served_view};
 ghost use Rattle.vk_pages.specs.NoteViews.{notes_of};
@@ -31,7 +32,8 @@ use vk_version::Ask;
 
 // What the root manifest sets for a port.
 fn override_for<'a>(overrides: &'a [Override], port: &PortName) -> Option<&'a Ask>
-    ensures { option_map (λ a. ask_view a.now) result ≡ override_for (map override_view overrides.now) port.now }
+    ensures { option_map (λ a. ask_view a.now) result ≡ override_for
+        (map override_view overrides.now) port.now }
 {
     for one in overrides {
         if one.name.as_str() == port.as_str() {
@@ -42,7 +44,8 @@ fn override_for<'a>(overrides: &'a [Override], port: &PortName) -> Option<&'a As
 }
 
 fn override_given(ask: &Ask) -> Result<Given, Stop<Wrong>>
-    ensures told { Gives given_view (fault_seen wrong_view) result (Ok (override (ask_view ask.now))) }
+    ensures told { Gives given_view (fault_seen wrong_view) result
+        (Ok (override (ask_view ask.now))) }
     ensures calm { has_failed result ≡ false }
 {
     Ok(Given::Override(ask.clone()?))
@@ -58,7 +61,11 @@ fn given_by<T: Tree>(
     tree: &mut T,
     port: &PortName,
 ) -> Result<Given, Stop<Wrong>>
-    ensures { (start : plain.Start) → served_at start served.now.place ≡ Ok (served_view served.now) → ReadsNoting wrong_view given_view result (given_by (option_map (λ a. ask_view a.now) set.entry) (served_view served.now) port.now) (AreBaselines start (notes_of baselines.old)) (AreBaselines start (notes_of baselines.new)) (held files.old (T.state tree.old)) (held files.new (T.state tree.new)) }
+    ensures { (start : plain.Start) → served_at start served.now.place ≡ Ok (served_view served.now)
+        → ReadsNoting wrong_view given_view result
+        (given_by (option_map (λ a. ask_view a.now) set.entry) (served_view served.now) port.now)
+        (AreBaselines start (notes_of baselines.old)) (AreBaselines start (notes_of baselines.new))
+        (held files.old (T.state tree.old)) (held files.new (T.state tree.new)) }
 {
     match set {
         Some(ask) => override_given(ask),
@@ -73,7 +80,8 @@ fn table_in<T: Tree>(
     tree: &mut T,
     port: &PortName,
 ) -> Result<Table, Stop<Wrong>>
-    ensures { ReadsAs wrong_view (λ t. t) result (table_in (served_view served.now) port.now) (held files.old (T.state tree.old)) (held files.new (T.state tree.new)) }
+    ensures { ReadsAs wrong_view (λ t. t) result (table_in (served_view served.now) port.now)
+        (held files.old (T.state tree.old)) (held files.new (T.state tree.new)) }
 {
     let path = table_path(alloc, &served.folder, port)?;
     content(alloc, files, tree, &path, &PortTable)
@@ -141,7 +149,11 @@ pub fn registry_home<T: Tree>(
     tree: &mut T,
     port: &PortName,
 ) -> Result<Home, Stop<Wrong>>
-    ensures { ReadsNoting wrong_view home_view result (registry_home (layout_view layout.now) port.now) (AreBaselines (layout_view layout.now) (notes_of baselines.old)) (AreBaselines (layout_view layout.now) (notes_of baselines.new)) (held files.old (T.state tree.old)) (held files.new (T.state tree.new)) }
+    ensures { ReadsNoting wrong_view home_view result
+        (registry_home (layout_view layout.now) port.now)
+        (AreBaselines (layout_view layout.now) (notes_of baselines.old))
+        (AreBaselines (layout_view layout.now) (notes_of baselines.new))
+        (held files.old (T.state tree.old)) (held files.new (T.state tree.new)) }
 {
     let served = served_for(alloc, layout, port)?;
     let set = override_for(layout.overrides.as_slice(), port);

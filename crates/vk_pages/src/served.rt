@@ -28,7 +28,8 @@ pub struct Served<'a> {
 
 // The source at a place: their number is the default registry's.
 fn source_at(config: &Config, place: usize) -> Option<&Source>
-    ensures { option_map (λ s. source_view s.now) result ≡ source_at (config_view config.now) place }
+    ensures { option_map (λ s. source_view s.now) result ≡ source_at (config_view config.now)
+        place }
 {
     if place == config.registries.len() {
         return config.default.as_ref();
@@ -46,7 +47,8 @@ fn served_by<'a>(
     place: usize,
     source: &'a Source,
 ) -> Result<Served<'a>, Stop<Wrong>>
-    ensures told { Gives served_view (fault_seen wrong_view) result (served_by project.now (Some (source_view source.now))) }
+    ensures told { Gives served_view (fault_seen wrong_view) result
+        (served_by project.now (Some (source_view source.now))) }
     ensures place { IfOk result (λ s. s.place ≡ place) }
     ensures calm { has_failed result ≡ false }
 {
@@ -66,8 +68,10 @@ pub fn served_for<'a>(
     layout: &'a Layout,
     port: &PortName,
 ) -> Result<Served<'a>, Stop<Wrong>>
-    ensures told { Gives served_view (fault_seen wrong_view) result (served_for (layout_view layout.now) port.now) }
-    ensures place { IfOk result (λ s. served_at (layout_view layout.now) s.place ≡ Ok (served_view s)) }
+    ensures told { Gives served_view (fault_seen wrong_view) result
+        (served_for (layout_view layout.now) port.now) }
+    ensures place { IfOk result
+        (λ s. served_at (layout_view layout.now) s.place ≡ Ok (served_view s)) }
     ensures calm { has_failed result ≡ false }
 {
     let Some(place) = registry_of(&layout.config, port) else {

@@ -30,8 +30,9 @@ use Rattle.vk_json.specs.Readings.{members_at, object_at, member_at, pairs_of, e
 use Rattle.vk_fields.specs.Saying.{said_here}
 use Rattle.vk_fields.specs.Wording.{name_word}
 use Rattle.vk_fields.specs.Versions.{ask_under}
+use Rattle.vk_json.specs.KeyOrders.{KeysAscend}
 use Rattle.vk_registry.specs.Baselines.{Entry, is_note, entry_at, entry_unless_note, those_there}
-use Rattle.vk_registry.specs.Baselines.{IsInOrder, KeysAscend, ask_for}
+use Rattle.vk_registry.specs.Baselines.{IsInOrder, ask_for}
 use Rattle.vk_registry.specs.BaselineViews.{entry_view}
 use Rattle.vk_registry.specs.declared.baselines.BaselineEntry.{BaselineEntry}
 use Rattle.vk_version.specs.AskViews.{ask_view}

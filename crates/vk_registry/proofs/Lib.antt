@@ -1,4 +1,3 @@
-mod OrderLemmas
 mod StepLemmas
 mod AskLemmas
 mod FolderLemmas

@@ -1,5 +1,5 @@
 -- A baseline: what is asked for of each port where nothing else says so.
-use Rattle.std.specs.Prelude.{◌==◌, ℕ, Bool, List, [], ◌∷◌, Option, Some, None, IfSome, Result, Ok}
+use Rattle.std.specs.Prelude.{◌==◌, ℕ, Bool, List, [], ◌∷◌, Option, Some, None, Result, Ok}
 use Rattle.std.specs.Prelude.{codes, map, slice_index, if◌then◌else◌}
 use Rattle.std.specs.List.{flat_map}
 use Rattle.std.specs.List.Sorted.{IsStrictlySortedBy}
@@ -7,13 +7,11 @@ use Rattle.std.specs.Option.{option_to_list}
 use Rattle.std.specs.Ordering.{nat_cmp}
 use Rattle.std.specs.Cmp.Lexicographic.{slice_cmp}
 use Rattle.std.specs.Str.{bytes_eq}
-use Rattle.serde_json.specs.Data.{Data}
 use Rattle.vk_spec.specs.Reading.{◌>>=◌}
 use Rattle.vk_spec.specs.Versions.{Ask}
 use Rattle.vk_base.specs.Names.{reads_name, port_rule}
 use Rattle.vk_json.specs.Documents.{json_of}
 use Rattle.vk_json.specs.declared.faults.FileFault.{FileFault}
-use Rattle.vk_json.specs.Looks.{keys_of}
 use Rattle.vk_json.specs.Readings.{Reading, MemberReading, object_at, wanted, each_member}
 use Rattle.vk_fields.specs.Saying.{said_here}
 use Rattle.vk_fields.specs.Wording.{name_word}
@@ -56,10 +54,6 @@ baseline_at name d = object_at d >>= λ object. wanted entries_at name d
 -- the baseline of this name, by the file's bytes
 abbrev pub baseline_by : List ℕ → List ℕ → Result (List Entry) FileFault
 baseline_by name bytes = json_of bytes >>= baseline_at name
-
--- the keys of an object ascend
-abbrev pub KeysAscend : Data → Type 0
-KeysAscend d = IfSome (keys_of d) (IsStrictlySortedBy (slice_cmp nat_cmp))
 
 -- ports ascend, so each stands once
 abbrev pub IsInOrder : List Entry → Type 0

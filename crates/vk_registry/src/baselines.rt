@@ -6,12 +6,11 @@ ghost use Rattle.serde_json.specs.View.{view};
 ghost use Rattle.vk_spec.specs.Reading.{Gives};
 ghost use Rattle.vk_spec.specs.Versions as plain_version;
 ghost use Rattle.vk_version.specs.AskViews.{ask_view};
-ghost use Rattle.vk_json.specs.Looks.{keys_of};
 ghost use Rattle.vk_base.specs.Stops.{fault_in};
 ghost use Rattle.vk_registry.specs.Baselines as plain;
 ghost use Rattle.vk_registry.specs.Baselines.{is_note, entry_at, entry_unless_note, those_there};
 ghost use Rattle.vk_registry.specs.Baselines.{entries_at, baseline_at, baseline_by, IsInOrder};
-ghost use Rattle.vk_registry.specs.Baselines.{KeysAscend, ask_for};
+ghost use Rattle.vk_registry.specs.Baselines.{ask_for};
 ghost use Rattle.vk_registry.specs.BaselineViews.{entry_view};
 
 use serde_json::Value;
@@ -118,15 +117,6 @@ fn those_there<T: Drop>(alloc: Global, found: List<Option<T>>) -> Result<List<T>
     Ok(there)
 }
 
-// Tells a caller that the keys of an object ascend.
-fn keys_ascend(value: &Value)
-    ensures { KeysAscend (view value.now) }
-{
-    if let Some(object) = value.as_object() {
-        let _ = object.len();
-    }
-}
-
 // Reads the entries of a baseline.
 #[derive(Drop)]
 struct Entries;
@@ -142,7 +132,6 @@ impl Reader for Entries {
     ghost reads = { λ r. entries_at };
 
     fn read(&self, alloc: Global, value: &Value) -> Result<Baseline, Unread<FileFault>> {
-        keys_ascend(value);
         let found = each_member(alloc, value, &EntryUnlessNote)?;
         let entries = those_there(alloc, found)?;
         Ok(Baseline { entries })

@@ -1,5 +1,6 @@
 //! Laws of what matters.
-ghost use Rattle.vk_resolution.specs.Agreement.{SameLeastList, SameOutcome, UnaskedAgrees, UnaskedChangesNothing};
+ghost use Rattle.vk_resolution.specs.Agreement.{SameLeastList, SameOutcome, UnaskedAgrees};
+ghost use Rattle.vk_resolution.specs.Agreement.{UnaskedChangesNothing};
 
 /// Pages that agree on what was asked lead to the same least list and the same outcome, so a
 /// version that nobody asks for changes nothing.

@@ -1,5 +1,6 @@
 //! Laws of closures.
-ghost use Rattle.vk_resolution.specs.Closures.{ClosureIsOne, ClosureOrTooMany, ClosureRefuses, TooManyIsNoClosure};
+ghost use Rattle.vk_resolution.specs.Closures.{ClosureIsOne, ClosureOrTooMany, ClosureRefuses};
+ghost use Rattle.vk_resolution.specs.Closures.{TooManyIsNoClosure};
 
 /// Where any list of facts is closed, there is a closure of no more facts than the setting allows,
 /// or there are too many, and never both. There is no second closure, and one

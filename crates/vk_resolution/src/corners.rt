@@ -4,7 +4,20 @@ ghost use Rattle.vk_resolution.specs.Reasons.{IsReasons};
 ghost use Rattle.vk_resolution.specs.Examples.{Reports};
 ghost use Rattle.vk_resolution.specs.Projects.{early_feature};
 ghost use Rattle.vk_resolution.specs.Printouts.{Tells, single_line};
-ghost use Rattle.vk_resolution.specs.Corners.{early_feature_reasons, native_tool, native_tool_report, off_but_for_unasked_feature, off_but_for_unasked_feature_report, off_by_chain, off_by_chain_report, off_by_platform_of_feature, off_by_platform_of_feature_report, off_by_platform_of_own, off_by_platform_of_own_report, off_for_target, off_for_target_report, on_without_root_defaults, on_without_root_defaults_report, override_of_another, override_of_another_report, port_named_vcpkg, port_named_vcpkg_report, rows_of_one_text, ranks_in_order, ranks_in_order_reasons, ranks_in_order_report, words_and_defaults, words_and_defaults_report};
+ghost use Rattle.vk_resolution.specs.Corners.{early_feature_reasons, native_tool};
+ghost use Rattle.vk_resolution.specs.Corners.{native_tool_report, off_but_for_unasked_feature};
+ghost use Rattle.vk_resolution.specs.Corners.{off_but_for_unasked_feature_report, off_by_chain};
+ghost use Rattle.vk_resolution.specs.Corners.{off_by_chain_report, off_by_platform_of_feature};
+ghost use Rattle.vk_resolution.specs.Corners.{off_by_platform_of_feature_report};
+ghost use Rattle.vk_resolution.specs.Corners.{off_by_platform_of_own};
+ghost use Rattle.vk_resolution.specs.Corners.{off_by_platform_of_own_report, off_for_target};
+ghost use Rattle.vk_resolution.specs.Corners.{off_for_target_report, on_without_root_defaults};
+ghost use Rattle.vk_resolution.specs.Corners.{on_without_root_defaults_report, override_of_another};
+ghost use Rattle.vk_resolution.specs.Corners.{override_of_another_report, port_named_vcpkg};
+ghost use Rattle.vk_resolution.specs.Corners.{port_named_vcpkg_report, rows_of_one_text};
+ghost use Rattle.vk_resolution.specs.Corners.{ranks_in_order, ranks_in_order_reasons};
+ghost use Rattle.vk_resolution.specs.Corners.{ranks_in_order_report, words_and_defaults};
+ghost use Rattle.vk_resolution.specs.Corners.{words_and_defaults_report};
 
 /// The off list goes by what is asked of the root and by nothing else, over any number of steps and
 /// under the target's marks; the words and the default features add up.

@@ -1,5 +1,6 @@
 //! What the fault lines mean.
-ghost use Rattle.vk_resolution.specs.FaultLaws.{FirstLinesMean, SecondLinesMean, ThirdLinesMean, VersionsComeInOrder};
+ghost use Rattle.vk_resolution.specs.FaultLaws.{FirstLinesMean, SecondLinesMean, ThirdLinesMean};
+ghost use Rattle.vk_resolution.specs.FaultLaws.{VersionsComeInOrder};
 ghost use Rattle.vk_resolution.specs.TroubleLaws.{TroublesMean};
 
 /// A line of the first phase is a trouble with the first line that meets it, and the troubles are

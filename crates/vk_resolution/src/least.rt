@@ -1,5 +1,9 @@
 //! Laws of least lists, at any type of facts.
-ghost use Rattle.vk_resolution.specs.LeastLaws.{LeastIsOne, RankIsOne, MembersHaveRanks, RankedIsForced, DerivedIsLeast, LeastExists, OrderIsOne, ListingIsOne, RoundsMakeLevels, FreshRoundIsRound, NothingFollows, PartIsForced, ForcedIsNoLonger};
+ghost use Rattle.vk_resolution.specs.LeastLaws.{LeastIsOne, RankIsOne, MembersHaveRanks};
+ghost use Rattle.vk_resolution.specs.LeastLaws.{RankedIsForced, DerivedIsLeast, LeastExists};
+ghost use Rattle.vk_resolution.specs.LeastLaws.{OrderIsOne, ListingIsOne, RoundsMakeLevels};
+ghost use Rattle.vk_resolution.specs.LeastLaws.{FreshRoundIsRound, NothingFollows, PartIsForced};
+ghost use Rattle.vk_resolution.specs.LeastLaws.{ForcedIsNoLonger};
 
 /// Two least lists have the same members, each with one rank, and what has a rank is in every
 /// closed list. Where a list is closed, there is a least one.

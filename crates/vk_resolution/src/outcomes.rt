@@ -1,5 +1,6 @@
 //! Laws of the outcome.
-ghost use Rattle.vk_resolution.specs.OutcomeLaws.{KeysAreOrdered, LinesAreListed, NeedsAreBefore, OutcomeExists, OutcomeIsOne, PlannedEdges};
+ghost use Rattle.vk_resolution.specs.OutcomeLaws.{KeysAreOrdered, LinesAreListed, NeedsAreBefore};
+ghost use Rattle.vk_resolution.specs.OutcomeLaws.{OutcomeExists, OutcomeIsOne, PlannedEdges};
 
 /// Keys are compared totally and tie only where they are one, so each list in order is one list;
 /// lines are compared by their bytes.

@@ -1,5 +1,6 @@
 //! Laws of the planned set.
-ghost use Rattle.vk_resolution.specs.PlannedSets.{OrderedExists, OrderedSetIsPlan, PlanSetCycles, PlanSetEdges, PlanSetExists, PlanSetIsOne};
+ghost use Rattle.vk_resolution.specs.PlannedSets.{OrderedExists, OrderedSetIsPlan, PlanSetCycles};
+ghost use Rattle.vk_resolution.specs.PlannedSets.{PlanSetEdges, PlanSetExists, PlanSetIsOne};
 
 /// Where the first two phases have no line there is a planned set, and one alone. The places that
 /// its items need are the edges of the planned facts, so in the order of heights it is the plan, and

@@ -1,6 +1,7 @@
 //! The laws, said of this planner's own inputs: here is the one place where every premise of a law
 //! is met.
-ghost use Rattle.vk_resolution.specs.Planner.{OneOutcomeOneReport, OutcomeIsNotTooMany, OutcomeOrTooMany, PlansKeepPromises, PremisesAreMet};
+ghost use Rattle.vk_resolution.specs.Planner.{OneOutcomeOneReport, OutcomeIsNotTooMany};
+ghost use Rattle.vk_resolution.specs.Planner.{OutcomeOrTooMany, PlansKeepPromises, PremisesAreMet};
 
 /// The order on versions is one, and the pages of a catalogue have the row of each overlay. Of what
 /// a fault prints nothing is assumed.

@@ -1,5 +1,7 @@
 //! Laws of the reasons.
-ghost use Rattle.vk_resolution.specs.Laws.{CertificateIsLeast, CitedLinesAreThose, DerivationsLeadToRoots, LinesAreNumbers, ReasonsAreDerived};
+ghost use Rattle.vk_resolution.specs.Laws.{CertificateIsLeast, CitedLinesAreThose};
+ghost use Rattle.vk_resolution.specs.Laws.{DerivationsLeadToRoots, LinesAreNumbers};
+ghost use Rattle.vk_resolution.specs.Laws.{ReasonsAreDerived};
 
 /// The reasons are a derivation, and each chain of cited lines has falling numbers and ends in a
 /// root fact.

@@ -1,5 +1,6 @@
 //! Laws of the root.
-ghost use Rattle.vk_resolution.specs.RootLaws.{NamedMeans, OffListIsOne, RootFactsMean, RootFeaturesAreNeeded};
+ghost use Rattle.vk_resolution.specs.RootLaws.{NamedMeans, OffListIsOne, RootFactsMean};
+ghost use Rattle.vk_resolution.specs.RootLaws.{RootFeaturesAreNeeded};
 
 /// What all else follows from is the root's need of `core`, of the features of the words, and of
 /// `default` unless it is switched off.

@@ -1,5 +1,7 @@
 //! Laws of the choices of a project.
-ghost use Rattle.vk_resolution.specs.Selections.{ChoicesAreOne, ChoicesHaveNoConflict, ChoicesListPorts, ChoicesOrConflicts, ItemsHaveChoices};
+ghost use Rattle.vk_resolution.specs.Selections.{ChoicesAreOne, ChoicesHaveNoConflict};
+ghost use Rattle.vk_resolution.specs.Selections.{ChoicesListPorts, ChoicesOrConflicts};
+ghost use Rattle.vk_resolution.specs.Selections.{ItemsHaveChoices};
 
 /// Where the first phase has no line, each port that has a floor has a choice, or the second phase
 /// has a line, and never both. There is one list of choices, of exactly the ports that

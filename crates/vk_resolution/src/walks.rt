@@ -1,5 +1,8 @@
 //! Laws of heights and cycles.
-ghost use Rattle.vk_resolution.specs.Walks.{CycleExists, CycleIsFound, CycleIsOne, CycleIsShortest, HeightOrderIsOne, HeightsHaveNoCycle, NoCycleGivesHeights, RoundIsAWay, TargetsAreLower, TargetsStandBefore};
+ghost use Rattle.vk_resolution.specs.Walks.{CycleExists, CycleIsFound, CycleIsOne, CycleIsShortest};
+ghost use Rattle.vk_resolution.specs.Walks.{HeightOrderIsOne, HeightsHaveNoCycle};
+ghost use Rattle.vk_resolution.specs.Walks.{NoCycleGivesHeights, RoundIsAWay, TargetsAreLower};
+ghost use Rattle.vk_resolution.specs.Walks.{TargetsStandBefore};
 
 /// Every instance has a height exactly where none is on a cycle, and then what it depends on is
 /// lower and stands before it.

@@ -4,7 +4,8 @@ ghost use Rattle.std.specs.Result.{result_ok};
 ghost use Rattle.vk_spec.specs.Counts.{Counted};
 ghost use Rattle.vk_spec.specs.Sinks.{SinkState, Puts, is_stopped};
 ghost use Rattle.vk_base.specs.Schedules.{with_listed, with_stop, raised};
-ghost use Rattle.vk_tree.specs.MemSinks.{IsNewSink, MemPuts, Rescheduled, sink_state, sink_schedule};
+ghost use Rattle.vk_tree.specs.MemSinks.{IsNewSink, MemPuts, Rescheduled, sink_state};
+ghost use Rattle.vk_tree.specs.MemSinks.{sink_schedule};
 
 use crate::buffers::Buffer;
 use crate::sinks::{Sink, SinkFailed};
@@ -39,7 +40,8 @@ impl MemSink {
     /// The calls of `put` with these numbers, counted from 1, fail, in place of those named
     /// before. The calls are counted on.
     pub fn fail_at(&mut self, calls: &[u64]) -> Result<(), Memory>
-        ensures ok { OnOk result (Rescheduled (with_listed calls.now (sink_schedule self.old)) self.old self.new) }
+        ensures ok { OnOk result
+            (Rescheduled (with_listed calls.now (sink_schedule self.old)) self.old self.new) }
         ensures err { OnErr result (self.new ≡ self.old) }
     {
         self.schedule.list(self.alloc, calls)?;
@@ -76,7 +78,8 @@ impl Sink for MemSink {
     ghost state = { sink_state };
 
     fn put(&mut self, piece: &[u8]) -> Result<usize, SinkFailed>
-        ensures puts { Puts piece.now (result_ok result) (sink_state self.old) (sink_state self.new) }
+        ensures puts { Puts piece.now (result_ok result) (sink_state self.old)
+            (sink_state self.new) }
         ensures exact { MemPuts piece.now (result_ok result) self.old self.new }
     {
         match self.schedule.next() {

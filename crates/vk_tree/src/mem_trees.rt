@@ -1,12 +1,14 @@
 //! A tree of files in memory.
-ghost use Rattle.std.specs.Prelude.{◌≡◌, ◌↔◌, ◌++◌, IsTrue, IfOk, OnOk, OnErr, Some, option_map, false};
+ghost use Rattle.std.specs.Prelude.{◌≡◌, ◌↔◌, ◌++◌, IsTrue, IfOk, OnOk, OnErr, Some, option_map};
+ghost use Rattle.std.specs.Prelude.{false};
 ghost use Rattle.std.specs.FinMap as map;
 ghost use Rattle.vk_spec.specs.Files.{HasRoomFor};
 ghost use Rattle.vk_spec.specs.Standing.{disk_of};
 ghost use Rattle.vk_spec.specs.Calls.{Made, Says, NoLonger, read_of, is_failed, noted};
 ghost use Rattle.vk_tree.specs.Answers.{read_answer};
 ghost use Rattle.vk_base.specs.Schedules.{with_listed, with_stop};
-ghost use Rattle.vk_tree.specs.MemTrees.{IsNewTree, MemCalls, mem_files, mem_log, mem_schedule, mem_state, with_file, with_schedule};
+ghost use Rattle.vk_tree.specs.MemTrees.{IsNewTree, MemCalls, mem_files, mem_log, mem_schedule};
+ghost use Rattle.vk_tree.specs.MemTrees.{mem_state, with_file, with_schedule};
 
 use crate::file_maps::FileMap;
 use crate::trees::{ReadFault, Tree};
@@ -43,7 +45,8 @@ impl MemTree {
     /// raises no count.
     pub fn put(&mut self, path: &TreePath, bytes: &[u8]) -> Result<(), Memory>
         requires { HasRoomFor path.now (mem_files self.old) }
-        ensures ok { OnOk result (mem_state self.new ≡ with_file path.now bytes.now (mem_state self.old)) }
+        ensures ok { OnOk result
+            (mem_state self.new ≡ with_file path.now bytes.now (mem_state self.old)) }
         ensures err { OnErr result (mem_state self.new ≡ mem_state self.old) }
         ensures schedule { mem_schedule self.new ≡ mem_schedule self.old }
     {
@@ -64,7 +67,8 @@ impl MemTree {
     /// The calls with these numbers fail, counted from 1 over every call of the trait but
     /// `faults`, in place of those named before. The calls are counted on.
     pub fn fail_at(&mut self, calls: &[u64]) -> Result<(), Memory>
-        ensures ok { OnOk result (self.new ≡ with_schedule (with_listed calls.now (mem_schedule self.old)) self.old) }
+        ensures ok { OnOk result
+            (self.new ≡ with_schedule (with_listed calls.now (mem_schedule self.old)) self.old) }
         ensures err { OnErr result (self.new ≡ self.old) }
     {
         self.schedule.list(self.alloc, calls)?;
@@ -148,7 +152,8 @@ impl Tree for MemTree {
     ghost state = { mem_state };
 
     fn read(&mut self, path: &TreePath, limit: u64) -> Result<List<u8>, Stop<ReadFault>>
-        ensures read { Made (read_of path.now limit) (read_answer result) (mem_state self.old) (mem_state self.new) }
+        ensures read { Made (read_of path.now limit) (read_answer result) (mem_state self.old)
+            (mem_state self.new) }
         ensures exact { MemCalls (is_failed (read_answer result)) self.old self.new }
     {
         self.files.known();

@@ -26,7 +26,8 @@ pub trait Tree {
     /// path, `TooLarge` exactly where it is longer than the limit, `Failed` only where the count
     /// of faults may have risen; any other answer leaves the count.
     fn read(&mut self, path: &TreePath, limit: u64) -> Result<List<u8>, Stop<ReadFault>>
-        ensures { Made (read_of path.now limit) (read_answer result) (state self.old) (state self.new) };
+        ensures { Made (read_of path.now limit) (read_answer result) (state self.old)
+            (state self.new) };
 
     /// Its count of faults, which never falls.
     fn faults(&self) -> u64

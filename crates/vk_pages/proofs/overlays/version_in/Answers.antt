@@ -14,4 +14,4 @@ returns g c =
     let folder = c.args.folder.now in
     reads_then (λ m f. named_home c.args.port.now folder m) (rw c.in_ok-path.ensures at c.in_ok-manifest.ensures)
     (reads_pure wrong_view (own_home folder) c.named_own.result
-        (λ f. named_home c.args.port.now folder (manifest_view c.in_ok-manifest.manifest)) _ c.named_own.ensures.calm (λ f. c.named_own.ensures.told))
+    (λ f. named_home c.args.port.now folder (manifest_view c.in_ok-manifest.manifest)) _ c.named_own.ensures.calm (λ f. c.named_own.ensures.told))
