@@ -111,10 +111,11 @@ fn page_of(row: &str, reply: &mut Reply) -> Option<Page> {
 }
 
 fn put_page(pages: &mut MemCatalogue, page: Page) -> Result<(), Unread<NoRow>> {
-    if !pages.fits(&page)? {
-        return Err(Unread::Fault(NoRow));
+    match pages.fits(&page) {
+        Ok(true) => pages.put(page).map_err(Unread::Memory),
+        Ok(false) => Err(Unread::Fault(NoRow)),
+        Err(memory) => Err(Unread::Memory(memory)),
     }
-    Ok(pages.put(page)?)
 }
 
 fn put(pages: &mut MemCatalogue, row: &str, reply: &mut Reply) {
