@@ -1,24 +1,30 @@
 //! The kinds of rows, by their first two words.
 
-use crate::{
-    configurations, documents, expressions, fields, names, paths, registries, tokens, triplets,
-    versions,
-};
+use crate::configurations::Question as OfConfiguration;
+use crate::documents::Question as OfJson;
+use crate::expressions::Question as OfExpression;
+use crate::fields::Question as OfField;
+use crate::names::Question as OfName;
+use crate::paths::Question as OfPath;
+use crate::registries::Question as OfRegistry;
+use crate::tokens::Question as OfToken;
+use crate::triplets::Question as OfTriplet;
+use crate::versions::Question as OfVersion;
 
 /// What is read, and what is asked of it.
 #[derive(Clone, Copy)]
 pub enum Kind {
-    Name(names::Question),
-    Path(paths::Question),
-    Token(tokens::Question),
-    Version(versions::Question),
-    Expression(expressions::Question),
-    Triplet(triplets::Question),
-    Json(documents::Question),
-    Field(fields::Question),
+    Name(OfName),
+    Path(OfPath),
+    Token(OfToken),
+    Version(OfVersion),
+    Expression(OfExpression),
+    Triplet(OfTriplet),
+    Json(OfJson),
+    Field(OfField),
     Manifest { is_root: bool },
-    Configuration(configurations::Question),
-    Registry(registries::Question),
+    Configuration(OfConfiguration),
+    Registry(OfRegistry),
 }
 
 /// What a word stands for in a table.
@@ -37,106 +43,79 @@ pub fn kind_of(words: &str) -> Option<Kind> {
 }
 
 const KINDS: [(&str, Kind); 57] = [
-    ("name port", Kind::Name(names::Question::Port)),
-    ("name triplet", Kind::Name(names::Question::Triplet)),
-    ("name feature", Kind::Name(names::Question::Feature)),
-    ("name triplets", Kind::Name(names::Question::Triplets)),
-    ("name features", Kind::Name(names::Question::Features)),
-    ("name instances", Kind::Name(names::Question::Instances)),
-    ("path read", Kind::Path(paths::Question::Read)),
-    ("path letters", Kind::Path(paths::Question::Letters)),
-    ("path parts", Kind::Path(paths::Question::Parts)),
-    ("path join", Kind::Path(paths::Question::Join)),
-    ("path begins", Kind::Path(paths::Question::Begins)),
-    ("path order", Kind::Path(paths::Question::Order)),
-    ("path child", Kind::Path(paths::Question::Child)),
-    ("token of", Kind::Token(tokens::Question::Of)),
-    ("token read", Kind::Token(tokens::Question::Read)),
-    ("token grow", Kind::Token(tokens::Question::Grow)),
-    ("token double", Kind::Token(tokens::Question::Double)),
-    ("decimal u32", Kind::Token(tokens::Question::Small)),
-    ("decimal u64", Kind::Token(tokens::Question::Large)),
-    ("version read", Kind::Version(versions::Question::Read)),
-    ("version show", Kind::Version(versions::Question::Shown)),
-    ("version order", Kind::Version(versions::Question::Order)),
-    ("version ask", Kind::Version(versions::Question::Ask)),
-    (
-        "expression read",
-        Kind::Expression(expressions::Question::Read),
-    ),
-    (
-        "expression truth",
-        Kind::Expression(expressions::Question::Truth),
-    ),
-    (
-        "expression has",
-        Kind::Expression(expressions::Question::Has),
-    ),
-    ("triplet read", Kind::Triplet(triplets::Question::Read)),
-    ("triplet marks", Kind::Triplet(triplets::Question::Marks)),
+    ("name port", Kind::Name(OfName::Port)),
+    ("name triplet", Kind::Name(OfName::Triplet)),
+    ("name feature", Kind::Name(OfName::Feature)),
+    ("name triplets", Kind::Name(OfName::Triplets)),
+    ("name features", Kind::Name(OfName::Features)),
+    ("name instances", Kind::Name(OfName::Instances)),
+    ("path read", Kind::Path(OfPath::Read)),
+    ("path letters", Kind::Path(OfPath::Letters)),
+    ("path parts", Kind::Path(OfPath::Parts)),
+    ("path join", Kind::Path(OfPath::Join)),
+    ("path begins", Kind::Path(OfPath::Begins)),
+    ("path order", Kind::Path(OfPath::Order)),
+    ("path child", Kind::Path(OfPath::Child)),
+    ("token of", Kind::Token(OfToken::Of)),
+    ("token read", Kind::Token(OfToken::Read)),
+    ("token grow", Kind::Token(OfToken::Grow)),
+    ("token double", Kind::Token(OfToken::Double)),
+    ("decimal u32", Kind::Token(OfToken::Small)),
+    ("decimal u64", Kind::Token(OfToken::Large)),
+    ("version read", Kind::Version(OfVersion::Read)),
+    ("version show", Kind::Version(OfVersion::Shown)),
+    ("version order", Kind::Version(OfVersion::Order)),
+    ("version ask", Kind::Version(OfVersion::Ask)),
+    ("expression read", Kind::Expression(OfExpression::Read)),
+    ("expression truth", Kind::Expression(OfExpression::Truth)),
+    ("expression has", Kind::Expression(OfExpression::Has)),
+    ("triplet read", Kind::Triplet(OfTriplet::Read)),
+    ("triplet marks", Kind::Triplet(OfTriplet::Marks)),
     (
         "triplet native-marks",
-        Kind::Triplet(triplets::Question::NativeMarks),
+        Kind::Triplet(OfTriplet::NativeMarks),
     ),
-    ("triplet keeps", Kind::Triplet(triplets::Question::Keeps)),
-    ("json read", Kind::Json(documents::Question::Read)),
-    ("json keys", Kind::Json(documents::Question::Keys)),
-    ("json member", Kind::Json(documents::Question::Member)),
-    ("json item", Kind::Json(documents::Question::Item)),
-    ("json word", Kind::Json(documents::Question::Word)),
-    ("field port-name", Kind::Field(fields::Question::PortName)),
-    (
-        "field feature-name",
-        Kind::Field(fields::Question::FeatureName),
-    ),
-    ("field path", Kind::Field(fields::Question::Path)),
-    (
-        "field expression",
-        Kind::Field(fields::Question::Expression),
-    ),
-    ("field ask", Kind::Field(fields::Question::Ask)),
-    ("field text", Kind::Field(fields::Question::Text)),
-    ("field scheme", Kind::Field(fields::Question::Scheme)),
-    (
-        "field port-version",
-        Kind::Field(fields::Question::PortVersion),
-    ),
-    ("field version", Kind::Field(fields::Question::Version)),
-    (
-        "field version-needed",
-        Kind::Field(fields::Question::VersionNeeded),
-    ),
-    ("field ask-under", Kind::Field(fields::Question::AskUnder)),
+    ("triplet keeps", Kind::Triplet(OfTriplet::Keeps)),
+    ("json read", Kind::Json(OfJson::Read)),
+    ("json keys", Kind::Json(OfJson::Keys)),
+    ("json member", Kind::Json(OfJson::Member)),
+    ("json item", Kind::Json(OfJson::Item)),
+    ("json word", Kind::Json(OfJson::Word)),
+    ("field port-name", Kind::Field(OfField::PortName)),
+    ("field feature-name", Kind::Field(OfField::FeatureName)),
+    ("field path", Kind::Field(OfField::Path)),
+    ("field expression", Kind::Field(OfField::Expression)),
+    ("field ask", Kind::Field(OfField::Ask)),
+    ("field text", Kind::Field(OfField::Text)),
+    ("field scheme", Kind::Field(OfField::Scheme)),
+    ("field port-version", Kind::Field(OfField::PortVersion)),
+    ("field version", Kind::Field(OfField::Version)),
+    ("field version-needed", Kind::Field(OfField::VersionNeeded)),
+    ("field ask-under", Kind::Field(OfField::AskUnder)),
     ("manifest root", Kind::Manifest { is_root: true }),
     ("manifest port", Kind::Manifest { is_root: false }),
     (
         "configuration read",
-        Kind::Configuration(configurations::Question::Read),
+        Kind::Configuration(OfConfiguration::Read),
     ),
     (
         "configuration sizes",
-        Kind::Configuration(configurations::Question::Sizes),
+        Kind::Configuration(OfConfiguration::Sizes),
     ),
     (
         "configuration embedded",
-        Kind::Configuration(configurations::Question::Embedded),
+        Kind::Configuration(OfConfiguration::Embedded),
     ),
     (
         "configuration serves",
-        Kind::Configuration(configurations::Question::Serves),
+        Kind::Configuration(OfConfiguration::Serves),
     ),
     (
         "configuration embedded-serves",
-        Kind::Configuration(configurations::Question::EmbeddedServes),
+        Kind::Configuration(OfConfiguration::EmbeddedServes),
     ),
-    (
-        "baseline read",
-        Kind::Registry(registries::Question::Baseline),
-    ),
-    (
-        "baseline entry",
-        Kind::Registry(registries::Question::Entry),
-    ),
-    ("table read", Kind::Registry(registries::Question::Table)),
-    ("table find", Kind::Registry(registries::Question::Find)),
+    ("baseline read", Kind::Registry(OfRegistry::Baseline)),
+    ("baseline entry", Kind::Registry(OfRegistry::Entry)),
+    ("table read", Kind::Registry(OfRegistry::Table)),
+    ("table find", Kind::Registry(OfRegistry::Find)),
 ];

@@ -75,7 +75,7 @@ impl Reply {
     pub fn push_number(&mut self, number: u64) {
         match format!(in self.alloc; "{number}") {
             Ok(digits) => self.push(digits.as_str()),
-            Err(_) => self.stop = Some(Unread::Memory(Memory::without_allocation())),
+            Err(lack) => self.stop = Some(Unread::from(lack)),
         }
     }
 

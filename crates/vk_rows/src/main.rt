@@ -18,12 +18,16 @@ use sessions::Session;
 use std::process::ExitCode;
 use vk_row_text::answer_rows;
 
-fn main(rt: HostRuntime) -> ExitCode {
-    let Ok(mut session) = Session::new(rt.alloc()) else {
-        return ExitCode::FAILURE;
-    };
-    match answer_rows(&rt, &mut session) {
+fn answer(rt: &HostRuntime, session: &mut Session) -> ExitCode {
+    match answer_rows(rt, session) {
         Ok(0) => ExitCode::SUCCESS,
         _ => ExitCode::FAILURE,
+    }
+}
+
+fn main(rt: HostRuntime) -> ExitCode {
+    match Session::new(rt.alloc()) {
+        Ok(mut session) => answer(&rt, &mut session),
+        Err(_) => ExitCode::FAILURE,
     }
 }

@@ -3,7 +3,7 @@
 use crate::asks::ask;
 use crate::projects::{ask_of, port_of, version_by};
 use crate::workspaces::{done, numbers_of};
-use std::alloc::{AllocError, Global};
+use std::alloc::Global;
 use std::rc::Rc;
 use vk_base::{List, Memory, PortName, Text, TreePath, Unread};
 use vk_catalogue::{Catalogue, MemCatalogue, Page, PageRow};
@@ -31,12 +31,9 @@ fn manifest_with(alloc: Global, name: PortName) -> Manifest {
     }
 }
 
-fn manifest_of(alloc: Global, name: &PortName) -> Result<Rc<Manifest>, AllocError> {
+fn manifest_of(alloc: Global, name: &PortName) -> Result<Rc<Manifest>, Memory> {
     let name = name.clone()?;
-    match Rc::new(alloc, manifest_with(alloc, name)) {
-        Ok(manifest) => Ok(manifest),
-        Err(_) => Err(AllocError),
-    }
+    Ok(Rc::new(alloc, manifest_with(alloc, name))?)
 }
 
 fn bad_file(path: TreePath, place: Text) -> Wrong {
@@ -60,8 +57,8 @@ fn good_row(name: &PortName, word: &str, reply: &mut Reply) -> Option<PageRow> {
             version,
             manifest: Ok(manifest),
         }),
-        Err(lack) => {
-            reply.lack(Memory::from(lack));
+        Err(memory) => {
+            reply.lack(memory);
             None
         }
     }
@@ -114,10 +111,11 @@ fn page_of(row: &str, reply: &mut Reply) -> Option<Page> {
 }
 
 fn put_page(pages: &mut MemCatalogue, page: Page) -> Result<(), Unread<NoRow>> {
-    if !pages.fits(&page)? {
-        return Err(Unread::Fault(NoRow));
+    match pages.fits(&page) {
+        Ok(true) => pages.put(page).map_err(Unread::Memory),
+        Ok(false) => Err(Unread::Fault(NoRow)),
+        Err(memory) => Err(Unread::Memory(memory)),
     }
-    Ok(pages.put(page)?)
 }
 
 fn put(pages: &mut MemCatalogue, row: &str, reply: &mut Reply) {

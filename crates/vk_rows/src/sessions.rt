@@ -68,24 +68,30 @@ impl Session {
         self.files.restart(alloc)
     }
 
-    fn open_project(&mut self, project: &Project, reply: &mut Reply) -> Result<(), Memory> {
-        let tree = self.files.take_tree(reply.alloc())?;
-        match open_on(reply.alloc(), tree, project, reply) {
+    // Keeps the world, or the tree, that opening gave.
+    fn keep(&mut self, opening: Opening) {
+        match opening {
             Opening::World(world) => self.world = Some(world),
             Opening::Refused(tree) => self.files.tree = tree,
         }
-        Ok(())
+    }
+
+    fn open_project(&mut self, project: &Project, reply: &mut Reply) {
+        match self.files.take_tree(reply.alloc()) {
+            Ok(tree) => {
+                let opening = open_on(reply.alloc(), tree, project, reply);
+                self.keep(opening);
+            }
+            Err(memory) => reply.lack(memory),
+        }
     }
 
     fn open(&mut self, row: &str, reply: &mut Reply) {
         let Some(project) = project_of(row, reply) else {
             return;
         };
-        if reply.is_stopped() {
-            return;
-        }
-        if let Err(memory) = self.open_project(&project, reply) {
-            reply.lack(memory);
+        if !reply.is_stopped() {
+            self.open_project(&project, reply);
         }
     }
 
