@@ -61,7 +61,7 @@ fn check_command(word: &Word) -> Result<(), Unread<WordsFault>>
 }
 
 // Whatever the fault, the words aren't of the form.
-fn without_cause<F>(unread: Unread<F>) -> Unread<WordsFault>
+fn without_cause<F: Drop>(unread: Unread<F>) -> Unread<WordsFault>
     ensures { fault_in result ≡ option_map (λ _. fault.Form) (fault_in unread) }
 {
     match unread {
