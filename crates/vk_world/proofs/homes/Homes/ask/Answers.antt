@@ -1,4 +1,4 @@
-use Rattle.std.proofs.Common.{◌∙◌, [], ◌∷◌, ◌++◌, refl, sym, ap, subst}
+use Rattle.std.proofs.Common.{◌≡◌, ◌∙◌, [], ◌∷◌, ◌++◌, refl, sym, ap, subst, rules}
 use Rattle.std.specs.Prelude.{Ok, Err, IsSome, bytes_eq}
 use Rattle.std.specs.Map.{lookup}
 use Rattle.std.proofs.lemmas.Result.{err_from_is_err_and}
@@ -31,20 +31,22 @@ returns-in_err-reserve-clause-learns g c =
 pub returns-clause-learns : goal.returns-clause-learns
 returns-clause-learns g c =
     let start = layout_view c.args.layout.now in
+    let same : c.in_ok-key.key ≡ c.args.port.now = search rules in
     let kept = c.keep.ensures.homes ∙ ap (λ es. noted found_home es ++ (c.in_ok-key.key, found_home c.in_ok-found.found) ∷ []) c.reserve.ensures.entries in
     learns_so (Ok tt) SaysNothing (AreHomes start c.args.self.now) (AreHomes start c.keep.new.self) refl (λ f right. right.baselines)
     (λ f before right says. (
       record {
         baselines = subst (λ b. AreBaselines start (notes_of b) f) (sym c.keep.ensures.baselines) right;
-        found = subst (AreRight (IsHomeOf start f)) (sym kept) (right_more (IsHomeOf start f) (homes_in c.args.self.now) ((c.in_ok-key.key, found_home c.in_ok-found.found) ∷ []) before.found (rw c.in_ok-key.ensures.cases says, tt));
+        found = subst (AreRight (IsHomeOf start f)) (sym kept) (right_more (IsHomeOf start f) (homes_in c.args.self.now) ((c.in_ok-key.key, found_home c.in_ok-found.found) ∷ []) before.found (rw same says, tt));
       },
       tt,
     )) c.in_ok-found.ensures
 
 pub returns-clause-there : goal.returns-clause-there
 returns-clause-there g c =
+    let same : c.in_ok-key.key ≡ c.args.port.now = search rules in
     subst (λ notes. IsSome (lookup (bytes_eq c.args.port.now) notes)) (sym c.keep.ensures.homes)
-    (rw c.in_ok-key.ensures.cases (last_noted bytes_eq c.args.port.now (found_home c.in_ok-found.found) _ ((bytes_eq-Decides c.args.port.now c.args.port.now).1 refl)))
+    (rw same (last_noted bytes_eq c.args.port.now (found_home c.in_ok-found.found) _ ((bytes_eq-Decides c.args.port.now c.args.port.now).1 refl)))
 
 pub returns-in_err-found-clause-learns : goal.returns-in_err-found-clause-learns
 returns-in_err-found-clause-learns g c =
