@@ -5,6 +5,8 @@ use Rattle.vk_base.specs.declared.stops.Unread.{Unread}
 use Rattle.vk_base.specs.declared.stops.Unread.TheVariants as unread
 use Rattle.vk_base.specs.declared.stops.Stop.{Stop}
 use Rattle.vk_base.specs.declared.stops.Stop.TheVariants as stop
+use Rattle.vk_base.specs.declared.stops.Outage.{Outage}
+use Rattle.vk_base.specs.declared.stops.Outage.TheVariants as outage
 
 -- out of memory, in its one form
 abbrev pub out_of_memory : Memory
@@ -29,3 +31,16 @@ is_failure (stop.Memory m) = false
 abbrev pub has_failed : {F A : Type 0} → Result A (Stop F) → Bool
 has_failed (Ok x) = false
 has_failed (Err e) = is_failure e
+
+-- the same of a call that finds no fault
+abbrev pub is_outage : Outage → Bool
+is_outage outage.Failed = true
+is_outage (outage.Memory m) = false
+
+abbrev pub was_out : {A : Type 0} → Result A Outage → Bool
+was_out (Ok x) = false
+was_out (Err e) = is_outage e
+
+abbrev pub stop_of : {F : Type 0} → Outage → Stop F
+stop_of outage.Failed = stop.Failed
+stop_of (outage.Memory m) = stop.Memory m

@@ -1,5 +1,5 @@
-//! Texts, lists, names, paths, tokens and decimal numbers: what every later crate uses. For fakes,
-//! which of their calls are to go wrong.
+//! Texts, lists, names, paths, tokens, decimal numbers and a count of steps: what every later crate
+//! uses. For fakes, which of their calls are to go wrong.
 //! Contracts see a text as its bytes, a list as a list, and a path as its anchor and parts.
 //! It promises upwards that each reader answers the value exactly where its rule holds.
 #![tactic(auto)]
@@ -13,6 +13,7 @@ mod names;
 mod path_texts;
 mod paths;
 mod schedules;
+mod steps;
 mod stops;
 mod texts;
 mod tokens;
@@ -27,7 +28,8 @@ pub use names::{AgentName, NameFault, PortName, TripletName, name_order, port_ru
 pub use path_texts::PathToken;
 pub use paths::{PathFault, TreePath, path_rule};
 pub use schedules::{Schedule, Turn};
-pub use stops::{Stop, Unread};
+pub use steps::Steps;
+pub use stops::{Outage, Stop, Unread};
 pub use texts::Text;
 pub use tokens::{TokenOf, read_token, token, token_rule};
 pub use words::Word;
