@@ -8,7 +8,7 @@ use Rattle.vk_spec.specs.Conditions.{Condition}
 use Rattle.vk_version.specs.AskViews.{ask_view}
 use Rattle.vk_model.specs.Views.{manifest_view}
 use Rattle.vk_catalogue.specs.Views.{wrong_view, seen_by}
-use Rattle.vk_catalogue.specs.declared.stops.CatStop.{CatStop}
+use Rattle.vk_base.specs.declared.stops.Outage.{Outage}
 use Rattle.vk_catalogue.specs.declared.given_manifests.GivenManifest.{GivenManifest}
 use Rattle.vk_catalogue.specs.declared.given_manifests.GivenManifest.TheVariants as given
 
@@ -42,5 +42,5 @@ found_view (given.Found m) = found (manifest_view m.value)
 found_view (given.NoVersion ask) = no_version (ask_view ask)
 found_view (given.Bad e) = bad (wrong_view e)
 
-abbrev pub at_answer : Result GivenManifest CatStop → Answer Found
+abbrev pub at_answer : Result GivenManifest Outage → Answer Found
 at_answer = seen_by found_view

@@ -4,9 +4,8 @@ ghost use Rattle.vk_spec.specs.Catalogues.{CanAskManifest, SaysGiven, SaysVersio
 ghost use Rattle.vk_version.specs.AskViews.{ask_view};
 ghost use Rattle.vk_spec.specs.Conditions.{Condition};
 
-use crate::stops::CatStop;
 use std::rc::Rc;
-use vk_base::PortName;
+use vk_base::{Outage, PortName};
 use vk_model::{Given, Manifest, Wrong};
 use vk_version::{Ask, Version};
 
@@ -21,12 +20,12 @@ pub trait Catalogue {
     ghost state: { Self → CatalogueState Condition };
 
     /// The given version of a port, or why there is none.
-    fn given(&mut self, port: &PortName) -> Result<Result<Given, Wrong>, CatStop>
+    fn given(&mut self, port: &PortName) -> Result<Result<Given, Wrong>, Outage>
         ensures { Asks port.now SaysGiven (given_answer result) (state self.old) (state self.new) };
 
     /// The version of a port with the ask's text and port-version; `None` exactly where the port
     /// has none such. It is asked only of a port with a given version.
-    fn version(&mut self, port: &PortName, ask: &Ask) -> Result<Option<Version>, CatStop>
+    fn version(&mut self, port: &PortName, ask: &Ask) -> Result<Option<Version>, Outage>
         requires { OnPage port.now CanAskVersion (state self.old) }
         ensures { Asks port.now (SaysVersion (ask_view ask.now)) (version_answer result)
             (state self.old) (state self.new) };
@@ -37,7 +36,7 @@ pub trait Catalogue {
         &mut self,
         port: &PortName,
         ask: &Ask,
-    ) -> Result<Result<Rc<Manifest>, Wrong>, CatStop>
+    ) -> Result<Result<Rc<Manifest>, Wrong>, Outage>
         requires { OnPage port.now (CanAskManifest (ask_view ask.now)) (state self.old) }
         ensures { Asks port.now (SaysManifest (ask_view ask.now)) (manifest_answer result)
             (state self.old) (state self.new) };

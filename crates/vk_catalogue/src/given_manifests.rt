@@ -4,9 +4,8 @@ ghost use Rattle.vk_version.specs.AskViews.{ask_view};
 ghost use Rattle.vk_catalogue.specs.GivenManifests.{SaysAt, SaysAtGiven, at_answer};
 
 use crate::catalogues::Catalogue;
-use crate::stops::CatStop;
 use std::rc::Rc;
-use vk_base::PortName;
+use vk_base::{Outage, PortName};
 use vk_model::{Manifest, Wrong};
 use vk_version::Ask;
 
@@ -27,7 +26,7 @@ fn listed_manifest<C: Catalogue>(
     cat: &mut C,
     port: &PortName,
     ask: &Ask,
-) -> Result<GivenManifest, CatStop>
+) -> Result<GivenManifest, Outage>
     requires { OnPage port.now (CanAskManifest (ask_view ask.now)) (C.state cat.old) }
     ensures { Asks port.now (SaysAt (ask_view ask.now)) (at_answer result) (C.state cat.old)
         (C.state cat.new) }
@@ -44,7 +43,7 @@ fn manifest_for<C: Catalogue>(
     cat: &mut C,
     port: &PortName,
     ask: &Ask,
-) -> Result<GivenManifest, CatStop>
+) -> Result<GivenManifest, Outage>
     requires { OnPage port.now CanAskVersion (C.state cat.old) }
     ensures { Asks port.now (SaysAt (ask_view ask.now)) (at_answer result) (C.state cat.old)
         (C.state cat.new) }
@@ -61,7 +60,7 @@ fn manifest_for<C: Catalogue>(
 pub fn manifest_at_given<C: Catalogue>(
     cat: &mut C,
     port: &PortName,
-) -> Result<GivenManifest, CatStop>
+) -> Result<GivenManifest, Outage>
     ensures { Asks port.now SaysAtGiven (at_answer result) (C.state cat.old) (C.state cat.new) }
 {
     match cat.given(port)? {

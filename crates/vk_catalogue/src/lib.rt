@@ -10,11 +10,9 @@ mod pages;
 mod rows;
 mod shelves;
 mod sound_pages;
-mod stops;
 
 pub use catalogues::Catalogue;
 pub use given_manifests::{GivenManifest, manifest_at_given};
 pub use mem_catalogues::MemCatalogue;
 pub use pages::{Page, PageRow};
-pub use stops::CatStop;
 pub use vk_model::{Field, Given, Wrong};

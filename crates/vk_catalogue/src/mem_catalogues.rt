@@ -2,7 +2,8 @@ ghost use Rattle.std.specs.Prelude.{◌≡◌, ◌↔◌, ◌++◌, ◌∷◌, [
 ghost use Rattle.vk_spec.specs.Catalogues.{Asks, OnlyAsked, OnPage, CanAskVersion, CanAskManifest};
 ghost use Rattle.vk_spec.specs.Catalogues.{SaysGiven, SaysVersion, SaysManifest};
 ghost use Rattle.vk_version.specs.AskViews.{ask_view};
-ghost use Rattle.vk_catalogue.specs.Views.{cat_failed, given_answer, version_answer};
+ghost use Rattle.vk_base.specs.Stops.{was_out};
+ghost use Rattle.vk_catalogue.specs.Views.{given_answer, version_answer};
 ghost use Rattle.vk_catalogue.specs.Views.{manifest_answer};
 ghost use Rattle.vk_catalogue.specs.PageViews.{page_view};
 ghost use Rattle.vk_base.specs.Schedules.{with_listed};
@@ -14,10 +15,9 @@ ghost use Rattle.vk_catalogue.specs.MemCatalogues.{with_schedule};
 use crate::catalogues::Catalogue;
 use crate::pages::Page;
 use crate::shelves::Shelf;
-use crate::stops::CatStop;
 use std::alloc::Global;
 use std::rc::Rc;
-use vk_base::{Memory, PortName, Schedule};
+use vk_base::{Memory, Outage, PortName, Schedule};
 use vk_model::{Given, Manifest, Wrong};
 use vk_version::{Ask, Version};
 
@@ -95,9 +95,9 @@ impl MemCatalogue {
 }
 
 // What is given for a port.
-fn given_on(shelf: &Shelf, port: &PortName) -> Result<Result<Given, Wrong>, CatStop>
+fn given_on(shelf: &Shelf, port: &PortName) -> Result<Result<Given, Wrong>, Outage>
     ensures told { IfOk (given_answer result) (SaysGiven (page_on shelf.now port.now)) }
-    ensures calm { cat_failed result ≡ false }
+    ensures calm { was_out result ≡ false }
 {
     match shelf.get(port) {
         Some(held) => Ok(held.given.clone()?),
@@ -106,10 +106,10 @@ fn given_on(shelf: &Shelf, port: &PortName) -> Result<Result<Given, Wrong>, CatS
 }
 
 // The version that a port has for an ask.
-fn version_on(shelf: &Shelf, port: &PortName, ask: &Ask) -> Result<Option<Version>, CatStop>
+fn version_on(shelf: &Shelf, port: &PortName, ask: &Ask) -> Result<Option<Version>, Outage>
     ensures told { IfOk (version_answer result)
         (SaysVersion (ask_view ask.now) (page_on shelf.now port.now)) }
-    ensures calm { cat_failed result ≡ false }
+    ensures calm { was_out result ≡ false }
 {
     match shelf.row(port, ask) {
         Some(row) => Ok(Some(row.version.clone()?)),
@@ -122,11 +122,11 @@ fn manifest_on(
     shelf: &Shelf,
     port: &PortName,
     ask: &Ask,
-) -> Result<Result<Rc<Manifest>, Wrong>, CatStop>
+) -> Result<Result<Rc<Manifest>, Wrong>, Outage>
     requires { CanAskManifest (ask_view ask.now) (page_on shelf.now port.now) }
     ensures told { IfOk (manifest_answer result)
         (SaysManifest (ask_view ask.now) (page_on shelf.now port.now)) }
-    ensures calm { cat_failed result ≡ false }
+    ensures calm { was_out result ≡ false }
 {
     let row = shelf.row(port, ask).unwrap();
     Ok(row.manifest.clone()?)
@@ -135,27 +135,27 @@ fn manifest_on(
 impl Catalogue for MemCatalogue {
     ghost state = { mem_state };
 
-    fn given(&mut self, port: &PortName) -> Result<Result<Given, Wrong>, CatStop>
+    fn given(&mut self, port: &PortName) -> Result<Result<Given, Wrong>, Outage>
         ensures asks { Asks port.now SaysGiven (given_answer result) (mem_state self.old)
             (mem_state self.new) }
-        ensures exact { MemCalls (cat_failed result) self.old self.new }
+        ensures exact { MemCalls (was_out result) self.old self.new }
     {
         self.shelf.known();
         if self.next_fails() {
-            return Err(CatStop::Failed);
+            return Err(Outage::Failed);
         }
         given_on(&self.shelf, port)
     }
 
-    fn version(&mut self, port: &PortName, ask: &Ask) -> Result<Option<Version>, CatStop>
+    fn version(&mut self, port: &PortName, ask: &Ask) -> Result<Option<Version>, Outage>
         requires { OnPage port.now CanAskVersion (mem_state self.old) }
         ensures asks { Asks port.now (SaysVersion (ask_view ask.now)) (version_answer result)
             (mem_state self.old) (mem_state self.new) }
-        ensures exact { MemCalls (cat_failed result) self.old self.new }
+        ensures exact { MemCalls (was_out result) self.old self.new }
     {
         self.shelf.known();
         if self.next_fails() {
-            return Err(CatStop::Failed);
+            return Err(Outage::Failed);
         }
         version_on(&self.shelf, port, ask)
     }
@@ -164,15 +164,15 @@ impl Catalogue for MemCatalogue {
         &mut self,
         port: &PortName,
         ask: &Ask,
-    ) -> Result<Result<Rc<Manifest>, Wrong>, CatStop>
+    ) -> Result<Result<Rc<Manifest>, Wrong>, Outage>
         requires { OnPage port.now (CanAskManifest (ask_view ask.now)) (mem_state self.old) }
         ensures asks { Asks port.now (SaysManifest (ask_view ask.now)) (manifest_answer result)
             (mem_state self.old) (mem_state self.new) }
-        ensures exact { MemCalls (cat_failed result) self.old self.new }
+        ensures exact { MemCalls (was_out result) self.old self.new }
     {
         self.shelf.known();
         if self.next_fails() {
-            return Err(CatStop::Failed);
+            return Err(Outage::Failed);
         }
         manifest_on(&self.shelf, port, ask)
     }
