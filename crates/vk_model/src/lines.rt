@@ -1,20 +1,32 @@
-//! The lines that are printed of early files and of ports.
-ghost use Rattle.std.specs.Prelude.{◌≡◌, ◌++◌, codes, IfOk};
+//! The lines that are printed of early files, of ports and of faults.
+ghost use Rattle.std.specs.Prelude.{◌≡◌, ◌++◌, codes, map, flat_map, IfOk};
 ghost use Rattle.vk_base.specs.Tokens.{token_of};
 ghost use Rattle.vk_base.specs.Printed.{path_text, field_word};
 ghost use Rattle.vk_json.specs.Places.{file_line};
 ghost use Rattle.vk_json.specs.Words.{word_of};
 ghost use Rattle.vk_version.specs.AskViews.{ask_view};
+ghost use Rattle.vk_spec.specs.Versions.{ask_of};
+ghost use Rattle.vk_base.specs.Printed.{version_text};
+ghost use Rattle.vk_base.specs.FeatureViews.{feature_view};
+ghost use Rattle.vk_resolution.specs.Settings.{inst};
+ghost use Rattle.vk_resolution.specs.Faults as fault;
+ghost use Rattle.vk_resolution.specs.Lines.{citing_line, fault_line, judged_text, who_text};
+ghost use Rattle.vk_resolution.specs.Lines.{version_or_none};
 ghost use Rattle.vk_model.specs.EarlyViews.{early_view};
 ghost use Rattle.vk_model.specs.WrongViews.{field_view, wrong_view};
+ghost use Rattle.vk_model.specs.SettingViews.{instance_view};
+ghost use Rattle.vk_model.specs.FactViews.{who_view};
+ghost use Rattle.vk_model.specs.FaultViews.{fault_view};
 ghost use Rattle.vk_model.specs.Lines.{early_line, wrong_line, no_version_line, disagrees_line};
 
 use crate::earlies::Early;
+use crate::facts::Who;
+use crate::faults::Fault;
 use crate::wrongs::{Field, Wrong};
 use std::alloc::Global;
-use vk_base::{Memory, PortName, Text, TreePath, token};
+use vk_base::{FeatureName, Instance, Memory, PortName, Text, TokenOf, TreePath, token};
 use vk_json::{Why, place_text};
-use vk_version::Ask;
+use vk_version::{Ask, Version};
 
 impl Field {
     /// Its printed word.
@@ -117,4 +129,185 @@ pub fn no_version_line(alloc: Global, port: &PortName, ask: &Ask) -> Result<Text
     let port = token(alloc, port.as_str().as_bytes())?;
     let version = ask.printed(alloc)?;
     Ok(Text::from_string(format!(in alloc; "no-version {port} {version}")?))
+}
+
+/// An instance as it is printed: its port and its triplet.
+pub fn instance_text(alloc: Global, instance: &Instance) -> Result<Text, Memory>
+    ensures { IfOk result (λ t. t ≡ who_text (inst (instance_view instance.now))) }
+{
+    let port = TokenOf(instance.port.as_str().as_bytes());
+    let triplet = TokenOf(instance.triplet.as_str().as_bytes());
+    Ok(Text::from_string(format!(in alloc; "{port} {triplet}")?))
+}
+
+/// Who has a requirement, as it is printed: an instance, or `.` and a triplet for the root.
+pub fn who_text(alloc: Global, who: &Who) -> Result<Text, Memory>
+    ensures { IfOk result (λ t. t ≡ who_text (who_view who.now)) }
+{
+    match who {
+        Who::Root(triplet) => word_and(alloc, ". ", triplet.as_str().as_bytes()),
+        Who::Inst(instance) => instance_text(alloc, instance),
+    }
+}
+
+/// A version as it is printed: its text and its port-version; the root has none, which is `-`.
+pub fn version_or_none(alloc: Global, version: &Option<Version>) -> Result<Text, Memory>
+    ensures { IfOk result (λ t. t ≡ version_or_none version.now) }
+{
+    match version {
+        Some(version) => version.ask().printed(alloc),
+        None => Ok(Text::from_str(alloc, "-")?),
+    }
+}
+
+// A line, and the number of the reason that it cites.
+fn cited(alloc: Global, text: &Text, line: u32) -> Result<Text, Memory>
+    ensures { IfOk result (λ t. t ≡ text.now ++ citing_line line) }
+{
+    Ok(Text::from_string(format!(in alloc; "{text} {line}")?))
+}
+
+// A word, a port and the line that is cited.
+fn port_fault(alloc: Global, word: &str, port: &PortName, line: u32) -> Result<Text, Memory>
+    ensures { IfOk result (λ t. t ≡ (word.now ++ token_of port.now) ++ citing_line line) }
+{
+    let text = word_and(alloc, word, port.as_str().as_bytes())?;
+    cited(alloc, &text, line)
+}
+
+fn file_fault(
+    alloc: Global,
+    path: &TreePath,
+    place: &Text,
+    why: Why,
+    line: u32,
+) -> Result<Text, Memory>
+    ensures { IfOk result
+        (λ t. t ≡ file_line path.now place.now (word_of why) ++ citing_line line) }
+{
+    let text = file_line(alloc, path, place, why)?;
+    cited(alloc, &text, line)
+}
+
+fn version_fault(alloc: Global, port: &PortName, ask: &Ask, line: u32) -> Result<Text, Memory>
+    ensures { IfOk result
+        (λ t. t ≡ no_version_line port.now (ask_view ask.now) ++ citing_line line) }
+{
+    let text = no_version_line(alloc, port, ask)?;
+    cited(alloc, &text, line)
+}
+
+fn disagrees_fault(
+    alloc: Global,
+    path: &TreePath,
+    field: Field,
+    table: &Text,
+    manifest: &Text,
+    line: u32,
+) -> Result<Text, Memory>
+    ensures { IfOk result (λ t. t
+        ≡ disagrees_line path.now (field_view field) table.now manifest.now ++ citing_line line) }
+{
+    let text = disagrees_line(alloc, path, field, table, manifest)?;
+    cited(alloc, &text, line)
+}
+
+// A version, and the line of its floor.
+fn cited_version(alloc: Global, version: &Version, line: u32) -> Result<Text, Memory>
+    ensures { IfOk result
+        (λ t. t ≡ version_text (ask_of version.now) ++ citing_line line) }
+{
+    let text = version.ask().printed(alloc)?;
+    cited(alloc, &text, line)
+}
+
+fn conflict_fault(
+    alloc: Global,
+    port: &PortName,
+    first: &Version,
+    first_line: u32,
+    second: &Version,
+    second_line: u32,
+) -> Result<Text, Memory>
+    ensures { IfOk result (λ t. t ≡ fault_line
+        (fault.conflicts port.now first.now first_line second.now second_line)) }
+{
+    let port = TokenOf(port.as_str().as_bytes());
+    let first = cited_version(alloc, first, first_line)?;
+    let second = cited_version(alloc, second, second_line)?;
+    Ok(Text::from_string(format!(in alloc; "conflict {port} {first} {second}")?))
+}
+
+// A word, what is judged with the version that it is judged by, and the line that is cited.
+fn judged_fault(
+    alloc: Global,
+    word: &str,
+    who: &Who,
+    feature: &FeatureName,
+    version: &Option<Version>,
+    line: u32,
+) -> Result<Text, Memory>
+    ensures { IfOk result (λ t. t ≡ word.now
+        ++ judged_text (who_view who.now) (feature_view feature.now) version.now
+        ++ citing_line line) }
+{
+    let who = who_text(alloc, who)?;
+    let feature = TokenOf(feature.as_str().as_bytes());
+    let version = version_or_none(alloc, version)?;
+    Ok(Text::from_string(format!(in alloc; "{word}{who} {feature} {version} {line}")?))
+}
+
+fn cycle_fault(alloc: Global, walk: &[Instance]) -> Result<Text, Memory>
+    ensures { IfOk result (λ t. t ≡ fault_line (fault.has_cycle (map instance_view walk.now))) }
+{
+    let mut line = Text::from_str(alloc, "cycle")?;
+    for instance in walk {
+        line.push_str(" ")?;
+        line.push_str(instance_text(alloc, instance)?.as_str())?;
+    }
+    Ok(line)
+}
+
+/// The line of a fault, without the line feed that ends it.
+pub fn fault_line(alloc: Global, fault: &Fault) -> Result<Text, Memory>
+    ensures { IfOk result (λ t. t ≡ fault_line (fault_view fault.now)) }
+{
+    match fault {
+        Fault::NoRegistry { port, line } => port_fault(alloc, "no-registry ", port, *line),
+        Fault::NoBaseline { port, line } => port_fault(alloc, "no-baseline ", port, *line),
+        Fault::BadFile {
+            path,
+            place,
+            why,
+            line,
+        } => file_fault(alloc, path, place, *why, *line),
+        Fault::NoVersion { port, ask, line } => version_fault(alloc, port, ask, *line),
+        Fault::Disagrees {
+            path,
+            field,
+            table,
+            manifest,
+            line,
+        } => disagrees_fault(alloc, path, *field, table, manifest, *line),
+        Fault::Conflict {
+            port,
+            first,
+            first_line,
+            second,
+            second_line,
+        } => conflict_fault(alloc, port, first, *first_line, second, *second_line),
+        Fault::NoFeature {
+            who,
+            feature,
+            version,
+            line,
+        } => judged_fault(alloc, "no-feature ", who, feature, version, *line),
+        Fault::Unsupported {
+            who,
+            feature,
+            version,
+            line,
+        } => judged_fault(alloc, "unsupported ", who, feature, version, *line),
+        Fault::Cycle(walk) => cycle_fault(alloc, walk.as_slice()),
+    }
 }
