@@ -12,6 +12,7 @@ pub mod lines;
 mod manifests;
 mod plans;
 mod projects;
+pub mod reason_lines;
 mod reasons;
 mod settings;
 mod wrongs;
