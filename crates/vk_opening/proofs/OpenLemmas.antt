@@ -15,13 +15,14 @@ use Rattle.vk_config.specs.Configs.{Config}
 use Rattle.vk_opening.specs.Openings.{opening_with, opened_of}
 use Rattle.vk_model.specs.EarlyViews.{early_view}
 use Rattle.vk_opening.specs.OpeningViews.{opening_found, opening_view, answer_of}
-use Rattle.vk_opening.specs.Opened.{Opens, has_failed}
+use Rattle.vk_base.specs.Stops.{was_out}
+use Rattle.vk_opening.specs.Opened.{Opens}
 use Rattle.vk_opening.specs.Views.{root_view, triplets_view, overlay_view, opened_files}
 use Rattle.vk_model.specs.declared.settings.Setting.{Setting}
 use Rattle.vk_opening.specs.declared.starts.Start.{Start}
 use Rattle.vk_opening.specs.declared.opens.Opened.{Opened}
 use Rattle.vk_opening.specs.declared.opens.Opened.TheVariants as opened
-use Rattle.vk_opening.specs.declared.opens.OpenStop.{OpenStop}
+use Rattle.vk_base.specs.declared.stops.Outage.{Outage}
 use Rattle.vk_model.specs.declared.earlies.Early.{Early}
 use Rattle.vk_opening.specs.declared.opens.Opening.{Opening}
 use Rattle.vk_opening.specs.declared.opens.Found.{Found}
@@ -82,10 +83,10 @@ opens_with project (Err (stop.Memory m)) files before after kept none distinct r
 }
 
 -- what a caller has of it: nothing but reading was done, no path twice, and what was read is the files'
-pub only_read : {project : Project} {answer : Result Opened OpenStop} {before after : State} → Opens project answer before after → OnlyRead (has_failed answer) before after
+pub only_read : {project : Project} {answer : Result Opened Outage} {before after : State} → Opens project answer before after → OnlyRead (was_out answer) before after
 only_read o = record { asked = paths_of o.once.more; looks = o.once.looks }
 
-pub none_twice : {project : Project} {answer : Result Opened OpenStop} {before after : State} (o : Opens project answer before after) → NoRepeats (paths_of o.once.more)
+pub none_twice : {project : Project} {answer : Result Opened Outage} {before after : State} (o : Opens project answer before after) → NoRepeats (paths_of o.once.more)
 none_twice o = subst (λ kept. NoRepeats (paths_of kept)) o.once.kept o.distinct
 
 pub start_right : {project : Project} {setting : Setting} {start : Start} {before after : State} → Opens project (Ok (opened.Ready setting start)) before after → IfSome before.told (λ t. IsOf t.files (opened_files start))

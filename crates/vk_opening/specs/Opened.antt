@@ -1,5 +1,5 @@
 -- What opening a project answers, and what it does to the tree.
-use Rattle.std.specs.Prelude.{◌≡◌, Bool, true, false, [], IfSome, Result, Ok, Err}
+use Rattle.std.specs.Prelude.{◌≡◌, [], IfSome, Result, Ok, Err}
 use Rattle.vk_spec.specs.States.{State}
 use Rattle.vk_spec.specs.Lists.{NoRepeats}
 use Rattle.vk_files.specs.Kept.{Kept, paths_of, ReadOnce}
@@ -10,31 +10,26 @@ use Rattle.vk_model.specs.EarlyViews.{early_view}
 use Rattle.vk_opening.specs.Views.{ready_view, opened_files}
 use Rattle.vk_opening.specs.declared.opens.Opened.{Opened}
 use Rattle.vk_opening.specs.declared.opens.Opened.TheVariants as opened
-use Rattle.vk_opening.specs.declared.opens.OpenStop.{OpenStop}
-use Rattle.vk_opening.specs.declared.opens.OpenStop.TheVariants as stop
-
-abbrev pub has_failed : Result Opened OpenStop → Bool
-has_failed (Ok answer) = false
-has_failed (Err stop.TreeFailed) = true
-has_failed (Err stop.Memory) = false
+use Rattle.vk_base.specs.Stops.{was_out}
+use Rattle.vk_base.specs.declared.stops.Outage.{Outage}
 
 -- a setting and a start exactly where the files give them, and an early line exactly where they give that
-abbrev pub Tells : Result Opened OpenStop → Result Opening plain.Early → Type 0
+abbrev pub Tells : Result Opened Outage → Result Opening plain.Early → Type 0
 Tells (Ok (opened.Ready setting start)) given = given ≡ Ok (ready_view setting start)
 Tells (Ok (opened.Refused early)) given = given ≡ Err (early_view early)
 Tells (Err stopped) given = Unit {0}
 
 -- what was read is kept in the start
-abbrev pub IsKept : Kept → Result Opened OpenStop → Type 0
+abbrev pub IsKept : Kept → Result Opened Outage → Type 0
 IsKept kept (Ok (opened.Ready setting start)) = kept ≡ opened_files start
 IsKept kept (Ok (opened.Refused early)) = Unit {0}
 IsKept kept (Err stopped) = Unit {0}
 
 -- nothing but reading was done, no path twice; and where the files are told, the answer is what they give
-pub record Opens (project : Project) (answer : Result Opened OpenStop) (before after : State) : Type 0 where
+pub record Opens (project : Project) (answer : Result Opened Outage) (before after : State) : Type 0 where
   -- what was read, by path
   pub read : Kept
-  pub once : ReadOnce (has_failed answer) (record { kept = []; tree = before }) (record { kept = read; tree = after })
+  pub once : ReadOnce (was_out answer) (record { kept = []; tree = before }) (record { kept = read; tree = after })
   pub distinct : NoRepeats (paths_of read)
   pub kept : IsKept read answer
   pub content : IfSome before.told (λ t. Tells answer (opened_of project t.files))

@@ -19,8 +19,8 @@ use Rattle.vk_opening.specs.declared.opens.Rest.{Rest}
 use Rattle.vk_opening.specs.declared.opens.Opening.{Opening}
 use Rattle.vk_opening.specs.declared.opens.Opened.{Opened}
 use Rattle.vk_opening.specs.declared.opens.Opened.TheVariants as opened
-use Rattle.vk_opening.specs.declared.opens.OpenStop.{OpenStop}
-use Rattle.vk_opening.specs.declared.opens.OpenStop.TheVariants as open_stop
+use Rattle.vk_base.specs.declared.stops.Outage.{Outage}
+use Rattle.vk_base.specs.declared.stops.Outage.TheVariants as outage
 
 abbrev pub opening_view : Opening → plain.Opening
 opening_view o = record { setting = setting_view o.setting; start = record { folder = o.folder; config = config_view o.config; overlays = map overlay_view o.overlays; overrides = map override_view o.overrides } }
@@ -53,8 +53,8 @@ opening_rest project root rest = opening_found project root (config_view rest.co
 abbrev pub ready : Opening → FileCache → Opened
 ready o files = opened.Ready o.setting (record { folder = o.folder; config = o.config; overlays = o.overlays; overrides = o.overrides; files = files })
 
-abbrev pub answer_of : Result Opening (Stop Early) → FileCache → Result Opened OpenStop
+abbrev pub answer_of : Result Opening (Stop Early) → FileCache → Result Opened Outage
 answer_of (Ok o) files = Ok (ready o files)
 answer_of (Err (stop.Fault early)) files = Ok (opened.Refused early)
-answer_of (Err stop.Failed) files = Err open_stop.TreeFailed
-answer_of (Err (stop.Memory m)) files = Err open_stop.Memory
+answer_of (Err stop.Failed) files = Err outage.Failed
+answer_of (Err (stop.Memory m)) files = Err (outage.Memory m)

@@ -14,7 +14,7 @@ mod starts;
 mod triplet_files;
 
 pub use laws::{early_files, first_triplet, two_places};
-pub use opens::{OpenStop, Opened, open};
+pub use opens::{Opened, open};
 pub use projects::{from_folder, manifest_path};
 pub use roots::PortFile;
 pub use starts::{Overlay, Start};

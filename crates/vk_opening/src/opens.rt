@@ -21,7 +21,7 @@ use crate::roots::{Root, RootFile};
 use crate::starts::{Overlay, Start};
 use crate::triplet_files::{Triplets, read_triplets};
 use std::alloc::Global;
-use vk_base::{FeatureName, List, Memory, Stop, TreePath};
+use vk_base::{FeatureName, List, Memory, Outage, Stop, TreePath};
 use vk_config::Config;
 use vk_files::FileCache;
 use vk_model::{Early, Override, Project, Setting};
@@ -34,15 +34,6 @@ pub enum Opened {
     Ready { setting: Setting, start: Start },
     /// The first early line.
     Refused(Early),
-}
-
-/// Why opening a project gave nothing.
-#[derive(Clone, Copy, Debug, PartialEq, Eq)]
-pub enum OpenStop {
-    /// A call of the tree failed.
-    TreeFailed,
-    /// Out of memory.
-    Memory,
 }
 
 // A setting, and a start but for the files that were read.
@@ -247,21 +238,21 @@ fn ready(opening: Opening, files: FileCache) -> Opened
     }
 }
 
-fn answer(read: Result<Opening, Stop<Early>>, files: FileCache) -> Result<Opened, OpenStop>
+fn answer(read: Result<Opening, Stop<Early>>, files: FileCache) -> Result<Opened, Outage>
     ensures { result ≡ answer_of read files }
 {
     match read {
         Ok(opening) => Ok(ready(opening, files)),
         Err(Stop::Fault(early)) => Ok(Opened::Refused(early)),
-        Err(Stop::Failed) => Err(OpenStop::TreeFailed),
-        Err(Stop::Memory(_)) => Err(OpenStop::Memory),
+        Err(Stop::Failed) => Err(Outage::Failed),
+        Err(Stop::Memory(memory)) => Err(Outage::Memory(memory)),
     }
 }
 
 /// Opens a project: reads its root manifest, its configuration, its triplets and its overlays, each
-/// path once. `Refused` exactly where they have a fault, with the first in this order; `TreeFailed`
+/// path once. `Refused` exactly where they have a fault, with the first in this order; `Failed`
 /// exactly where a call of the tree failed.
-pub fn open<T: Tree>(alloc: Global, tree: &mut T, project: &Project) -> Result<Opened, OpenStop>
+pub fn open<T: Tree>(alloc: Global, tree: &mut T, project: &Project) -> Result<Opened, Outage>
     ensures { Opens project.now result (T.state tree.old) (T.state tree.new) }
 {
     let mut files = FileCache::new(alloc);
