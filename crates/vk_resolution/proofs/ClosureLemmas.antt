@@ -5,7 +5,7 @@ use Rattle.std.proofs.lemmas.Bool.{cases_lt}
 use Rattle.std.proofs.lemmas.List.{length-take-le, length-map}
 use Rattle.vk_spec.specs.Lists.{NoRepeats}
 use Rattle.vk_spec.proofs.ListLemmas.{contains_nothing, contains_first, contains_later, contains_cases}
-use Rattle.vk_resolution.specs.Least.{IsLeast}
+use Rattle.vk_resolution.specs.Least.{IsForced, IsLeast}
 use Rattle.vk_resolution.specs.Asking.{Fact, fact_key}
 use Rattle.vk_resolution.specs.Consequences.{Inputs, rules_of}
 use Rattle.vk_resolution.specs.Reasons.{Reason, IsReasons, facts_of}
@@ -47,21 +47,22 @@ take_distinct (suc n) (y ∷ ys) distinct = ((λ h. distinct.0 (take_contains n 
 facts_long : (reasons : List Reason) → length (facts_of reasons) ≡ length reasons
 facts_long reasons = length-map reasons (λ (r : Reason). r.fact)
 
-module _ (inputs : Inputs) (bytes : Printing) (facts : List Fact) (least : IsLeast (rules_of inputs) facts) (reasons : List Reason) (same : facts_of reasons ≡ facts) (is : IsReasons inputs reasons) where
-  too_many : inputs.setting.max_facts < length facts → HasTooManyFacts inputs
-  too_many more = record {
-    facts = take (inputs.setting.max_facts + 1) facts;
-    forced = record {
-      distinct = take_distinct (inputs.setting.max_facts + 1) facts least.forced.distinct;
-      within = λ other closed x h. least.forced.within other closed x (take_contains (inputs.setting.max_facts + 1) facts x h);
-    };
-    more = length-take-le (inputs.setting.max_facts + 1) facts (omega arith);
-  }
+-- where more facts are forced than the setting allows, there are too many
+pub too_many : (inputs : Inputs) (facts : List Fact) → IsForced (rules_of inputs) facts → inputs.setting.max_facts < length facts → HasTooManyFacts inputs
+too_many inputs facts forced more = record {
+  facts = take (inputs.setting.max_facts + 1) facts;
+  forced = record {
+    distinct = take_distinct (inputs.setting.max_facts + 1) facts forced.distinct;
+    within = λ other closed x h. forced.within other closed x (take_contains (inputs.setting.max_facts + 1) facts x h);
+  };
+  more = length-take-le (inputs.setting.max_facts + 1) facts (omega arith);
+}
 
+module _ (inputs : Inputs) (bytes : Printing) (facts : List Fact) (least : IsLeast (rules_of inputs) facts) (reasons : List Reason) (same : facts_of reasons ≡ facts) (is : IsReasons inputs reasons) where
   few_or_many : HasClosure inputs bytes ⊎ HasTooManyFacts inputs
   few_or_many =
       elim (cases_lt inputs.setting.max_facts (length facts)) [
-        | inl more ↦ inr (too_many more)
+        | inl more ↦ inr (too_many inputs facts least.forced more)
         | inr few ↦ inl (
             let long : length reasons ≡ length facts = sym (facts_long reasons) ∙ ap length same in
             record {

@@ -43,3 +43,6 @@ pub mod RootFactLemmas
 pub mod RootNameLemmas
 pub mod MarkLemmas
 pub mod PinLemmas
+pub mod WorkLemmas
+pub mod ProducedCauses
+pub mod ClosingLemmas

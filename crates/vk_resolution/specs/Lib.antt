@@ -22,6 +22,8 @@ pub mod Projects
 pub mod Corners
 pub mod LeastLaws
 pub mod Rounds
+pub mod Worklist
+pub mod Closing
 pub mod Laws
 pub mod Service
 pub mod Agreement
