@@ -65,10 +65,10 @@ taken_stays inputs lines taken more r c = subst (λ l. IsCaused inputs l (taken 
 lines_stays : (inputs : Inputs) (lines more taken : List Fact) (r : Reason) → IsCaused inputs lines taken r → IsCaused inputs (lines ++ more) taken r
 lines_stays inputs lines more taken r c = subst (λ l. IsCaused inputs (lines ++ more) l r) (append-nil taken) (caused_stays inputs lines more taken [] r c)
 
-facts_more : (one two : List Reason) → facts_of (one ++ two) ≡ facts_of one ++ facts_of two
+pub facts_more : (one two : List Reason) → facts_of (one ++ two) ≡ facts_of one ++ facts_of two
 facts_more one two = map-append (λ q. q.fact) one two
 
-facts_within : (one two : List Reason) → IsWithin one two → IsWithin (facts_of one) (facts_of two)
+pub facts_within : (one two : List Reason) → IsWithin one two → IsWithin (facts_of one) (facts_of two)
 facts_within one two within x h = let p = contains_map (λ (q : Reason). q.fact) one x h in subst (Contains (facts_of two)) p.2 (map_contains (λ (q : Reason). q.fact) two p.0 (within p.0 p.1))
 
 module _ (inputs : Inputs) where

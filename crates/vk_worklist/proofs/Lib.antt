@@ -1,0 +1,9 @@
+mod MapLemmas
+mod NoteLemmas
+mod LevelLemmas
+mod EndLemmas
+mod TickLemmas
+mod RowLemmas
+mod LineLemmas
+mod JoinLemmas
+mod SourceLemmas

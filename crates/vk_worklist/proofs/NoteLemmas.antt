@@ -1,0 +1,85 @@
+-- One reason more is noted, or is one too many.
+use Rattle.std.proofs.Common.{◌≡◌, ◌<◌, ◌+◌, ℕ, List, [], ◌∷◌, ◌++◌, length, inl, inr, refl, ap, sym, ◌∙◌, subst, arith}
+use Rattle.std.proofs.lemmas.List.{map-append, length-map}
+use Rattle.std.specs.List.{Contains}
+use Rattle.std.proofs.lemmas.List.Elements.{Contains-append_left, Contains-append_right, Contains-append_cases}
+use Rattle.vk_spec.specs.Lists.{IsWithin}
+use Rattle.vk_spec.proofs.ListLemmas.{contains_nothing, contains_first, contains_later, contains_cases}
+use Rattle.vk_resolution.specs.Asking as plain
+use Rattle.vk_resolution.specs.Reasons.{Reason}
+use Rattle.vk_resolution.specs.Closing.{NotesReasons, IsTooMuch}
+use Rattle.vk_resolution.proofs.ClosingLemmas.{reasons_nothing, reasons_new, reasons_then, facts_within}
+use Rattle.vk_model.specs.declared.facts.Fact.{Fact}
+use Rattle.vk_model.specs.declared.reasons.Cause.{Cause}
+use Rattle.vk_model.specs.FactViews.{fact_view}
+use Rattle.vk_worklist.specs.Entries.{reason_of, reasons_in, facts_in}
+use Rattle.vk_worklist.proofs.MapLemmas.{Entries}
+
+pub noted_new : (lines fresh : Entries) (x : Fact) (c : Cause) → (Contains (facts_in lines) (fact_view x) → ⊥) → (Contains (facts_in fresh) (fact_view x) → ⊥)
+    → NotesReasons (facts_in lines) (reason_of (x, c) ∷ []) (reasons_in fresh) (reasons_in (fresh ++ (x, c) ∷ []))
+noted_new lines fresh x c unknown unnoted =
+    subst (NotesReasons (facts_in lines) (reason_of (x, c) ∷ []) (reasons_in fresh)) (sym (map-append reason_of fresh ((x, c) ∷ []))) (reasons_new (facts_in lines) (reasons_in fresh) (reason_of (x, c)) unknown unnoted)
+
+pub one_too_many : (lines fresh : Entries) (x : Fact) (c : Cause) (most : ℕ) → (Contains (facts_in lines) (fact_view x) → ⊥) → (Contains (facts_in fresh) (fact_view x) → ⊥)
+    → most < length lines + length fresh + 1 → IsTooMuch (facts_in lines) (reason_of (x, c) ∷ []) (reasons_in fresh) most
+one_too_many lines fresh x c most unknown unnoted more = record {
+  done = [];
+  new = reasons_in fresh;
+  noted = reasons_nothing (facts_in lines) (reasons_in fresh);
+  within = λ r h. absurd (contains_nothing r h);
+  next = reason_of (x, c);
+  brings = contains_first (reason_of (x, c)) [];
+  unknown = unknown;
+  unnoted = unnoted;
+  more = (let a = length-map lines reason_of in let b = length-map (reasons_in lines) (λ (r : Reason). r.fact) in let d = length-map fresh reason_of in omega (arith, a, b, d, more));
+}
+
+-- ---- one after the other, from the last on
+
+-- the order of what is brought up doesn't matter
+noted_turned : {lines : List plain.Fact} {one other a b : List Reason} → IsWithin one other → IsWithin other one → NotesReasons lines one a b → NotesReasons lines other a b
+noted_turned {one = one} {other = other} to from r = record {
+  facts = record {
+    kept = r.facts.kept;
+    sound = λ x h. elim (r.facts.sound x h) [ inl was ↦ inl was | inr made ↦ inr (facts_within one other to x made) ];
+    fresh = r.facts.fresh;
+    complete = λ x h. r.facts.complete x (facts_within other one from x h);
+    distinct = r.facts.distinct;
+  };
+  causes = λ q h. elim (r.causes q h) [ inl was ↦ inl was | inr new ↦ inr (to q new.0, new.1, new.2) ];
+}
+
+at_front : (r : Reason) (done : List Reason) → IsWithin (done ++ r ∷ []) (r ∷ done)
+at_front r done q h = elim (Contains-append_cases done (r ∷ []) q h) [ inl old ↦ contains_later r q done old | inr new ↦ Contains-append_left (r ∷ []) done q new ]
+
+at_end : (r : Reason) (done : List Reason) → IsWithin (r ∷ done) (done ++ r ∷ [])
+at_end r done q h = elim (contains_cases r q done h) [ inl same ↦ subst (Contains (done ++ r ∷ [])) same (Contains-append_right done (r ∷ []) r (contains_first r [])) | inr old ↦ Contains-append_left done (r ∷ []) q old ]
+
+pub noted_more : {lines : List plain.Fact} (done : Entries) (e : Fact × Cause) {a b c : List Reason} → NotesReasons lines (reasons_in done) a b → NotesReasons lines (reason_of e ∷ []) b c → NotesReasons lines (reasons_in (e ∷ done)) a c
+noted_more done e one two = noted_turned (at_front (reason_of e) (reasons_in done)) (at_end (reason_of e) (reasons_in done)) (reasons_then one two)
+
+-- one too many of these is one too many of all
+pub much_more : {lines : List plain.Fact} (rest done all : Entries) (e : Fact × Cause) {a b : List Reason} {most : ℕ} → all ≡ rest ++ e ∷ done → NotesReasons lines (reasons_in done) a b → IsTooMuch lines (reason_of e ∷ []) b most → IsTooMuch lines (reasons_in all) a most
+much_more rest done all e split noted much =
+    let whole : reasons_in all ≡ reasons_in rest ++ (reason_of e ∷ reasons_in done) = ap reasons_in split ∙ map-append reason_of rest (e ∷ done) in
+    let among : (r : Reason) → Contains (reason_of e ∷ reasons_in done) r → Contains (reasons_in all) r = λ r h. subst (λ l. Contains l r) (sym whole) (Contains-append_right (reasons_in rest) (reason_of e ∷ reasons_in done) r h) in
+    let this : (r : Reason) → Contains (reason_of e ∷ []) r → Contains (reasons_in all) r = λ r h. among r (Contains-append_left (reason_of e ∷ []) (reasons_in done) r h) in
+    record {
+      done = reasons_in done ++ much.done;
+      new = much.new;
+      noted = reasons_then noted much.noted;
+      within = λ r h. elim (Contains-append_cases (reasons_in done) much.done r h) [
+        | inl old ↦ among r (contains_later (reason_of e) r (reasons_in done) old)
+        | inr new ↦ this r (much.within r new)
+      ];
+      next = much.next;
+      brings = this much.next much.brings;
+      unknown = much.unknown;
+      unnoted = much.unnoted;
+      more = much.more;
+    }
+
+-- a list without length
+pub nothing_left : {X : Type 0} (left : List X) → length left ≡ 0 → left ≡ []
+nothing_left [] none = refl
+nothing_left (x ∷ left) none = absurd (omega arith)

@@ -1,0 +1,57 @@
+ghost use Rattle.std.specs.Prelude.{◌≡◌, ◌+◌, ◌++◌, ◌∷◌, ◌<◌, ◌≤◌, ◌^◌, [], List, IfOk, OnOk, take};
+ghost use Rattle.vk_spec.specs.Catalogues.{OnlyAsked, OnPages};
+ghost use Rattle.vk_spec.specs.Settings.{Setting};
+ghost use Rattle.vk_base.specs.Stops.{was_out};
+ghost use Rattle.vk_resolution.specs.Givens.{Pages};
+ghost use Rattle.vk_resolution.specs.Asking as plain;
+ghost use Rattle.vk_resolution.specs.Planner.{inputs_of};
+ghost use Rattle.vk_model.specs.FactViews.{fact_view};
+ghost use Rattle.vk_worklist.specs.Entries.{reasons_in, facts_in};
+ghost use Rattle.vk_worklist.specs.Ticks.{tick_of};
+ghost use Rattle.vk_worklist.specs.Alone.{alone_at, joins};
+
+use indexmap::IndexMap;
+use std::sync::ledger::Ledger;
+use vk_base::{Outage, Steps};
+use vk_catalogue::Catalogue;
+use vk_model::{Cause, Fact};
+
+/// What one fact brings up alone, and whether it is joined with others of its port. Facts are asked
+/// about in the order of their lines.
+pub trait Asker {
+    /// What a plan is made under.
+    ghost setting: { Self → Setting };
+    /// What is kept is of these pages, and of these facts, which were asked about in this order.
+    ghost tracks: { Self → Pages → List plain.Fact → Type 0 };
+
+    /// Adds what the fact of a line, counted from 0, brings up alone, in order, each with its cause,
+    /// and tells whether it is joined: each fact is, but for a floor whose version isn't visited.
+    fn ask<C: Catalogue, L: Ledger>(
+        &mut self,
+        cat: &mut C,
+        lines: &IndexMap<Fact, Cause>,
+        n: usize,
+        fact: &Fact,
+        brought: &mut Vec<(Fact, Cause)>,
+        steps: &mut Steps<L>,
+    ) -> Result<bool, Outage>
+        requires small { n + 1 < 2 ^ 32 }
+        requires at { take (n + 1) (facts_in lines.now.entries)
+            ≡ take n (facts_in lines.now.entries) ++ fact_view fact.now ∷ [] }
+        requires tracks { OnPages
+            (λ pages. tracks self.old pages (take n (facts_in lines.now.entries)))
+            (C.state cat.old) }
+        ensures ticks { steps.new ≤ steps.old + tick_of (fact_view fact.now) }
+        ensures setting { setting self.new ≡ setting self.old }
+        ensures asked { OnlyAsked (was_out result) (C.state cat.old) (C.state cat.new) }
+        ensures tracks { OnOk result (OnPages
+            (λ pages. tracks self.new pages (take (n + 1) (facts_in lines.now.entries)))
+            (C.state cat.old)) }
+        ensures alone { OnOk result (OnPages
+            (λ pages. reasons_in brought.new.items ≡ reasons_in brought.old.items
+                ++ alone_at (inputs_of (setting self.old) pages) (fact_view fact.now) (n + 1))
+            (C.state cat.old)) }
+        ensures joins { IfOk result (λ joined. OnPages
+            (λ pages. joined ≡ joins (inputs_of (setting self.old) pages) (fact_view fact.now))
+            (C.state cat.old)) };
+}
