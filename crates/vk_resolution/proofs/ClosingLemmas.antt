@@ -1,5 +1,5 @@
 -- A worklist of reasons: what is noted, a fact more that is taken up, a level's end, the end, and too many facts.
-use Rattle.std.proofs.Common.{◌≡◌, ◌<◌, ◌⊎◌, ◌+◌, ℕ, false, List, [], ◌∷◌, ◌++◌, length, inl, inr, refl, sym, subst, arith}
+use Rattle.std.proofs.Common.{◌≡◌, ◌⊎◌, ℕ, false, List, [], ◌∷◌, ◌++◌, inl, inr, refl, sym, subst, arith}
 use Rattle.std.specs.Prelude.{Option, Some, None, option_and_then}
 use Rattle.std.specs.List.{Contains, list_any}
 use Rattle.std.proofs.lemmas.List.{map-append, append-nil, length-append, length-map}
@@ -85,16 +85,16 @@ module _ (inputs : Inputs) where
       → (taken ++ y ∷ []) ++ rest ≡ facts_of lines → IsClosing inputs lines taken fresh → Produces inputs taken y brought → NotesReasons (facts_of lines) brought fresh new → IsClosing inputs lines (taken ++ y ∷ []) new
   closing_more lines taken rest fresh y brought new whole was produces notes = record {
     work = work_more (rules_of inputs) fact_key (facts_of lines) taken (facts_of fresh) y (facts_of brought) (facts_of new) was.work
-      (subst (λ l. Contains l y) whole (Contains-append_left (taken ++ y ∷ []) rest y (Contains-append_right taken (y ∷ []) y (contains_first y [])))) produces.facts notes.facts;
+        (subst (λ l. Contains l y) whole (Contains-append_left (taken ++ y ∷ []) rest y (Contains-append_right taken (y ∷ []) y (contains_first y [])))) produces.facts notes.facts;
     caused = λ r h. taken_stays inputs (facts_of lines) taken (y ∷ []) r (was.caused r h);
     fresh_caused = λ r h. elim (notes.causes r h) [
       | inl old ↦ taken_stays inputs (facts_of lines) taken (y ∷ []) r (was.fresh_caused r old)
       | inr made ↦ inr (
-          first_facts inputs lines r.fact (λ x in_roots. was.work.ordered.level.complete x (roots_stay (rules_of inputs) was.work.rank x in_roots)) made.1,
-          subst (λ l. option_and_then (in_lines l) (citing inputs (taken ++ y ∷ []) r.fact) ≡ Some r.cause) whole
+        first_facts inputs lines r.fact (λ x in_roots. was.work.ordered.level.complete x (roots_stay (rules_of inputs) was.work.rank x in_roots)) made.1,
+        subst (λ l. option_and_then (in_lines l) (citing inputs (taken ++ y ∷ []) r.fact) ≡ Some r.cause) whole
             (more_lines (taken ++ y ∷ []) rest (citing inputs (taken ++ y ∷ []) r.fact) r.cause
-              (new_caused inputs taken y r (λ follows. elim (was.work.work.complete r.fact follows) [ inl known ↦ made.1 known | inr noted ↦ made.2 noted ]) (produces.cited r made.0))),
-        )
+            (new_caused inputs taken y r (λ follows. elim (was.work.work.complete r.fact follows) [ inl known ↦ made.1 known | inr noted ↦ made.2 noted ]) (produces.cited r made.0))),
+      )
     ];
   }
 
@@ -102,7 +102,7 @@ module _ (inputs : Inputs) where
   pub closing_next : (lines fresh sorted : List Reason) → IsClosing inputs lines (facts_of lines) fresh → IsWithin fresh sorted → IsWithin sorted fresh → NoRepeats (facts_of sorted) → Ascends fact_key (facts_of sorted) → IsClosing inputs (lines ++ sorted) (facts_of lines) []
   closing_next lines fresh sorted was to from distinct ascends = record {
     work = subst (λ l. IsWork (rules_of inputs) fact_key l (facts_of lines) []) (sym (facts_more lines sorted))
-      (work_next (rules_of inputs) fact_key (facts_of lines) (facts_of fresh) (facts_of sorted) was.work (facts_within fresh sorted to) (facts_within sorted fresh from) distinct ascends);
+        (work_next (rules_of inputs) fact_key (facts_of lines) (facts_of fresh) (facts_of sorted) was.work (facts_within fresh sorted to) (facts_within sorted fresh from) distinct ascends);
     caused = λ r h. subst (λ l. IsCaused inputs l (facts_of lines) r) (sym (facts_more lines sorted)) (elim (Contains-append_cases lines sorted r h) [
       | inl old ↦ lines_stays inputs (facts_of lines) (facts_of sorted) (facts_of lines) r (was.caused r old)
       | inr new ↦ lines_stays inputs (facts_of lines) (facts_of sorted) (facts_of lines) r (was.fresh_caused r (from r new))
@@ -126,23 +126,23 @@ module _ (inputs : Inputs) where
       let follows : (x : Fact) → Contains (facts_of brought) x → FollowsFrom (rules_of inputs) (Contains facts) x =
       λ x h. follows_more (λ z held. elim (Contains-push_cases taken y z held) [ inl old ↦ was.work.within z old | inr same ↦ subst (Contains facts) same here ]) (produces.facts.sound x h) in
       too_many inputs (facts ++ (noted ++ much.next.fact ∷ []))
-        (more_forced (rules_of inputs) facts (noted ++ much.next.fact ∷ []) (level_forced (rules_of inputs) was.work.rank facts was.work.ordered.level) (record {
-          sound = λ x h. elim (Contains-push_cases noted much.next.fact x h) [
-            | inl old ↦ elim (much.noted.facts.sound x old) [
-              | inl was_fresh ↦ follows_more was.work.within (was.work.work.sound x was_fresh)
-              | inr made ↦ follows x (facts_within much.done brought much.within x made)
-            ]
-            | inr same ↦ subst (FollowsFrom (rules_of inputs) (Contains facts)) same (follows much.next.fact (map_contains (λ (q : Reason). q.fact) brought much.next much.brings))
-          ];
-          apart = λ x h known. elim (Contains-push_cases noted much.next.fact x h) [
-            | inl old ↦ elim (much.noted.facts.fresh x old) [ inl was_fresh ↦ was.work.work.apart x was_fresh known | inr unknown ↦ unknown known ]
-            | inr same ↦ much.unknown (subst (Contains facts) (sym same) known)
-          ];
-          distinct = no_repeats_push noted much.next.fact (much.noted.facts.distinct was.work.work.distinct) much.unnoted;
-        }))
-        (let a = length-append facts (noted ++ much.next.fact ∷ []) in
-        let b = length-append noted (much.next.fact ∷ []) in
-        let c = much.more in
-        let d = length-map lines (λ (q : Reason). q.fact) in
-        let e = length-map much.new (λ (q : Reason). q.fact) in
-        omega (arith, a, b, c, d, e))
+      (more_forced (rules_of inputs) facts (noted ++ much.next.fact ∷ []) (level_forced (rules_of inputs) was.work.rank facts was.work.ordered.level) (record {
+        sound = λ x h. elim (Contains-push_cases noted much.next.fact x h) [
+          | inl old ↦ elim (much.noted.facts.sound x old) [
+            | inl was_fresh ↦ follows_more was.work.within (was.work.work.sound x was_fresh)
+            | inr made ↦ follows x (facts_within much.done brought much.within x made)
+          ]
+          | inr same ↦ subst (FollowsFrom (rules_of inputs) (Contains facts)) same (follows much.next.fact (map_contains (λ (q : Reason). q.fact) brought much.next much.brings))
+        ];
+        apart = λ x h known. elim (Contains-push_cases noted much.next.fact x h) [
+          | inl old ↦ elim (much.noted.facts.fresh x old) [ inl was_fresh ↦ was.work.work.apart x was_fresh known | inr unknown ↦ unknown known ]
+          | inr same ↦ much.unknown (subst (Contains facts) (sym same) known)
+        ];
+        distinct = no_repeats_push noted much.next.fact (much.noted.facts.distinct was.work.work.distinct) much.unnoted;
+      }))
+      (let a = length-append facts (noted ++ much.next.fact ∷ []) in
+      let b = length-append noted (much.next.fact ∷ []) in
+      let c = much.more in
+      let d = length-map lines (λ (q : Reason). q.fact) in
+      let e = length-map much.new (λ (q : Reason). q.fact) in
+      omega (arith, a, b, c, d, e))

@@ -1,25 +1,20 @@
 -- The cause of a fact that is new: it cites the fact that brings it up, and stays while lines are added.
-use Rattle.std.proofs.Common.{◌≡◌, ◌<◌, ◌≤◌, ◌⊎◌, ◌+◌, ℕ, zero, suc, Bool, true, false, cond, List, [], ◌∷◌, ◌++◌, length, map, inl, inr, refl, ap, sym, ◌∙◌, subst, arith}
+use Rattle.std.proofs.Common.{◌≡◌, ◌⊎◌, ℕ, suc, Bool, true, false, cond, List, [], ◌∷◌, ◌++◌, length, map, inl, inr, refl, ap, sym, ◌∙◌, subst}
 use Rattle.std.specs.Prelude.{Option, Some, None, option_map, option_and_then, Result, Ok, Err, flat_map}
 use Rattle.std.specs.Option.{option_or}
-use Rattle.std.specs.List.{Contains, list_any, find}
-use Rattle.std.proofs.lemmas.List.Elements.{Contains-append_left, Contains-append_right, Contains-append_cases, Contains-push_cases}
-use Rattle.vk_spec.specs.Lists.{NoRepeats}
-use Rattle.vk_spec.proofs.ListLemmas.{contains_nothing, contains_first, contains_later, contains_cases, contains-flat_map}
+use Rattle.std.specs.List.{Contains, find}
+use Rattle.vk_spec.proofs.ListLemmas.{contains_nothing, contains_first, contains_later, contains-flat_map}
 use Rattle.vk_spec.specs.Pages.{Wrong, Given, overlay, override, baseline}
-use Rattle.vk_spec.specs.Versions.{ask_of}
 use Rattle.vk_resolution.specs.Least.{FollowsFrom, from_one}
-use Rattle.vk_spec.specs.Settings.{Instance}
 use Rattle.vk_resolution.specs.Settings.{root, inst}
 use Rattle.vk_resolution.specs.Givens.{is_pinned}
-use Rattle.vk_resolution.specs.Asking.{Fact, need, floor, visit, fact_key, same_fact, root_facts_of, asked_of}
+use Rattle.vk_resolution.specs.Asking.{Fact, need, floor, visit, same_fact, asked_of}
 use Rattle.vk_resolution.specs.Consequences.{Inputs, Cause, by_root, by_baseline, by_override, by_overlay, by_minimum, by_one, by_two, Step, given_step, asked_step, asked_at, steps_from, rules_of}
-use Rattle.vk_resolution.specs.Reasons.{Reason, facts_of, first_line, line_of, first_cause, citing, in_lines, cause_of}
-use Rattle.vk_resolution.proofs.Members.{contains_single, map_contains, contains_map, found_contains, nothing_found, true_or_false, true_false}
+use Rattle.vk_resolution.specs.Reasons.{Reason, first_line, line_of, first_cause, citing, in_lines, cause_of}
+use Rattle.vk_resolution.proofs.Members.{contains_single, map_contains, found_contains, nothing_found, true_false}
 use Rattle.vk_resolution.proofs.FactLemmas.{same_fact-Decides}
 use Rattle.vk_resolution.proofs.Derivations.{is_visit_fact, step_no_visit}
 use Rattle.vk_resolution.proofs.FirstCauses.{first_cause-stays, first_cause-later}
-use Rattle.vk_resolution.specs.Worklist.{IsTaken}
 use Rattle.vk_resolution.specs.Closing.{IsCited, by_step, by_visit, IsCaused}
 
 -- ---- one fact brings up another by one cause

@@ -1,7 +1,6 @@
 -- A worklist of reasons: each line and each fresh fact with its cause, so far.
-use Rattle.std.specs.Prelude.{◌≡◌, ◌≤◌, ◌<◌, ◌⊎◌, ◌++◌, ◌+◌, ℕ, true, false, List, [], ◌∷◌, length, take, Some, option_and_then}
+use Rattle.std.specs.Prelude.{◌≡◌, ◌<◌, ◌⊎◌, ◌++◌, ◌+◌, ℕ, true, false, List, [], ◌∷◌, length, Some, option_and_then}
 use Rattle.std.specs.List.{Contains, list_any}
-use Rattle.vk_spec.specs.Lists.{NoRepeats}
 use Rattle.vk_spec.specs.Settings.{Instance}
 use Rattle.vk_resolution.specs.Settings.{inst}
 use Rattle.vk_resolution.specs.Asking.{Fact, need, floor, visit, fact_key, same_fact, root_facts_of}
