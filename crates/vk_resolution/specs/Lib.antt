@@ -24,6 +24,7 @@ pub mod LeastLaws
 pub mod Rounds
 pub mod Worklist
 pub mod Closing
+pub mod WorklistLaws
 pub mod Laws
 pub mod Service
 pub mod Agreement

@@ -29,6 +29,7 @@ mod selections;
 mod sentences;
 mod superseded;
 mod walks;
+mod worklists;
 
 pub use agreement::only_what_was_asked_matters;
 pub use choices::a_choice_is_the_least_version_allowed;
@@ -69,3 +70,4 @@ pub use selections::choices_are_made_or_conflicts_told;
 pub use sentences::rules_mean_their_sentences;
 pub use superseded::superseded_versions_count_and_go;
 pub use walks::{heights_exist_where_no_cycle_is, one_shortest_cycle_is_told};
+pub use worklists::{a_worklist_ends_in_the_least_list, a_worklist_of_reasons_ends_in_the_reasons};

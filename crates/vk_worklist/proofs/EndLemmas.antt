@@ -60,7 +60,7 @@ pub first_closing : (o : Option Pages) (s : Setting) (given new : List Reason) �
 first_closing None s given new roots level = tt
 first_closing (Some pages) s given new roots level =
     closing_first (inputs_of s pages) new (λ x h. subst (λ l. Contains l x) roots.facts (level.to x h)) (λ x h. level.from x (subst (λ l. Contains l x) (sym roots.facts) h)) level.distinct level.ascends
-      (λ r h. roots.causes r (level.causes r h))
+    (λ r h. roots.causes r (level.causes r h))
 
 -- more roots than there may be
 pub first_forced : (o : Option Pages) (s : Setting) (given : List Reason) (most : ℕ) → s.max_facts ≡ most → AreRoots s given → IsTooMuch [] given [] most → IfSome o (λ pages. HasTooManyFacts (inputs_of s pages))

@@ -150,8 +150,8 @@ floor_join inputs taken i f m (floor q a) distinct new at passes r h =
     subst (IsJoin inputs taken (need (inst i) f) (suc (length taken))) (same_reason r h) (record {
       follows = from_two (need (inst i) f) (floor q a) (here inputs taken (need (inst i) f) distinct) (among inputs taken (need (inst i) f) distinct m (floor q a) at) (cond_has (bytes_eq q i.port && is_visited inputs q a) (visit i f a) passes);
       cited = by_visit i f a refl (both_lines (line_of (taken ++ need (inst i) f ∷ []) (need (inst i) f)) (line_of (taken ++ need (inst i) f ∷ []) (floor i.port a)) (suc (length taken)) m
-        (own_line inputs taken (need (inst i) f) distinct new)
-        (subst (λ z. line_of (taken ++ need (inst i) f ∷ []) (floor z a) ≡ Some m) port (its_line inputs taken (need (inst i) f) distinct m (floor q a) at)));
+          (own_line inputs taken (need (inst i) f) distinct new)
+          (subst (λ z. line_of (taken ++ need (inst i) f ∷ []) (floor z a) ≡ Some m) port (its_line inputs taken (need (inst i) f) distinct m (floor q a) at)));
     })
   where
     same_reason : (r : Reason) → Contains (record { fact = visit i f a; cause = by_two (suc (length taken)) m } ∷ []) r → record { fact = visit i f a; cause = by_two (suc (length taken)) m } ≡ r
@@ -167,8 +167,8 @@ need_join inputs taken p a m (need (inst i) f) distinct new visited at passes r 
     subst (IsJoin inputs taken (floor p a) (suc (length taken))) (same_reason r h) (record {
       follows = from_two (need (inst i) f) (floor p a) (among inputs taken (floor p a) distinct m (need (inst i) f) at) (here inputs taken (floor p a) distinct) (cond_has (bytes_eq p i.port && is_visited inputs p a) (visit i f a) (and_true (bytes_eq p i.port) (is_visited inputs p a) ((bytes_eq-Decides p i.port).1 (sym port)) visited));
       cited = by_visit i f a refl (both_lines (line_of (taken ++ floor p a ∷ []) (need (inst i) f)) (line_of (taken ++ floor p a ∷ []) (floor i.port a)) m (suc (length taken))
-        (its_line inputs taken (floor p a) distinct m (need (inst i) f) at)
-        (subst (λ z. line_of (taken ++ floor p a ∷ []) (floor z a) ≡ Some (suc (length taken))) (sym port) (own_line inputs taken (floor p a) distinct new)));
+          (its_line inputs taken (floor p a) distinct m (need (inst i) f) at)
+          (subst (λ z. line_of (taken ++ floor p a ∷ []) (floor z a) ≡ Some (suc (length taken))) (sym port) (own_line inputs taken (floor p a) distinct new)));
     })
   where
     same_reason : (r : Reason) → Contains (record { fact = visit i f a; cause = by_two m (suc (length taken)) } ∷ []) r → record { fact = visit i f a; cause = by_two m (suc (length taken)) } ≡ r
@@ -205,9 +205,9 @@ floor_found inputs lines taken more ports i f q a x whole rows held h =
     let line : Contains (floors_of ports i.port) at.0 = subst (λ l. Contains l at.0) (sym (rows.floors i.port)) (at_lines (is_floor_of inputs i.port) taken at.0 (floor q a) at.1 some.0) in
     let r : Reason = record { fact = visit i f a; cause = by_two (suc (length taken)) at.0 } in
     subst (Contains (facts_of (joined lines ports (suc (length taken)) (need (inst i) f)))) some.1
-      (map_contains (λ z. z.fact) (joined lines ports (suc (length taken)) (need (inst i) f)) r
-        (flat_map-contains (λ m. to_visit i f (suc (length taken)) m (fact_at lines m)) (floors_of ports i.port) at.0 r line
-          (subst (λ o. Contains (to_visit i f (suc (length taken)) at.0 o) r) (sym (found_on lines taken more at.0 (floor q a) whole at.1)) (contains_first r []))))
+    (map_contains (λ z. z.fact) (joined lines ports (suc (length taken)) (need (inst i) f)) r
+    (flat_map-contains (λ m. to_visit i f (suc (length taken)) m (fact_at lines m)) (floors_of ports i.port) at.0 r line
+    (subst (λ o. Contains (to_visit i f (suc (length taken)) at.0 o) r) (sym (found_on lines taken more at.0 (floor q a) whole at.1)) (contains_first r []))))
 
 need_found : (inputs : Inputs) (lines taken more : List Fact) (ports : List (List ℕ × Row)) (i : Instance) (f : List ℕ) (p : List ℕ) (a : Ask) (x : Fact) → lines ≡ taken ++ more → HasLines inputs ports taken → Contains (taken ++ floor p a ∷ []) (need (inst i) f)
     → Contains (visits_from inputs (need (inst i) f) (floor p a)) x → Contains (facts_of (joined lines ports (suc (length taken)) (floor p a))) x
@@ -218,9 +218,9 @@ need_found inputs lines taken more ports i f p a x whole rows held h =
     let line : Contains (needs_of ports p) at.0 = subst (λ l. Contains l at.0) (sym (rows.needs p)) (at_lines (is_need_of p) taken at.0 (need (inst i) f) at.1 ((bytes_eq-Decides i.port p).1 (sym port))) in
     let r : Reason = record { fact = visit i f a; cause = by_two at.0 (suc (length taken)) } in
     subst (Contains (facts_of (joined lines ports (suc (length taken)) (floor p a)))) some.1
-      (map_contains (λ z. z.fact) (joined lines ports (suc (length taken)) (floor p a)) r
-        (flat_map-contains (λ m. at_need a (suc (length taken)) m (fact_at lines m)) (needs_of ports p) at.0 r line
-          (subst (λ o. Contains (at_need a (suc (length taken)) at.0 o) r) (sym (found_on lines taken more at.0 (need (inst i) f) whole at.1)) (contains_first r []))))
+    (map_contains (λ z. z.fact) (joined lines ports (suc (length taken)) (floor p a)) r
+    (flat_map-contains (λ m. at_need a (suc (length taken)) m (fact_at lines m)) (needs_of ports p) at.0 r line
+    (subst (λ o. Contains (at_need a (suc (length taken)) at.0 o) r) (sym (found_on lines taken more at.0 (need (inst i) f) whole at.1)) (contains_first r []))))
 
 -- a fact that is no visited floor brings up nothing with those before it
 joins_of : (inputs : Inputs) (i : Instance) (f p : List ℕ) (a : Ask) (x : Fact) → Contains (visits_from inputs (need (inst i) f) (floor p a)) x → joins inputs (floor p a) ≡ true
@@ -282,7 +282,7 @@ produced inputs lines taken more ports y b is whole distinct new rows =
       | inr by_both ↦ if_right inputs taken y (joined lines ports (suc (length taken)) y) b (λ so. joined_right inputs lines taken more ports y whole distinct new rows (sym is ∙ so)) r by_both
     ] in
     let by_two_facts : (x : Fact) → (joins inputs y ≡ true) × Contains (facts_of (joined lines ports (suc (length taken)) y)) x → Contains (facts_of (own ++ both)) x = λ x p.
-      subst (λ l. Contains l x) (sym (facts_more own both)) (Contains-append_right (facts_of own) (facts_of both) x (if_has b (joined lines ports (suc (length taken)) y) x (is ∙ p.0) p.1)) in
+    subst (λ l. Contains l x) (sym (facts_more own both)) (Contains-append_right (facts_of own) (facts_of both) x (if_has b (joined lines ports (suc (length taken)) y) x (is ∙ p.0) p.1)) in
     record {
       facts = record {
         sound = λ x h. (let p = contains_map (λ r. r.fact) (own ++ both) x h in subst (FollowsFrom (rules_of inputs) (Contains (taken ++ y ∷ []))) p.2 (right p.0 p.1).follows);
@@ -321,7 +321,7 @@ pub has_lines_more : (inputs : Inputs) (old new : List (List ℕ × Row)) (taken
 has_lines_more inputs old new taken y was needs floors same = record {
   needs = λ p. by_needs p (joins inputs y) refl ∙ ap (λ l. l ++ cond (is_need_of p y) (suc (length taken) ∷ []) []) (was.needs p) ∙ sym (lines_push (is_need_of p) taken y);
   floors = λ p. same_if (is_floor_at p y) (joins inputs y) (floors_of old p) (floors_of new p) (suc (length taken) ∷ []) (λ so. floors so p) (λ else_so. ap (λ l. floors_of l p) (same else_so))
-    ∙ ap (λ l. l ++ cond (is_floor_of inputs p y) (suc (length taken) ∷ []) []) (was.floors p) ∙ sym (lines_push (is_floor_of inputs p) taken y);
+      ∙ ap (λ l. l ++ cond (is_floor_of inputs p y) (suc (length taken) ∷ []) []) (was.floors p) ∙ sym (lines_push (is_floor_of inputs p) taken y);
 }
   where
     by_needs : (p : List ℕ) (b : Bool) → joins inputs y ≡ b → needs_of new p ≡ needs_of old p ++ cond (is_need_of p y) (suc (length taken) ∷ []) []

@@ -64,7 +64,7 @@ level_added lines fresh sorted new apart moved unique order added =
         ascends = sorted_ascends sorted order distinct;
       };
       distinct = λ old. subst NoRepeats (sym (ap facts_of (ap reasons_in behind ∙ map-append reason_of lines sorted) ∙ facts_more (reasons_in lines) (reasons_in sorted)))
-        (no_repeats_append (facts_in lines) (facts_in sorted) old distinct (λ x held h. unknown x h held));
+          (no_repeats_append (facts_in lines) (facts_in sorted) old distinct (λ x held h. unknown x h held));
     }
 
 -- ---- one line more
@@ -87,7 +87,7 @@ pub one_more : (o : Option Pages) (s : Setting) (lines : List Reason) (n : ℕ) 
 one_more None s lines n y brought old new next was produces notes = tt
 one_more (Some pages) s lines n y brought old new next was produces notes =
     subst (λ l. IsClosing (inputs_of s pages) lines l new) (sym next)
-      (closing_more (inputs_of s pages) lines (take n (facts_of lines)) (drop (n + 1) (facts_of lines)) old y brought new (line_whole (facts_of lines) n y next) was produces notes)
+    (closing_more (inputs_of s pages) lines (take n (facts_of lines)) (drop (n + 1) (facts_of lines)) old y brought new (line_whole (facts_of lines) n y next) was produces notes)
 
 pub one_forced : (o : Option Pages) (s : Setting) (lines : List Reason) (n : ℕ) (y : plain.Fact) (brought old : List Reason) (most : ℕ) → s.max_facts ≡ most
     → take (n + 1) (facts_of lines) ≡ take n (facts_of lines) ++ y ∷ []
@@ -97,9 +97,9 @@ pub one_forced : (o : Option Pages) (s : Setting) (lines : List Reason) (n : ℕ
 one_forced None s lines n y brought old most limit next was produces much = tt
 one_forced (Some pages) s lines n y brought old most limit next was produces much =
     closing_forced (inputs_of s pages) lines (take n (facts_of lines)) old y brought
-      (subst (λ l. Contains l y) (line_whole (facts_of lines) n y next)
-        (Contains-append_left (take n (facts_of lines) ++ y ∷ []) (drop (n + 1) (facts_of lines)) y (Contains-append_right (take n (facts_of lines)) (y ∷ []) y (contains_first y []))))
-      was produces (subst (IsTooMuch (facts_of lines) brought old) (sym limit) much)
+    (subst (λ l. Contains l y) (line_whole (facts_of lines) n y next)
+    (Contains-append_left (take n (facts_of lines) ++ y ∷ []) (drop (n + 1) (facts_of lines)) y (Contains-append_right (take n (facts_of lines)) (y ∷ []) y (contains_first y []))))
+    was produces (subst (IsTooMuch (facts_of lines) brought old) (sym limit) much)
 
 -- the next line is taken up behind those before it
 next_line : (es : Entries) (n : ℕ) (e : Fact × Cause) → slice_get es n ≡ Some e → take (suc n) (facts_in es) ≡ take n (facts_in es) ++ fact_view e.0 ∷ []

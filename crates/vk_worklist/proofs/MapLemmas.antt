@@ -84,10 +84,10 @@ put_all es [] apart distinct = sym (append-nil es)
 put_all es (f ∷ fs) apart distinct =
     ap (λ l. insert_all is l fs) (put_last f.0 f.1 es (apart (fact_view f.0) (contains_first (fact_view f.0) (facts_in fs))))
     ∙ put_all (es ++ f ∷ []) fs
-        (λ x h held. elim (Contains-push_cases (facts_in es) (fact_view f.0) x (subst (λ l. Contains l x) (more_facts es f) held)) [
-          | inl old ↦ apart x (contains_later (fact_view f.0) x (facts_in fs) h) old
-          | inr same ↦ distinct.0 (subst (Contains (facts_in fs)) (sym same) h)
-        ]) distinct.1
+    (λ x h held. elim (Contains-push_cases (facts_in es) (fact_view f.0) x (subst (λ l. Contains l x) (more_facts es f) held)) [
+      | inl old ↦ apart x (contains_later (fact_view f.0) x (facts_in fs) h) old
+      | inr same ↦ distinct.0 (subst (Contains (facts_in fs)) (sym same) h)
+    ]) distinct.1
     ∙ append_assoc es (f ∷ []) fs
   where
     more_facts : (es : Entries) (f : Fact × Cause) → facts_in (es ++ f ∷ []) ≡ facts_in es ++ fact_view f.0 ∷ []
@@ -116,9 +116,8 @@ sorted_ascends (e ∷ []) sorted distinct = ((λ y h. absurd (contains_nothing y
 sorted_ascends (e ∷ f ∷ es) sorted distinct =
     let rest : Ascends fact_key (facts_in (f ∷ es)) = sorted_ascends (f ∷ es) (later_sorted e f es sorted) distinct.1 in
     let next : key_cmp (key_of e.0) (key_of f.0) ≡ Less =
-      not_lower (key_of e.0) (key_of f.0) (key_cmp (key_of e.0) (key_of f.0)) refl (sorted 0 e.0 (omega arith) (omega arith))
-        (λ same. distinct.0 (subst (λ z. Contains (z ∷ facts_in es) (fact_view e.0)) (fact_key-IsKey (fact_view e.0) (fact_view f.0) same) (contains_first (fact_view e.0) (facts_in es)))) in
-    (
+    not_lower (key_of e.0) (key_of f.0) (key_cmp (key_of e.0) (key_of f.0)) refl (sorted 0 e.0 (omega arith) (omega arith))
+    (λ same. distinct.0 (subst (λ z. Contains (z ∷ facts_in es) (fact_view e.0)) (fact_key-IsKey (fact_view e.0) (fact_view f.0) same) (contains_first (fact_view e.0) (facts_in es)))) in (
       (λ y h. elim (contains_cases (fact_view f.0) y (facts_in es) h) [
         | inl same ↦ subst (λ z. key_cmp (key_of e.0) (fact_key z) ≡ Less) same next
         | inr later ↦ path_total.trans (key_of e.0) (key_of f.0) (fact_key y) next (rest.0 y later)

@@ -53,8 +53,8 @@ module _ (lines : List Fact) (n : ℕ) (y : Fact) (within : n < length lines) (d
   produced_if None s ports b own is alone tracks = tt
   produced_if (Some pages) s ports b own is alone tracks =
       subst (λ k. Produces (inputs_of s pages) (take n lines) y (k ++ joined_if b (joined lines ports (n + 1) y))) (sym alone)
-        (subst (λ m. Produces (inputs_of s pages) (take n lines) y (alone_at (inputs_of s pages) y m ++ joined_if b (joined lines ports m y))) line_is
-          (produced (inputs_of s pages) lines (take n lines) (drop n lines) ports y b is (sym (take-append-drop n lines)) (first_distinct (take n lines ++ y ∷ []) (drop (n + 1) lines) (subst NoRepeats (sym (line_whole lines n y at)) distinct)) (not_yet lines n y distinct at) tracks))
+      (subst (λ m. Produces (inputs_of s pages) (take n lines) y (alone_at (inputs_of s pages) y m ++ joined_if b (joined lines ports m y))) line_is
+      (produced (inputs_of s pages) lines (take n lines) (drop n lines) ports y b is (sym (take-append-drop n lines)) (first_distinct (take n lines ++ y ∷ []) (drop (n + 1) lines) (subst NoRepeats (sym (line_whole lines n y at)) distinct)) (not_yet lines n y distinct at) tracks))
 
   pub alone_if : (o : Option Pages) (s : Setting) (ports : List (List ℕ × Row)) (b : Bool) (own : List Reason) → b ≡ false → IfSome o (λ pages. b ≡ joins (inputs_of s pages) y) → IfSome o (λ pages. own ≡ alone_at (inputs_of s pages) y (n + 1)) → IfSome o (λ pages. HasLines (inputs_of s pages) ports (take n lines))
       → IfSome o (λ pages. Produces (inputs_of s pages) (take n lines) y own)
@@ -75,9 +75,9 @@ module _ (lines : List Fact) (n : ℕ) (y : Fact) (within : n < length lines) (d
   lines_both None s old new b some is tracks needs floors = tt
   lines_both (Some pages) s old new b some is tracks needs floors =
       subst (HasLines (inputs_of s pages) new) (sym at) (has_lines_more (inputs_of s pages) old new (take n lines) y tracks
-        (λ so p. subst (λ m. needs_of new p ≡ needs_of old p ++ cond (is_need_of p y) (m ∷ []) []) (sym line_is) (needs p))
-        (λ so p. subst (λ m. floors_of new p ≡ floors_of old p ++ cond (is_floor_at p y) (m ∷ []) []) (sym line_is) (floors p))
-        (λ e. absurd (true_false (joins (inputs_of s pages) y) (sym is ∙ some) e)))
+      (λ so p. subst (λ m. needs_of new p ≡ needs_of old p ++ cond (is_need_of p y) (m ∷ []) []) (sym line_is) (needs p))
+      (λ so p. subst (λ m. floors_of new p ≡ floors_of old p ++ cond (is_floor_at p y) (m ∷ []) []) (sym line_is) (floors p))
+      (λ e. absurd (true_false (joins (inputs_of s pages) y) (sym is ∙ some) e)))
 
 pub within_facts : (es : List (code.Fact × Cause)) (n : ℕ) → n < length es → n < length (facts_in es)
 within_facts es n h = subst (λ m. n < m) (sym (length-map (reasons_in es) (λ r. r.fact) ∙ length-map es reason_of)) h

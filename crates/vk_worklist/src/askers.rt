@@ -24,8 +24,9 @@ pub trait Asker {
     /// What is kept is of these pages, and of these facts, which were asked about in this order.
     ghost tracks: { Self → Pages → List plain.Fact → Type 0 };
 
-    /// Adds what the fact of a line, counted from 0, brings up alone, in order, each with its cause,
-    /// and tells whether it is joined: each fact is, but for a floor whose version isn't visited.
+    /// Adds what the fact of a line, counted from 0, brings up alone, in order, each with its
+    /// cause, and tells whether it is joined: each fact is, but for a floor whose version isn't
+    /// visited.
     fn ask<C: Catalogue, L: Ledger>(
         &mut self,
         cat: &mut C,
@@ -49,7 +50,7 @@ pub trait Asker {
             (C.state cat.old)) }
         ensures alone { OnOk result (OnPages
             (λ pages. reasons_in brought.new.items ≡ reasons_in brought.old.items
-                ++ alone_at (inputs_of (setting self.old) pages) (fact_view fact.now) (n + 1))
+            ++ alone_at (inputs_of (setting self.old) pages) (fact_view fact.now) (n + 1))
             (C.state cat.old)) }
         ensures joins { IfOk result (λ joined. OnPages
             (λ pages. joined ≡ joins (inputs_of (setting self.old) pages) (fact_view fact.now))

@@ -72,7 +72,16 @@ pub fn close_from<C: Catalogue, S: Source, L: Ledger>(
     let mut brought = Vec::new(alloc);
     let mut taken = 0;
     loop {
-        take_up_level(cat, source, &lines, taken, most, &mut fresh, &mut brought, steps)?;
+        take_up_level(
+            cat,
+            source,
+            &lines,
+            taken,
+            most,
+            &mut fresh,
+            &mut brought,
+            steps,
+        )?;
         if fresh.is_empty() {
             return Ok(lines);
         }

@@ -60,7 +60,14 @@ impl<A: Asker> Source for Joins<A> {
         if !self.asker.ask(cat, lines, n, fact, brought, steps)? {
             return Ok(());
         }
-        join(self.alloc, &mut self.ports, lines, fact, n as u32 + 1, brought)?;
+        join(
+            self.alloc,
+            &mut self.ports,
+            lines,
+            fact,
+            n as u32 + 1,
+            brought,
+        )?;
         Ok(())
     }
 }

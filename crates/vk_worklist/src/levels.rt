@@ -69,7 +69,7 @@ fn take_up_one<C: Catalogue, S: Source, L: Ledger>(
         (C.state cat.old) }
     requires closing { OnPages
         (λ pages. IsClosing (inputs_of (S.setting source.old) pages) (reasons_in lines.now.entries)
-            (take taken (facts_in lines.now.entries)) (reasons_in fresh.old.entries))
+        (take taken (facts_in lines.now.entries)) (reasons_in fresh.old.entries))
         (C.state cat.old) }
     ensures ticks { steps.new + ticks (take taken (facts_in lines.now.entries))
         ≤ steps.old + ticks (take (taken + 1) (facts_in lines.now.entries)) }
@@ -84,7 +84,7 @@ fn take_up_one<C: Catalogue, S: Source, L: Ledger>(
         (C.state cat.new)) }
     ensures closing { OnOk result (OnPages
         (λ pages. IsClosing (inputs_of (S.setting source.new) pages) (reasons_in lines.now.entries)
-            (take (taken + 1) (facts_in lines.now.entries)) (reasons_in fresh.new.entries))
+        (take (taken + 1) (facts_in lines.now.entries)) (reasons_in fresh.new.entries))
         (C.state cat.new)) }
     ensures facts { OnFault result most (OnPages
         (λ pages. HasTooManyFacts (inputs_of (S.setting source.new) pages)) (C.state cat.new)) }
@@ -117,7 +117,7 @@ pub(crate) fn take_up_level<C: Catalogue, S: Source, L: Ledger>(
         (C.state cat.old) }
     requires closing { OnPages
         (λ pages. IsClosing (inputs_of (S.setting source.old) pages) (reasons_in lines.now.entries)
-            (take from (facts_in lines.now.entries)) [])
+        (take from (facts_in lines.now.entries)) [])
         (C.state cat.old) }
     ensures ticks { steps.new + ticks (take from (facts_in lines.now.entries))
         ≤ steps.old + ticks (facts_in lines.now.entries) }
@@ -131,7 +131,7 @@ pub(crate) fn take_up_level<C: Catalogue, S: Source, L: Ledger>(
         (λ pages. S.tracks source.new pages (facts_in lines.now.entries)) (C.state cat.new)) }
     ensures closing { OnOk result (OnPages
         (λ pages. IsClosing (inputs_of (S.setting source.new) pages) (reasons_in lines.now.entries)
-            (facts_in lines.now.entries) (reasons_in fresh.new.entries))
+        (facts_in lines.now.entries) (reasons_in fresh.new.entries))
         (C.state cat.new)) }
     ensures facts { OnFault result most (OnPages
         (λ pages. HasTooManyFacts (inputs_of (S.setting source.new) pages)) (C.state cat.new)) }

@@ -1,4 +1,5 @@
-ghost use Rattle.std.specs.Prelude.{◌≡◌, ◌↔◌, ◌+◌, ◌++◌, ◌<◌, ◌≤◌, ◌∷◌, [], false, IsTrue, OnOk, OnErr, length};
+ghost use Rattle.std.specs.Prelude.{◌≡◌, ◌↔◌, ◌+◌, ◌++◌, ◌<◌, ◌≤◌, ◌∷◌, [], false, length};
+ghost use Rattle.std.specs.Prelude.{IsTrue, OnOk, OnErr};
 ghost use Rattle.std.specs.List.{Contains};
 ghost use Rattle.vk_base.specs.Stops.{has_failed};
 ghost use Rattle.vk_resolution.specs.Closing.{NotesReasons, IsTooMuch};
@@ -42,8 +43,9 @@ fn note(
     cause: Cause,
 ) -> Result<(), Stop<CloseFault>>
     requires { length lines.now.entries + length fresh.old.entries ≤ most }
-    ensures ok { OnOk result (NotesReasons (facts_in lines.now.entries) (reason_of (fact, cause) ∷ [])
-        (reasons_in fresh.old.entries) (reasons_in fresh.new.entries)) }
+    ensures ok { OnOk result (NotesReasons (facts_in lines.now.entries)
+        (reason_of (fact, cause) ∷ []) (reasons_in fresh.old.entries)
+        (reasons_in fresh.new.entries)) }
     ensures few { OnOk result (length lines.now.entries + length fresh.new.entries ≤ most) }
     ensures facts { OnFault result most (IsTooMuch (facts_in lines.now.entries)
         (reason_of (fact, cause) ∷ []) (reasons_in fresh.old.entries) most) }

@@ -1,5 +1,5 @@
-//! Which lines are needs and floors of a port.
-ghost use Rattle.std.specs.Prelude.{◌≡◌, ◌++◌, ◌∷◌, [], ℕ, List, OnOk, IsSome, bytes_eq, if◌then◌else◌};
+ghost use Rattle.std.specs.Prelude.{◌≡◌, ◌++◌, ◌∷◌, [], ℕ, List, OnOk, IsSome, bytes_eq};
+ghost use Rattle.std.specs.Prelude.{if◌then◌else◌};
 ghost use Rattle.std.specs.Map.{lookup};
 ghost use Rattle.vk_worklist.specs.Rows.{needs_of, floors_of};
 
@@ -21,8 +21,10 @@ fn see_to_row(
     port: &PortName,
 ) -> Result<(), AllocError>
     ensures there { OnOk result (IsSome (lookup (bytes_eq port.now) ports.new.entries)) }
-    ensures needs { OnOk result ((p : List ℕ) → needs_of ports.new.entries p ≡ needs_of ports.old.entries p) }
-    ensures floors { OnOk result ((p : List ℕ) → floors_of ports.new.entries p ≡ floors_of ports.old.entries p) }
+    ensures needs { OnOk result ((p : List ℕ) →
+        needs_of ports.new.entries p ≡ needs_of ports.old.entries p) }
+    ensures floors { OnOk result ((p : List ℕ) →
+        floors_of ports.new.entries p ≡ floors_of ports.old.entries p) }
 {
     if ports.contains_key(port) {
         return Ok(());
@@ -42,8 +44,10 @@ fn more_needs(
     line: u32,
 ) -> Result<(), AllocError>
     requires { IsSome (lookup (bytes_eq port.now) ports.old.entries) }
-    ensures needs { OnOk result ((p : List ℕ) → needs_of ports.new.entries p ≡ needs_of ports.old.entries p ++ (if bytes_eq port.now p then line ∷ [] else [])) }
-    ensures floors { OnOk result ((p : List ℕ) → floors_of ports.new.entries p ≡ floors_of ports.old.entries p) }
+    ensures needs { OnOk result ((p : List ℕ) → needs_of ports.new.entries p
+        ≡ needs_of ports.old.entries p ++ (if bytes_eq port.now p then line ∷ [] else [])) }
+    ensures floors { OnOk result ((p : List ℕ) →
+        floors_of ports.new.entries p ≡ floors_of ports.old.entries p) }
 {
     let row = ports.get_mut(port).unwrap();
     row.needs.push(line)?;
@@ -57,16 +61,18 @@ fn more_floors(
     line: u32,
 ) -> Result<(), AllocError>
     requires { IsSome (lookup (bytes_eq port.now) ports.old.entries) }
-    ensures floors { OnOk result ((p : List ℕ) → floors_of ports.new.entries p ≡ floors_of ports.old.entries p ++ (if bytes_eq port.now p then line ∷ [] else [])) }
-    ensures needs { OnOk result ((p : List ℕ) → needs_of ports.new.entries p ≡ needs_of ports.old.entries p) }
+    ensures floors { OnOk result ((p : List ℕ) → floors_of ports.new.entries p
+        ≡ floors_of ports.old.entries p ++ (if bytes_eq port.now p then line ∷ [] else [])) }
+    ensures needs { OnOk result ((p : List ℕ) →
+        needs_of ports.new.entries p ≡ needs_of ports.old.entries p) }
 {
     let row = ports.get_mut(port).unwrap();
     row.floors.push(line)?;
     Ok(())
 }
 
-/// The lines of a port's needs.
-pub fn needs_of<'a>(ports: &'a IndexMap<PortName, Row>, port: &PortName) -> &'a [u32]
+// The lines of a port's needs.
+pub(crate) fn needs_of<'a>(ports: &'a IndexMap<PortName, Row>, port: &PortName) -> &'a [u32]
     ensures { result.now ≡ needs_of ports.now.entries port.now }
 {
     match ports.get(port) {
@@ -75,8 +81,8 @@ pub fn needs_of<'a>(ports: &'a IndexMap<PortName, Row>, port: &PortName) -> &'a 
     }
 }
 
-/// The lines of a port's visited floors.
-pub fn floors_of<'a>(ports: &'a IndexMap<PortName, Row>, port: &PortName) -> &'a [u32]
+// The lines of a port's visited floors.
+pub(crate) fn floors_of<'a>(ports: &'a IndexMap<PortName, Row>, port: &PortName) -> &'a [u32]
     ensures { result.now ≡ floors_of ports.now.entries port.now }
 {
     match ports.get(port) {
@@ -85,30 +91,34 @@ pub fn floors_of<'a>(ports: &'a IndexMap<PortName, Row>, port: &PortName) -> &'a
     }
 }
 
-/// Notes a need of a port.
-pub fn add_need(
+// Notes a need of a port.
+pub(crate) fn add_need(
     alloc: Global,
     ports: &mut IndexMap<PortName, Row>,
     port: &PortName,
     line: u32,
 ) -> Result<(), AllocError>
-    ensures needs { OnOk result ((p : List ℕ) → needs_of ports.new.entries p ≡ needs_of ports.old.entries p ++ (if bytes_eq port.now p then line ∷ [] else [])) }
-    ensures floors { OnOk result ((p : List ℕ) → floors_of ports.new.entries p ≡ floors_of ports.old.entries p) }
+    ensures needs { OnOk result ((p : List ℕ) → needs_of ports.new.entries p
+        ≡ needs_of ports.old.entries p ++ (if bytes_eq port.now p then line ∷ [] else [])) }
+    ensures floors { OnOk result ((p : List ℕ) →
+        floors_of ports.new.entries p ≡ floors_of ports.old.entries p) }
 {
     see_to_row(alloc, ports, port)?;
     more_needs(ports, port, line)?;
     Ok(())
 }
 
-/// Notes a visited floor of a port.
-pub fn add_floor(
+// Notes a visited floor of a port.
+pub(crate) fn add_floor(
     alloc: Global,
     ports: &mut IndexMap<PortName, Row>,
     port: &PortName,
     line: u32,
 ) -> Result<(), AllocError>
-    ensures floors { OnOk result ((p : List ℕ) → floors_of ports.new.entries p ≡ floors_of ports.old.entries p ++ (if bytes_eq port.now p then line ∷ [] else [])) }
-    ensures needs { OnOk result ((p : List ℕ) → needs_of ports.new.entries p ≡ needs_of ports.old.entries p) }
+    ensures floors { OnOk result ((p : List ℕ) → floors_of ports.new.entries p
+        ≡ floors_of ports.old.entries p ++ (if bytes_eq port.now p then line ∷ [] else [])) }
+    ensures needs { OnOk result ((p : List ℕ) →
+        needs_of ports.new.entries p ≡ needs_of ports.old.entries p) }
 {
     see_to_row(alloc, ports, port)?;
     more_floors(ports, port, line)?;

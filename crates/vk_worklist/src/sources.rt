@@ -1,4 +1,5 @@
-ghost use Rattle.std.specs.Prelude.{◌≡◌, ◌+◌, ◌++◌, ◌∷◌, ◌<◌, ◌≤◌, ◌^◌, [], List, OnOk, length, take};
+ghost use Rattle.std.specs.Prelude.{◌≡◌, ◌+◌, ◌++◌, ◌∷◌, ◌<◌, ◌≤◌, ◌^◌, [], List, length};
+ghost use Rattle.std.specs.Prelude.{OnOk, take};
 ghost use Rattle.vk_spec.specs.Lists.{NoRepeats};
 ghost use Rattle.vk_spec.specs.Catalogues.{OnlyAsked, OnPages};
 ghost use Rattle.vk_spec.specs.Settings.{Setting};
@@ -53,7 +54,7 @@ pub trait Source {
             (C.state cat.old)) }
         ensures brought { OnOk result (OnPages
             (λ pages. Produces (inputs_of (setting self.old) pages)
-                (take n (facts_in lines.now.entries)) (fact_view fact.now)
-                (reasons_in brought.new.items))
+            (take n (facts_in lines.now.entries)) (fact_view fact.now)
+            (reasons_in brought.new.items))
             (C.state cat.old)) };
 }

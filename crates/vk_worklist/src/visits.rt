@@ -1,4 +1,5 @@
-ghost use Rattle.std.specs.Prelude.{◌≡◌, ◌++◌, ◌∷◌, [], ℕ, List, OnOk, option_map, flat_map, bytes_eq, if◌then◌else◌};
+ghost use Rattle.std.specs.Prelude.{◌≡◌, ◌++◌, ◌∷◌, [], ℕ, List, OnOk, option_map, flat_map};
+ghost use Rattle.std.specs.Prelude.{bytes_eq, if◌then◌else◌};
 ghost use Rattle.vk_base.specs.FeatureViews.{feature_view};
 ghost use Rattle.vk_version.specs.AskViews.{ask_view};
 ghost use Rattle.vk_resolution.specs.Settings as who;
@@ -40,8 +41,10 @@ fn push_visit(
     floor: u32,
 ) -> Result<(), AllocError>
     ensures { OnOk result (reasons_in brought.new.items ≡ reasons_in brought.old.items
-        ++ record { fact = plain.visit (instance_view inst.now) (feature_view feature.now) (ask_view ask.now);
-            cause = by_two need floor } ∷ []) }
+        ++ record {
+          fact = plain.visit (instance_view inst.now) (feature_view feature.now) (ask_view ask.now);
+          cause = by_two need floor;
+        } ∷ []) }
 {
     let visit = Fact::Visit {
         inst: inst.clone()?,
@@ -63,7 +66,7 @@ fn visit_floor(
 ) -> Result<(), AllocError>
     ensures { OnOk result (reasons_in brought.new.items ≡ reasons_in brought.old.items
         ++ to_visit (instance_view inst.now) (feature_view feature.now) need floor
-            (fact_at (facts_in lines.now.entries) floor)) }
+        (fact_at (facts_in lines.now.entries) floor)) }
 {
     match fact_on(lines, floor) {
         Some(Fact::Floor { port: _, ask }) => push_visit(brought, inst, feature, ask, need, floor),
@@ -82,7 +85,7 @@ fn visit_floors(
 ) -> Result<(), AllocError>
     ensures { OnOk result (reasons_in brought.new.items ≡ reasons_in brought.old.items
         ++ flat_map (λ m. to_visit (instance_view inst.now) (feature_view feature.now) need m
-            (fact_at (facts_in lines.now.entries) m)) floors.now) }
+        (fact_at (facts_in lines.now.entries) m)) floors.now) }
 {
     for floor in floors {
         visit_floor(lines, inst, feature, need, *floor, brought)?;
@@ -102,10 +105,12 @@ fn visit_need(
         ++ at_need (ask_view ask.now) floor need (fact_at (facts_in lines.now.entries) need)) }
 {
     match fact_on(lines, need) {
-        Some(Fact::Need {
-            who: Who::Inst(inst),
-            feature,
-        }) => push_visit(brought, inst, feature, ask, need, floor),
+        Some(
+            Fact::Need {
+                who: Who::Inst(inst),
+                feature,
+            },
+        ) => push_visit(brought, inst, feature, ask, need, floor),
         _ => Ok(()),
     }
 }
@@ -120,7 +125,7 @@ fn visit_needs(
 ) -> Result<(), AllocError>
     ensures { OnOk result (reasons_in brought.new.items ≡ reasons_in brought.old.items
         ++ flat_map (λ m. at_need (ask_view ask.now) floor m
-            (fact_at (facts_in lines.now.entries) m)) needs.now) }
+        (fact_at (facts_in lines.now.entries) m)) needs.now) }
 {
     for need in needs {
         visit_need(lines, ask, floor, *need, brought)?;
@@ -140,13 +145,20 @@ fn join_need(
 ) -> Result<(), AllocError>
     ensures brought { OnOk result (reasons_in brought.new.items ≡ reasons_in brought.old.items
         ++ joined (facts_in lines.now.entries) ports.old.entries line
-            (plain.need (who.inst (instance_view inst.now)) (feature_view feature.now))) }
+        (plain.need (who.inst (instance_view inst.now)) (feature_view feature.now))) }
     ensures needs { OnOk result ((p : List ℕ) → needs_of ports.new.entries p
         ≡ needs_of ports.old.entries p ++ (if bytes_eq inst.now.port p then line ∷ [] else [])) }
     ensures floors { OnOk result ((p : List ℕ) →
         floors_of ports.new.entries p ≡ floors_of ports.old.entries p) }
 {
-    visit_floors(lines, inst, feature, line, floors_of(ports, &inst.port), brought)?;
+    visit_floors(
+        lines,
+        inst,
+        feature,
+        line,
+        floors_of(ports, &inst.port),
+        brought,
+    )?;
     add_need(alloc, ports, &inst.port, line)?;
     Ok(())
 }
@@ -163,7 +175,7 @@ fn join_floor(
 ) -> Result<(), AllocError>
     ensures brought { OnOk result (reasons_in brought.new.items ≡ reasons_in brought.old.items
         ++ joined (facts_in lines.now.entries) ports.old.entries line
-            (plain.floor port.now (ask_view ask.now))) }
+        (plain.floor port.now (ask_view ask.now))) }
     ensures needs { OnOk result ((p : List ℕ) →
         needs_of ports.new.entries p ≡ needs_of ports.old.entries p) }
     ensures floors { OnOk result ((p : List ℕ) → floors_of ports.new.entries p
@@ -187,10 +199,10 @@ pub(crate) fn join(
         ++ joined (facts_in lines.now.entries) ports.old.entries line (fact_view fact.now)) }
     ensures needs { OnOk result ((p : List ℕ) →
         needs_of ports.new.entries p ≡ needs_of ports.old.entries p
-            ++ (if is_need_of p (fact_view fact.now) then line ∷ [] else [])) }
+        ++ (if is_need_of p (fact_view fact.now) then line ∷ [] else [])) }
     ensures floors { OnOk result ((p : List ℕ) →
         floors_of ports.new.entries p ≡ floors_of ports.old.entries p
-            ++ (if is_floor_at p (fact_view fact.now) then line ∷ [] else [])) }
+        ++ (if is_floor_at p (fact_view fact.now) then line ∷ [] else [])) }
 {
     match fact {
         Fact::Need {

@@ -18,7 +18,7 @@ pub returns-in_err-lines-clause-facts : goal.returns-in_err-lines-clause-facts
 returns-in_err-lines-clause-facts g c =
     let p = err_from_is_err_and c.from_residual.result c.from_residual.ensures.1 in
     rw (p.1, p.2) (fault_means c.in_err-lines.field-0.0 c.args.most
-      (first_forced (g.C.Catalogue.state c.args.cat.now).pages (g.S.Source.setting c.args.source.now) (reasons_in c.args.given.items) c.args.most c.requires.limit c.requires.roots) c.in_err-lines.ensures.facts)
+    (first_forced (g.C.Catalogue.state c.args.cat.now).pages (g.S.Source.setting c.args.source.now) (reasons_in c.args.given.items) c.args.most c.requires.limit c.requires.roots) c.in_err-lines.ensures.facts)
 
 pub loop-brought-init : goal.loop-brought-init
 loop-brought-init g c = record {
@@ -39,8 +39,8 @@ returns-then-is_empty-clause-ok g c =
     let lines = c.loop-brought.lines.entries in
     let fresh = c.take_up_level.new.fresh.entries in
     last_closed (g.C.Catalogue.state c.args.cat.now).pages (g.S.Source.setting c.args.source.now) (reasons_in lines) (reasons_in fresh) (ap reasons_in (nothing_left fresh (c.is_empty.ensures.0 c.if-is_empty.true)))
-      (stays (λ s pages. IsClosing (inputs_of s pages) (reasons_in lines) (facts_in lines) (reasons_in fresh))
-        (sym (c.in_ok-take_up_level.ensures.asked.pages ∙ c.loop-brought.invariant.asked.pages)) (sym (c.in_ok-take_up_level.ensures.setting ∙ c.loop-brought.invariant.setting)) c.in_ok-take_up_level.ensures.closing)
+    (stays (λ s pages. IsClosing (inputs_of s pages) (reasons_in lines) (facts_in lines) (reasons_in fresh))
+    (sym (c.in_ok-take_up_level.ensures.asked.pages ∙ c.loop-brought.invariant.asked.pages)) (sym (c.in_ok-take_up_level.ensures.setting ∙ c.loop-brought.invariant.setting)) c.in_ok-take_up_level.ensures.closing)
 
 pub returns-in_err-next_level-clause-asked : goal.returns-in_err-next_level-clause-asked
 returns-in_err-next_level-clause-asked g c =

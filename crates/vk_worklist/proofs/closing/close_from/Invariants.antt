@@ -18,7 +18,7 @@ invariant-loop-brought g l = record {
   fresh : l.fresh.entries ≡ [];
   none : l.brought.items ≡ [];
   tracks : OnPages (λ pages. g.S.Source.tracks l.source pages (take l.taken (facts_in l.lines.entries))) (g.C.Catalogue.state l.cat);
-  closing : OnPages (λ pages. IsClosing (inputs_of (g.S.Source.setting l.source) pages) (reasons_in l.lines.entries) (take l.taken (facts_in l.lines.entries)) []) (g.C.Catalogue.state l.cat)
+  closing : OnPages (λ pages. IsClosing (inputs_of (g.S.Source.setting l.source) pages) (reasons_in l.lines.entries) (take l.taken (facts_in l.lines.entries)) []) (g.C.Catalogue.state l.cat);
 }
 
 abbrev pub decreases-loop-brought : goal.decreases-loop-brought

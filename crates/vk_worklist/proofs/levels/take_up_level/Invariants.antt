@@ -16,7 +16,7 @@ invariant-loop-taken g l = record {
   few : length l.lines.entries + length l.fresh.entries ≤ l.most;
   apart : IsApart (facts_in l.lines.entries) (facts_in l.fresh.entries);
   tracks : OnPages (λ pages. g.S.Source.tracks l.source pages (take l.taken (facts_in l.lines.entries))) (g.C.Catalogue.state l.cat);
-  closing : OnPages (λ pages. IsClosing (inputs_of (g.S.Source.setting l.source) pages) (reasons_in l.lines.entries) (take l.taken (facts_in l.lines.entries)) (reasons_in l.fresh.entries)) (g.C.Catalogue.state l.cat)
+  closing : OnPages (λ pages. IsClosing (inputs_of (g.S.Source.setting l.source) pages) (reasons_in l.lines.entries) (take l.taken (facts_in l.lines.entries)) (reasons_in l.fresh.entries)) (g.C.Catalogue.state l.cat);
 }
 
 abbrev pub decreases-loop-taken : goal.decreases-loop-taken

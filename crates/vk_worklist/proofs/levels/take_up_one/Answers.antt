@@ -16,17 +16,17 @@ returns-clause-apart g c was = apart_more (facts_in c.args.lines.now.entries) (r
 pub returns-clause-closing : goal.returns-clause-closing
 returns-clause-closing g c =
     stays (λ s pages. IsClosing (inputs_of s pages) (reasons_in c.args.lines.now.entries) (take (c.args.taken + 1) (facts_in c.args.lines.now.entries)) (reasons_in c.note_all.new.fresh.entries))
-      c.in_ok-take_up.ensures.asked.pages c.in_ok-take_up.ensures.setting
-      (one_more (g.C.Catalogue.state c.args.cat.now).pages (g.S.Source.setting c.args.source.now) (reasons_in c.args.lines.now.entries) c.args.taken (fact_view c.line_at-fact.result.now) (reasons_in c.take_up.new.brought.items) (reasons_in c.args.fresh.now.entries) (reasons_in c.note_all.new.fresh.entries)
-        c.line_at-fact.ensures c.requires.closing c.in_ok-take_up.ensures.brought c.in_ok-note_all.ensures.ok)
+    c.in_ok-take_up.ensures.asked.pages c.in_ok-take_up.ensures.setting
+    (one_more (g.C.Catalogue.state c.args.cat.now).pages (g.S.Source.setting c.args.source.now) (reasons_in c.args.lines.now.entries) c.args.taken (fact_view c.line_at-fact.result.now) (reasons_in c.take_up.new.brought.items) (reasons_in c.args.fresh.now.entries) (reasons_in c.note_all.new.fresh.entries)
+    c.line_at-fact.ensures c.requires.closing c.in_ok-take_up.ensures.brought c.in_ok-note_all.ensures.ok)
 
 pub returns-in_err-note_all-clause-facts : goal.returns-in_err-note_all-clause-facts
 returns-in_err-note_all-clause-facts g c =
     let p = err_from_is_err_and c.from_residual-in_err-note_all.result c.from_residual-in_err-note_all.ensures.1 in
     rw (p.1, p.2) (fault_means c.in_err-note_all.field-0.0 c.args.most (λ much.
-      stays (λ s pages. HasTooManyFacts (inputs_of s pages)) c.in_ok-take_up.ensures.asked.pages c.in_ok-take_up.ensures.setting
-        (one_forced (g.C.Catalogue.state c.args.cat.now).pages (g.S.Source.setting c.args.source.now) (reasons_in c.args.lines.now.entries) c.args.taken (fact_view c.line_at-fact.result.now) (reasons_in c.take_up.new.brought.items) (reasons_in c.args.fresh.now.entries) c.args.most
-          c.requires.limit c.line_at-fact.ensures c.requires.closing c.in_ok-take_up.ensures.brought much)) c.in_err-note_all.ensures.facts)
+    stays (λ s pages. HasTooManyFacts (inputs_of s pages)) c.in_ok-take_up.ensures.asked.pages c.in_ok-take_up.ensures.setting
+    (one_forced (g.C.Catalogue.state c.args.cat.now).pages (g.S.Source.setting c.args.source.now) (reasons_in c.args.lines.now.entries) c.args.taken (fact_view c.line_at-fact.result.now) (reasons_in c.take_up.new.brought.items) (reasons_in c.args.fresh.now.entries) c.args.most
+    c.requires.limit c.line_at-fact.ensures c.requires.closing c.in_ok-take_up.ensures.brought much)) c.in_err-note_all.ensures.facts)
 
 pub returns-in_err-take_up-clause-ticks : goal.returns-in_err-take_up-clause-ticks
 returns-in_err-take_up-clause-ticks g c = tick_step (facts_in c.args.lines.now.entries) c.args.taken (fact_view c.line_at-fact.result.now) c.args.steps.now c.take_up.new.steps c.line_at-fact.ensures c.take_up.ensures.ticks

@@ -16,9 +16,11 @@ returns-then-has-clause-ok c =
     ])
 
 pub returns-then-is_full-clause-facts : goal.returns-then-is_full-clause-facts
-returns-then-is_full-clause-facts c =
-    (refl, one_too_many c.args.lines.now.entries c.args.fresh.now.entries c.args.fact c.args.cause c.args.most
-      (λ h. true_false c.has.result (c.has.ensures.1 h) c.if-has.false) (λ h. true_false c.has-else-has.result (c.has-else-has.ensures.1 h) c.if-has-2.false) (c.is_full.ensures.0 c.if-is_full.true))
+returns-then-is_full-clause-facts c = (
+  refl,
+  one_too_many c.args.lines.now.entries c.args.fresh.now.entries c.args.fact c.args.cause c.args.most
+      (λ h. true_false c.has.result (c.has.ensures.1 h) c.if-has.false) (λ h. true_false c.has-else-has.result (c.has-else-has.ensures.1 h) c.if-has-2.false) (c.is_full.ensures.0 c.if-is_full.true),
+)
 
 pub returns-clause-ok : goal.returns-clause-ok
 returns-clause-ok c =

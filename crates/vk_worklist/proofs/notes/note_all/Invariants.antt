@@ -10,7 +10,7 @@ invariant-loop-fact l = record {
   done : List (Fact × Cause);
   split : l.initial.brought.items ≡ l.brought.items ++ done;
   noted : NotesReasons (facts_in l.lines.entries) (reasons_in done) (reasons_in l.initial.fresh.entries) (reasons_in l.fresh.entries);
-  few : length l.lines.entries + length l.fresh.entries ≤ l.most
+  few : length l.lines.entries + length l.fresh.entries ≤ l.most;
 }
 
 abbrev pub decreases-loop-fact : goal.decreases-loop-fact
