@@ -8,7 +8,6 @@ pub mod Derivations
 pub mod Soundness
 pub mod OffLists
 pub mod ProjectLemmas
-pub mod CornerLemmas
 pub mod ChoiceLemmas
 pub mod PlanLemmas
 pub mod ServiceLemmas

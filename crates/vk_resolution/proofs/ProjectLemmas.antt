@@ -33,9 +33,6 @@ reasons inputs facts lines closed computed = (reasons_are inputs facts lines (cl
 pub raised_minimum_line_by_line : IsReasons Projects.raised_minimum Projects.raised_minimum_reasons
 raised_minimum_line_by_line = reasons Projects.raised_minimum (facts_of Projects.raised_minimum_reasons) Projects.raised_minimum_reasons refl refl
 
-pub smallest : Reports Projects.smallest Projects.smallest_report
-smallest = reports Projects.smallest Projects.smallest_report refl (λ bytes. refl)
-
 pub raised_minimum : Reports Projects.raised_minimum Projects.raised_minimum_report
 raised_minimum = reports Projects.raised_minimum Projects.raised_minimum_report refl (λ bytes. refl)
 
@@ -51,15 +48,6 @@ conflict = reports Projects.conflict Projects.conflict_report refl (λ bytes. re
 pub overridden : Reports Projects.overridden Projects.overridden_report
 overridden = reports Projects.overridden Projects.overridden_report refl (λ bytes. refl)
 
-pub unrelated_builds : Reports Projects.unrelated_builds Projects.unrelated_builds_report
-unrelated_builds = reports Projects.unrelated_builds Projects.unrelated_builds_report refl (λ bytes. refl)
-
-pub builds_with_floor : Reports Projects.builds_with_floor Projects.builds_with_floor_report
-builds_with_floor = reports Projects.builds_with_floor Projects.builds_with_floor_report refl (λ bytes. refl)
-
-pub missing_minimum : Reports Projects.missing_minimum Projects.missing_minimum_report
-missing_minimum = reports Projects.missing_minimum Projects.missing_minimum_report refl (λ bytes. refl)
-
 pub new_feature : Reports Projects.new_feature Projects.new_feature_report
 new_feature = reports Projects.new_feature Projects.new_feature_report refl (λ bytes. refl)
 
@@ -69,35 +57,14 @@ dropped_feature = reports Projects.dropped_feature Projects.dropped_feature_repo
 pub off_by_root : Reports Projects.off_by_root Projects.off_by_root_report
 off_by_root = reports Projects.off_by_root Projects.off_by_root_report refl (λ bytes. refl)
 
-pub off_by_port : Reports Projects.off_by_port Projects.off_by_port_report
-off_by_port = reports Projects.off_by_port Projects.off_by_port_report refl (λ bytes. refl)
-
-pub off_where_it_applies : Reports Projects.off_where_it_applies Projects.off_where_it_applies_report
-off_where_it_applies = reports Projects.off_where_it_applies Projects.off_where_it_applies_report refl (λ bytes. refl)
-
 pub cross_build : Reports Projects.cross_build Projects.cross_build_report
 cross_build = reports Projects.cross_build Projects.cross_build_report refl (λ bytes. refl)
-
-pub native_build : Reports Projects.native_build Projects.native_build_report
-native_build = reports Projects.native_build Projects.native_build_report refl (λ bytes. refl)
 
 pub cycle : Reports Projects.cycle Projects.cycle_report
 cycle = reports Projects.cycle Projects.cycle_report refl (λ bytes. refl)
 
-pub two_cycles : Reports Projects.two_cycles Projects.two_cycles_report
-two_cycles = reports Projects.two_cycles Projects.two_cycles_report refl (λ bytes. refl)
-
 pub leads_in : Reports Projects.leads_in Projects.leads_in_report
 leads_in = reports Projects.leads_in Projects.leads_in_report refl (λ bytes. refl)
-
-pub own_feature : Reports Projects.own_feature Projects.own_feature_report
-own_feature = reports Projects.own_feature Projects.own_feature_report refl (λ bytes. refl)
-
-pub unserved : Reports Projects.unserved Projects.unserved_report
-unserved = reports Projects.unserved Projects.unserved_report refl (λ bytes. refl)
-
-pub overlaid_port : Reports Projects.overlaid_port Projects.overlaid_port_report
-overlaid_port = reports Projects.overlaid_port Projects.overlaid_port_report refl (λ bytes. refl)
 
 pub unsupported_port : Reports Projects.unsupported_port Projects.unsupported_port_report
 unsupported_port = reports Projects.unsupported_port Projects.unsupported_port_report refl (λ bytes. refl)
@@ -108,53 +75,14 @@ realistic = reports Projects.realistic Projects.realistic_report refl (λ bytes.
 pub damaged_manifest : Reports Projects.damaged_manifest Projects.damaged_manifest_report
 damaged_manifest = reports Projects.damaged_manifest Projects.damaged_manifest_report refl (λ bytes. refl)
 
-pub other_manifest : Reports Projects.other_manifest Projects.other_manifest_report
-other_manifest = reports Projects.other_manifest Projects.other_manifest_report refl (λ bytes. refl)
-
-pub no_table : Reports Projects.no_table Projects.no_table_report
-no_table = reports Projects.no_table Projects.no_table_report refl (λ bytes. refl)
-
-pub stale_baseline : Reports Projects.stale_baseline Projects.stale_baseline_report
-stale_baseline = reports Projects.stale_baseline Projects.stale_baseline_report refl (λ bytes. refl)
-
 pub host_platform : Reports Projects.host_platform Projects.host_platform_report
 host_platform = reports Projects.host_platform Projects.host_platform_report refl (λ bytes. refl)
-
-pub on_by_another : Reports Projects.on_by_another Projects.on_by_another_report
-on_by_another = reports Projects.on_by_another Projects.on_by_another_report refl (λ bytes. refl)
-
-pub named_feature : Reports Projects.named_feature Projects.named_feature_report
-named_feature = reports Projects.named_feature Projects.named_feature_report refl (λ bytes. refl)
-
-pub default_feature : Reports Projects.default_feature Projects.default_feature_report
-default_feature = reports Projects.default_feature Projects.default_feature_report refl (λ bytes. refl)
-
-pub unsupported_feature : Reports Projects.unsupported_feature Projects.unsupported_feature_report
-unsupported_feature = reports Projects.unsupported_feature Projects.unsupported_feature_report refl (λ bytes. refl)
-
-pub missing_feature : Reports Projects.missing_feature Projects.missing_feature_report
-missing_feature = reports Projects.missing_feature Projects.missing_feature_report refl (λ bytes. refl)
 
 pub own_minimum : Reports Projects.own_minimum Projects.own_minimum_report
 own_minimum = reports Projects.own_minimum Projects.own_minimum_report refl (λ bytes. refl)
 
 pub named_root : Reports Projects.named_root Projects.named_root_report
 named_root = reports Projects.named_root Projects.named_root_report refl (λ bytes. refl)
-
-pub below_baseline : Reports Projects.below_baseline Projects.below_baseline_report
-below_baseline = reports Projects.below_baseline Projects.below_baseline_report refl (λ bytes. refl)
-
-pub no_baseline_entry : Reports Projects.no_baseline_entry Projects.no_baseline_entry_report
-no_baseline_entry = reports Projects.no_baseline_entry Projects.no_baseline_entry_report refl (λ bytes. refl)
-
-pub failed_override : Reports Projects.failed_override Projects.failed_override_report
-failed_override = reports Projects.failed_override Projects.failed_override_report refl (λ bytes. refl)
-
-pub other_overlay : Reports Projects.other_overlay Projects.other_overlay_report
-other_overlay = reports Projects.other_overlay Projects.other_overlay_report refl (λ bytes. refl)
-
-pub damaged_overlay : Reports Projects.damaged_overlay Projects.damaged_overlay_report
-damaged_overlay = reports Projects.damaged_overlay Projects.damaged_overlay_report refl (λ bytes. refl)
 
 needs : (inputs : Inputs) (listed : List (List ℕ)) → ((bytes : Printing) → option_map needs_in (outcome_by inputs bytes 12) ≡ Some listed) → HasNeeds inputs listed
 needs inputs listed computed bytes = let r = map_some needs_in (outcome_by inputs bytes 12) listed (computed bytes) in (r.0, outcome_is inputs bytes 12 r.0 r.1, r.2)
@@ -170,23 +98,11 @@ reports_alone inputs report reports bytes o is =
 pub early_feature : Reports Projects.early_feature Projects.early_feature_report
 early_feature = reports Projects.early_feature Projects.early_feature_report refl (λ bytes. refl)
 
-pub overridden_without_table : Reports Projects.overridden_without_table Projects.overridden_without_table_report
-overridden_without_table = reports Projects.overridden_without_table Projects.overridden_without_table_report refl (λ bytes. refl)
-
 pub conflict_by_text : Reports Projects.conflict_by_text Projects.conflict_by_text_report
 conflict_by_text = reports Projects.conflict_by_text Projects.conflict_by_text_report refl (λ bytes. refl)
 
-pub floors_by_text : Reports Projects.floors_by_text Projects.floors_by_text_report
-floors_by_text = reports Projects.floors_by_text Projects.floors_by_text_report refl (λ bytes. refl)
-
-pub off_by_default_feature : Reports Projects.off_by_default_feature Projects.off_by_default_feature_report
-off_by_default_feature = reports Projects.off_by_default_feature Projects.off_by_default_feature_report refl (λ bytes. refl)
-
 pub off_by_own_feature : Reports Projects.off_by_own_feature Projects.off_by_own_feature_report
 off_by_own_feature = reports Projects.off_by_own_feature Projects.off_by_own_feature_report refl (λ bytes. refl)
-
-pub visits_by_feature : IsReasons Projects.visits_by_feature Projects.visits_by_feature_reasons
-visits_by_feature = reasons Projects.visits_by_feature (facts_of Projects.visits_by_feature_reasons) Projects.visits_by_feature_reasons refl refl
 
 pub every_cause : Reports Projects.every_cause Projects.every_cause_report
 every_cause = reports Projects.every_cause Projects.every_cause_report refl (λ bytes. refl)
@@ -212,20 +128,5 @@ shorter_cycle = reports Projects.shorter_cycle Projects.shorter_cycle_report ref
 pub superseded_cycle : Reports Projects.superseded_cycle Projects.superseded_cycle_report
 superseded_cycle = reports Projects.superseded_cycle Projects.superseded_cycle_report refl (λ bytes. refl)
 
-pub superseded_support : Reports Projects.superseded_support Projects.superseded_support_report
-superseded_support = reports Projects.superseded_support Projects.superseded_support_report refl (λ bytes. refl)
-
 pub superseded_conflict : Reports Projects.superseded_conflict Projects.superseded_conflict_report
 superseded_conflict = reports Projects.superseded_conflict Projects.superseded_conflict_report refl (λ bytes. refl)
-
-pub superseded_manifest : Reports Projects.superseded_manifest Projects.superseded_manifest_report
-superseded_manifest = reports Projects.superseded_manifest Projects.superseded_manifest_report refl (λ bytes. refl)
-
-pub missing_override : Reports Projects.missing_override Projects.missing_override_report
-missing_override = reports Projects.missing_override Projects.missing_override_report refl (λ bytes. refl)
-
-pub raised_day : Reports Projects.raised_day Projects.raised_day_report
-raised_day = reports Projects.raised_day Projects.raised_day_report refl (λ bytes. refl)
-
-pub named_default_feature : IsReasons Projects.named_default_feature Projects.named_default_feature_reasons
-named_default_feature = reasons Projects.named_default_feature (facts_of Projects.named_default_feature_reasons) Projects.named_default_feature_reasons refl refl

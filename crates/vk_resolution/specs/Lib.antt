@@ -19,7 +19,6 @@ pub mod Selections
 pub mod Computed
 pub mod Examples
 pub mod Projects
-pub mod Corners
 pub mod LeastLaws
 pub mod Rounds
 pub mod Worklist

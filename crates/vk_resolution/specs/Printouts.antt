@@ -25,18 +25,6 @@ pub record Tells (inputs : Inputs) (texts : List (List ℕ)) (reasons : ℕ) : T
   pub told : told_lines outcome ≡ lines texts
   pub many : length (reasons_in outcome) ≡ reasons
 
--- the smallest project, whole
-abbrev pub smallest_printed : List (List ℕ)
-smallest_printed =
-    codes "vcpkg-plan 1"
-    ∷ codes "status planned"
-    ∷ codes "plan 0"
-    ∷ codes "reasons 2"
-    ∷ codes "1 need . x64-linux core root"
-    ∷ codes "2 need . x64-linux default root"
-    ∷ codes "end"
-    ∷ []
-
 -- a raised minimum, whole
 abbrev pub raised_minimum_printed : List (List ℕ)
 raised_minimum_printed =
@@ -64,21 +52,6 @@ raised_minimum_printed =
     ∷ codes "end"
     ∷ []
 
--- a port that no registry serves, whole
-abbrev pub unserved_printed : List (List ℕ)
-unserved_printed =
-    codes "vcpkg-plan 1"
-    ∷ codes "status refused"
-    ∷ codes "faults 1"
-    ∷ codes "no-registry zlib 3"
-    ∷ codes "reasons 4"
-    ∷ codes "1 need . x64-linux core root"
-    ∷ codes "2 need . x64-linux default root"
-    ∷ codes "3 need zlib x64-linux core from 1"
-    ∷ codes "4 need zlib x64-linux default from 1"
-    ∷ codes "end"
-    ∷ []
-
 -- the plan of a realistic project
 abbrev pub realistic_told : List (List ℕ)
 realistic_told =
@@ -92,24 +65,6 @@ realistic_told =
 -- one line
 abbrev pub single_line : List ℕ → List (List ℕ)
 single_line text = text ∷ []
-
--- an overlay, whole
-abbrev pub overlaid_printed : List (List ℕ)
-overlaid_printed =
-    codes "vcpkg-plan 1"
-    ∷ codes "status planned"
-    ∷ codes "plan 1"
-    ∷ codes "1 b x64-linux 2#0 5 core"
-    ∷ codes "reasons 7"
-    ∷ codes "1 need . x64-linux core root"
-    ∷ codes "2 need . x64-linux default root"
-    ∷ codes "3 need b x64-linux core from 1"
-    ∷ codes "4 need b x64-linux default from 1"
-    ∷ codes "5 floor b 2#0 overlay 3"
-    ∷ codes "6 visit b x64-linux core 2#0 from 3 5"
-    ∷ codes "7 visit b x64-linux default 2#0 from 4 5"
-    ∷ codes "end"
-    ∷ []
 
 -- an override, whole
 abbrev pub overridden_printed : List (List ℕ)
@@ -138,26 +93,5 @@ overridden_printed =
     ∷ codes "15 floor s alpha#0 override 13"
     ∷ codes "16 visit s x64-linux core alpha#0 from 13 15"
     ∷ codes "17 visit s x64-linux default alpha#0 from 14 15"
-    ∷ codes "end"
-    ∷ []
-
--- two minimums that the table lacks, whole
-abbrev pub two_missing_minimums_printed : List (List ℕ)
-two_missing_minimums_printed =
-    codes "vcpkg-plan 1"
-    ∷ codes "status refused"
-    ∷ codes "faults 2"
-    ∷ codes "no-version b 0.9#0 5"
-    ∷ codes "no-version b 0.9#1 6"
-    ∷ codes "reasons 9"
-    ∷ codes "1 need . x64-linux core root"
-    ∷ codes "2 need . x64-linux default root"
-    ∷ codes "3 need b x64-linux core from 1"
-    ∷ codes "4 need b x64-linux default from 1"
-    ∷ codes "5 floor b 0.9#0 minimum 1"
-    ∷ codes "6 floor b 0.9#1 minimum 1"
-    ∷ codes "7 floor b 1.0#0 baseline 3"
-    ∷ codes "8 visit b x64-linux core 1.0#0 from 3 7"
-    ∷ codes "9 visit b x64-linux default 1.0#0 from 4 7"
     ∷ codes "end"
     ∷ []

@@ -1,16 +1,16 @@
 -- Worked projects: the setting and the pages of each, and what it prints.
-use Rattle.std.specs.Prelude.{ℕ, Bool, true, false, List, [], ◌∷◌, Some, None, Ok, Err, codes}
+use Rattle.std.specs.Prelude.{ℕ, true, false, List, [], ◌∷◌, Some, None, Ok, Err, codes}
 use Rattle.vk_spec.specs.Paths.{Path}
 use Rattle.vk_spec.specs.Versions.{Version, date, text}
-use Rattle.vk_spec.specs.Manifests.{Manifest, Dependency, Feature, Override, core}
-use Rattle.vk_spec.specs.Pages.{name as field_name, text as field_text, Wrong, no_registry, no_baseline, bad_file, disagrees, baseline, overlay, override, Row, Page}
+use Rattle.vk_spec.specs.Manifests.{Manifest, Dependency, Feature, core}
+use Rattle.vk_spec.specs.Pages.{Wrong, bad_file, baseline, overlay, override, Row, Page}
 use Rattle.vk_spec.specs.Conditions.{Condition, always, mark, negation, all, condition, no_conditions}
 use Rattle.vk_spec.specs.Settings.{Instance}
 use Rattle.vk_resolution.specs.Settings.{root, inst}
 use Rattle.vk_resolution.specs.Asking.{need, floor, visit}
 use Rattle.vk_resolution.specs.Consequences.{Inputs, by_root, by_baseline, by_override, by_overlay, by_minimum, by_one, by_two}
 use Rattle.vk_resolution.specs.Reasons.{Reason}
-use Rattle.vk_resolution.specs.Faults.{troubled, lacks_registry, lacks_baseline, unreadable, lacks_version, differs, conflicts, lacks_feature, isnt_supported, has_cycle}
+use Rattle.vk_resolution.specs.Faults.{troubled, unreadable, conflicts, lacks_feature, isnt_supported, has_cycle}
 use Rattle.vk_resolution.specs.Examples.{version, ask, on, at_least, use_of, manifest, release, listed, pages_of, root_with, setting, x64_linux, arm64_linux, project, x64, at_most, Line, Report, plans, refuses}
 
 -- the ports and features of these projects, and their versions
@@ -40,9 +40,6 @@ p = codes "p"
 
 abbrev pub q : List ℕ
 q = codes "q"
-
-abbrev pub r : List ℕ
-r = codes "r"
 
 abbrev pub s : List ℕ
 s = codes "s"
@@ -85,13 +82,6 @@ line_with port v n fs = record { port = port; triplet = codes "x64-linux"; versi
 -- a port with one version, 1
 abbrev pub single : List ℕ → List (Dependency Condition) → List ℕ × Page Condition
 single port ds = (port, listed one (release port one ds ∷ []))
-
--- the smallest project asks for nothing
-abbrev pub smallest : Inputs
-smallest = project [] (pages_of [])
-
-abbrev pub smallest_report : Report
-smallest_report = plans [] 2
 
 -- a raised minimum: b is 1.1 by its baseline, and a asks for 1.2
 abbrev pub raised_minimum : Inputs
@@ -196,43 +186,6 @@ overridden = record {
 abbrev pub overridden_report : Report
 overridden_report = plans (planned_line s alpha 15 ∷ planned_line p one 7 ∷ planned_line q one 8 ∷ []) 17
 
--- two dotted texts with the same numbers are unrelated, and a version above both is no floor
-abbrev pub plus_a : List ℕ
-plus_a = codes "1.0.0+a"
-
-abbrev pub plus_b : List ℕ
-plus_b = codes "1.0.0+b"
-
-abbrev pub two_zeros : List ℕ
-two_zeros = codes "2.0.0"
-
-abbrev pub builds : List (Dependency Condition) → Inputs
-builds ds = project ds (pages_of (
-    single p (on s ∷ [])
-    ∷ single q (at_least s plus_b ∷ [])
-    ∷ single r (at_least s two_zeros ∷ [])
-    ∷ (s, listed plus_a (release s plus_a [] ∷ release s plus_b [] ∷ release s two_zeros [] ∷ []))
-    ∷ []))
-
-abbrev pub unrelated_builds : Inputs
-unrelated_builds = builds (on p ∷ on q ∷ [])
-
-abbrev pub unrelated_builds_report : Report
-unrelated_builds_report = refuses (conflicts s (version plus_a) 16 (version plus_b) 15 ∷ []) 20
-
-abbrev pub builds_with_floor : Inputs
-builds_with_floor = builds (on p ∷ on q ∷ on r ∷ [])
-
-abbrev pub builds_with_floor_report : Report
-builds_with_floor_report = plans (planned_line s two_zeros 21 ∷ planned_line p one 9 ∷ planned_line q one 10 ∷ planned_line r one 11 ∷ []) 28
-
--- a minimum that the table lacks
-abbrev pub missing_minimum : Inputs
-missing_minimum = project (at_least b (codes "0.9") ∷ []) (pages_of ((b, listed one_dot (release b one_dot [] ∷ [])) ∷ []))
-
-abbrev pub missing_minimum_report : Report
-missing_minimum_report = refuses (troubled (lacks_version b (ask (codes "0.9"))) 5 ∷ []) 8
-
 -- a feature that only one version has
 abbrev pub feature : List ℕ → List (Dependency Condition) → Feature Condition
 feature name ds = record { name = name; dependencies = ds; supports = always }
@@ -290,22 +243,6 @@ off_by_root = record {
 abbrev pub off_by_root_report : Report
 off_by_root_report = plans (planned_line d one 6 ∷ planned_line e one 7 ∷ []) 10
 
-abbrev pub off_by_port : Inputs
-off_by_port = project (on e ∷ []) (pages_of (d_page ∷ single e (without_defaults (on d) ∷ []) ∷ []))
-
-abbrev pub off_by_port_report : Report
-off_by_port_report = plans (line_with d one 10 (f ∷ []) ∷ planned_line e one 5 ∷ []) 14
-
-abbrev pub off_where_it_applies : Inputs
-off_where_it_applies = record {
-  setting = setting (root_with (where_marked (without_defaults (on d)) (codes "linux") ∷ where_marked (on d) (codes "windows") ∷ [])) x64_linux x64_linux (x64 d ∷ []);
-  pages = pages_of (d_page ∷ []);
-  at_most = at_most;
-}
-
-abbrev pub off_where_it_applies_report : Report
-off_where_it_applies_report = plans (planned_line d one 4 ∷ []) 5
-
 -- host instances
 abbrev pub for_host : Dependency Condition → Dependency Condition
 for_host dep = record { name = dep.name; defaults = dep.defaults; features = dep.features; host = true; platform = dep.platform; minimum = dep.minimum }
@@ -329,39 +266,12 @@ arm_line port n = record { port = port; triplet = codes "arm64-linux"; version =
 abbrev pub cross_build_report : Report
 cross_build_report = plans (planned_line t one 7 ∷ arm_line w 15 ∷ arm_line u 8 ∷ []) 17
 
-abbrev pub native_build : Inputs
-native_build = project (for_host (on t) ∷ on u ∷ []) (pages_of host_pages)
-
-abbrev pub native_build_report : Report
-native_build_report = plans (planned_line t one 7 ∷ planned_line u one 8 ∷ []) 12
-
 -- a cycle of three, two cycles of two, and a port that asks for a feature of its own
 abbrev pub cycle : Inputs
 cycle = project (on a ∷ []) (pages_of (single a (on b ∷ []) ∷ single b (on c ∷ []) ∷ single c (on a ∷ []) ∷ []))
 
 abbrev pub cycle_report : Report
 cycle_report = refuses (has_cycle (x64 a ∷ x64 b ∷ x64 c ∷ []) ∷ []) 17
-
-abbrev pub two_cycles : Inputs
-two_cycles = project (on a ∷ on c ∷ []) (pages_of (single a (on b ∷ []) ∷ single b (on a ∷ []) ∷ single c (on d ∷ []) ∷ single d (on c ∷ []) ∷ []))
-
-abbrev pub two_cycles_report : Report
-two_cycles_report = refuses (has_cycle (x64 a ∷ x64 b ∷ []) ∷ []) 22
-
-abbrev pub own_feature : Inputs
-own_feature = project (with_features (on g) x ∷ []) (pages_of (
-    (g, listed one (release_with g one (feature y [] ∷ feature x (with_features (without_defaults (on g)) y ∷ []) ∷ []) ∷ []))
-    ∷ []))
-
-abbrev pub own_feature_report : Report
-own_feature_report = plans (line_with g one 6 (x ∷ y ∷ []) ∷ []) 11
-
--- no registry serves the port
-abbrev pub unserved : Inputs
-unserved = project (on (codes "zlib") ∷ []) (pages_of [])
-
-abbrev pub unserved_report : Report
-unserved_report = refuses (troubled (lacks_registry (codes "zlib")) 3 ∷ []) 4
 
 -- an overlay has its own version alone, and what it doesn't support is judged
 abbrev pub overlaid : Condition → Inputs
@@ -376,12 +286,6 @@ overlaid supports = project (at_least b (codes "9") ∷ []) (pages_of ((
   },
 )
     ∷ []))
-
-abbrev pub overlaid_port : Inputs
-overlaid_port = overlaid always
-
-abbrev pub overlaid_port_report : Report
-overlaid_port_report = plans (planned_line b (codes "2") 5 ∷ []) 7
 
 abbrev pub unsupported_port : Inputs
 unsupported_port = overlaid (mark (codes "windows"))
@@ -448,9 +352,6 @@ realistic_report =
 abbrev pub manifest_path : Path
 manifest_path = codes "." ∷ codes "reg" ∷ codes "ports" ∷ codes "a" ∷ codes "1.0" ∷ codes "vcpkg.json" ∷ []
 
-abbrev pub table_path : Path
-table_path = codes "." ∷ codes "reg" ∷ codes "versions" ∷ codes "a-" ∷ codes "a.json" ∷ []
-
 abbrev pub with_wrong : Wrong → Inputs
 with_wrong wrong = project (on a ∷ []) (pages_of ((a, listed one_dot (record { version = version one_dot; manifest = Err wrong } ∷ [])) ∷ []))
 
@@ -459,25 +360,6 @@ damaged_manifest = with_wrong (bad_file manifest_path [] (codes "json"))
 
 abbrev pub damaged_manifest_report : Report
 damaged_manifest_report = refuses (troubled (unreadable manifest_path [] (codes "json")) 6 ∷ []) 7
-
-abbrev pub other_manifest : Inputs
-other_manifest = with_wrong (disagrees manifest_path field_text one_dot (codes "1.1"))
-
-abbrev pub other_manifest_report : Report
-other_manifest_report = refuses (troubled (differs manifest_path field_text one_dot (codes "1.1")) 6 ∷ []) 7
-
-abbrev pub no_table : Inputs
-no_table = project (on a ∷ []) (pages_of ((a, record { given = Err (bad_file table_path [] (codes "absent")); rows = [] }) ∷ []))
-
-abbrev pub no_table_report : Report
-no_table_report = refuses (troubled (unreadable table_path [] (codes "absent")) 3 ∷ []) 4
-
--- a baseline that its own table lacks: the minimum that the table has isn't visited
-abbrev pub stale_baseline : Inputs
-stale_baseline = project (at_least a one_dot ∷ []) (pages_of ((a, listed (codes "9") (release a one_dot [] ∷ [])) ∷ []))
-
-abbrev pub stale_baseline_report : Report
-stale_baseline_report = refuses (troubled (lacks_version a (ask (codes "9"))) 6 ∷ []) 6
 
 -- the platform of a host dependency is judged by the one that depends, and what an instance supports by the instance itself
 abbrev pub x64_only : List ℕ × Page Condition
@@ -498,57 +380,6 @@ host_platform = record {
 
 abbrev pub host_platform_report : Report
 host_platform_report = plans (planned_line t one 10 ∷ arm_line u 5 ∷ []) 12
-
--- an instance is off only where each dependency that names it says so
-abbrev pub on_by_another : Inputs
-on_by_another = project (without_defaults (on d) ∷ on d ∷ []) (pages_of (d_page ∷ []))
-
-abbrev pub on_by_another_report : Report
-on_by_another_report = plans (line_with d one 5 (f ∷ []) ∷ []) 9
-
--- a root with features: x asks for a and y for b; y is a default feature
-abbrev pub root_features : Condition → Manifest Condition
-root_features supports = record {
-  name = None;
-  version = None;
-  supports = always;
-  dependencies = [];
-  default_features = use_of y ∷ [];
-  features = record { name = x; dependencies = on a ∷ []; supports = supports } ∷ feature y (on b ∷ []) ∷ [];
-  overrides = [];
-}
-
-abbrev pub featured : Condition → List (List ℕ) → Bool → Inputs
-featured supports features defaults = record {
-  setting = record { root = root_features supports; target = x64_linux; host = x64_linux; features = features; defaults = defaults; off = []; max_facts = 1000 };
-  pages = pages_of (single a [] ∷ single b [] ∷ []);
-  at_most = at_most;
-}
-
-abbrev pub named_feature : Inputs
-named_feature = featured always (x ∷ []) false
-
-abbrev pub named_feature_report : Report
-named_feature_report = plans (planned_line a one 5 ∷ []) 7
-
-abbrev pub default_feature : Inputs
-default_feature = featured always [] true
-
-abbrev pub default_feature_report : Report
-default_feature_report = plans (planned_line b one 6 ∷ []) 8
-
--- what a feature of the root doesn't support is told, and a feature that the root lacks
-abbrev pub unsupported_feature : Inputs
-unsupported_feature = featured (mark (codes "windows")) (x ∷ []) false
-
-abbrev pub unsupported_feature_report : Report
-unsupported_feature_report = refuses (isnt_supported (root (codes "x64-linux")) x None 2 ∷ []) 7
-
-abbrev pub missing_feature : Inputs
-missing_feature = featured always (codes "z" ∷ []) false
-
-abbrev pub missing_feature_report : Report
-missing_feature_report = refuses (lacks_feature (root (codes "x64-linux")) (codes "z") None 2 ∷ []) 2
 
 -- a minimum on one's own port and triplet is a floor, and what only the lower version asks of itself isn't planned
 abbrev pub own_at_least : Dependency Condition
@@ -589,51 +420,6 @@ named_root = record {
 abbrev pub named_root_report : Report
 named_root_report = plans (arm_line a 7 ∷ planned_line g one 6 ∷ []) 10
 
--- a minimum below the baseline is a floor, and isn't visited
-abbrev pub below_baseline : Inputs
-below_baseline = project (on a ∷ []) (pages_of (
-    (a, listed one_dot (release a one_dot (at_least b one_dot ∷ []) ∷ []))
-    ∷ (b, listed (codes "1.1") (release b one_dot [] ∷ release b (codes "1.1") [] ∷ []))
-    ∷ []))
-
-abbrev pub below_baseline_report : Report
-below_baseline_report = plans (planned_line b (codes "1.1") 11 ∷ planned_line a one_dot 5 ∷ []) 13
-
--- a port whose given version fails: a minimum is a floor of it, unless an overlay or an override pins it all the same
-abbrev pub failing : Wrong → List Override → Inputs
-failing wrong overrides = record {
-  setting = setting (record { name = None; version = None; supports = always; dependencies = at_least b (codes "9") ∷ []; default_features = []; features = []; overrides = overrides }) x64_linux x64_linux [];
-  pages = pages_of ((b, record { given = Err wrong; rows = [] }) ∷ []);
-  at_most = at_most;
-}
-
-abbrev pub overlay_path : Path
-overlay_path = codes "." ∷ codes "ov" ∷ codes "b" ∷ codes "vcpkg.json" ∷ []
-
-abbrev pub no_baseline_entry : Inputs
-no_baseline_entry = failing no_baseline []
-
-abbrev pub no_baseline_entry_report : Report
-no_baseline_entry_report = refuses (troubled (lacks_baseline b) 3 ∷ []) 5
-
-abbrev pub failed_override : Inputs
-failed_override = failing no_registry (record { name = b; ask = ask (codes "9") } ∷ [])
-
-abbrev pub failed_override_report : Report
-failed_override_report = refuses (troubled (lacks_registry b) 3 ∷ []) 4
-
-abbrev pub other_overlay : Inputs
-other_overlay = failing (disagrees overlay_path field_name b c) []
-
-abbrev pub other_overlay_report : Report
-other_overlay_report = refuses (troubled (differs overlay_path field_name b c) 3 ∷ []) 4
-
-abbrev pub damaged_overlay : Inputs
-damaged_overlay = failing (bad_file overlay_path [] (codes "json")) []
-
-abbrev pub damaged_overlay_report : Report
-damaged_overlay_report = refuses (troubled (unreadable overlay_path [] (codes "json")) 3 ∷ []) 4
-
 -- what the items of the realistic project need, by their places from 0
 abbrev pub realistic_needs : List (List ℕ)
 realistic_needs = [] ∷ (0 ∷ []) ∷ (0 ∷ []) ∷ (0 ∷ []) ∷ (0 ∷ 2 ∷ 3 ∷ []) ∷ []
@@ -655,25 +441,12 @@ leads_in = project (on a ∷ []) (pages_of (single a (on b ∷ []) ∷ single b 
 abbrev pub leads_in_report : Report
 leads_in_report = refuses (has_cycle (x64 b ∷ x64 c ∷ []) ∷ []) 17
 
--- an override pins also where the port's table can't be read
-abbrev pub other_table_path : Path
-other_table_path = codes "." ∷ codes "reg" ∷ codes "versions" ∷ codes "b-" ∷ codes "b.json" ∷ []
-
-abbrev pub overridden_without_table : Inputs
-overridden_without_table = failing (bad_file other_table_path [] (codes "absent")) (record { name = b; ask = ask (codes "9") } ∷ [])
-
-abbrev pub overridden_without_table_report : Report
-overridden_without_table_report = refuses (troubled (unreadable other_table_path [] (codes "absent")) 3 ∷ []) 4
-
 -- a version with a port-version, its row, and a dependency with such a minimum
 abbrev pub ported : Version → ℕ → Version
 ported v n = record { class = v.class; text = v.text; port = n }
 
 abbrev pub bare_row : List ℕ → Version → Row Condition
 bare_row port v = record { version = v; manifest = Ok (manifest port v []) }
-
-abbrev pub at_least_port : List ℕ → List ℕ → ℕ → Dependency Condition
-at_least_port port t n = record { name = port; defaults = true; features = []; host = false; platform = always; minimum = Some (record { text = t; port = n }) }
 
 -- floors in conflict are told by text first, and then by port-version
 abbrev pub conflict_by_text : Inputs
@@ -685,55 +458,6 @@ conflict_by_text = project (on p ∷ on q ∷ []) (pages_of (
 
 abbrev pub conflict_by_text_report : Report
 conflict_by_text_report = refuses (conflicts s (ported (text_version alpha) 1) 16 (text_version beta) 15 ∷ []) 20
-
--- floors of one rank stand by text first, and then by port-version
-abbrev pub floors_by_text : Inputs
-floors_by_text = project (at_least_port b one 1 ∷ at_least_port b (codes "2") 0 ∷ []) (pages_of (
-    (b, listed one (release b one [] ∷ bare_row b (ported (version one) 1) ∷ release b (codes "2") [] ∷ []))
-    ∷ []))
-
-abbrev pub floors_by_text_report : Report
-floors_by_text_report = plans (planned_line b (codes "2") 6 ∷ []) 13
-
--- visits of one rank stand by feature first, and then by version
-abbrev pub visits_by_feature : Inputs
-visits_by_feature = project (at_least b (codes "2") ∷ at_least b three ∷ []) (pages_of ((b, listed one (release b one [] ∷ release b (codes "2") [] ∷ release b three [] ∷ [])) ∷ []))
-
-abbrev pub visits_by_feature_reasons : List Reason
-visits_by_feature_reasons =
-    record { fact = need (root (codes "x64-linux")) core; cause = by_root }
-    ∷ record { fact = need (root (codes "x64-linux")) default; cause = by_root }
-    ∷ record { fact = need (inst (x64 b)) core; cause = by_one 1 }
-    ∷ record { fact = need (inst (x64 b)) default; cause = by_one 1 }
-    ∷ record { fact = floor b (ask (codes "2")); cause = by_minimum 1 }
-    ∷ record { fact = floor b (ask three); cause = by_minimum 1 }
-    ∷ record { fact = floor b (ask one); cause = by_baseline 3 }
-    ∷ record { fact = visit (x64 b) core (ask (codes "2")); cause = by_two 3 5 }
-    ∷ record { fact = visit (x64 b) core (ask three); cause = by_two 3 6 }
-    ∷ record { fact = visit (x64 b) default (ask (codes "2")); cause = by_two 4 5 }
-    ∷ record { fact = visit (x64 b) default (ask three); cause = by_two 4 6 }
-    ∷ record { fact = visit (x64 b) core (ask one); cause = by_two 3 7 }
-    ∷ record { fact = visit (x64 b) default (ask one); cause = by_two 4 7 }
-    ∷ []
-
--- what the root's default features ask counts for the off list
-abbrev pub off_by_default_feature : Inputs
-off_by_default_feature = record {
-  setting = setting (record {
-    name = None;
-    version = None;
-    supports = always;
-    dependencies = [];
-    default_features = use_of y ∷ [];
-    features = feature y (without_defaults (on d) ∷ []) ∷ [];
-    overrides = [];
-  }) x64_linux x64_linux (x64 d ∷ []);
-  pages = pages_of (d_page ∷ []);
-  at_most = at_most;
-}
-
-abbrev pub off_by_default_feature_report : Report
-off_by_default_feature_report = plans (planned_line d one 5 ∷ []) 6
 
 -- and so does what the root asks of itself
 abbrev pub off_by_own_feature : Inputs
@@ -903,87 +627,9 @@ superseded_cycle = with_superseded (on a ∷ on b ∷ on c ∷ []) (release a on
 abbrev pub superseded_cycle_report : Report
 superseded_cycle_report = plans (planned_line a two_dot 18 ∷ planned_line b one 10 ∷ planned_line c one 11 ∷ []) 20
 
--- a version of a port that supports Windows alone
-abbrev pub windows_release : List ℕ → List ℕ → Row Condition
-windows_release port v = record {
-  version = version v;
-  manifest = Ok (record { name = Some port; version = Some (version v); supports = mark (codes "windows"); dependencies = []; default_features = []; features = []; overrides = [] });
-}
-
--- what only a superseded version asks for may be unsupported
-abbrev pub superseded_support : Inputs
-superseded_support = with_superseded (on a ∷ on c ∷ []) (release a one_dot (at_least b three ∷ [])) ((b, listed one (windows_release b one ∷ windows_release b three ∷ [])) ∷ [])
-
-abbrev pub superseded_support_report : Report
-superseded_support_report = plans (planned_line a two_dot 15 ∷ planned_line c one 8 ∷ []) 23
-
 -- a conflict through a superseded version is told all the same
 abbrev pub superseded_conflict : Inputs
 superseded_conflict = with_superseded (on a ∷ on c ∷ []) (release a one_dot (at_least s beta ∷ [])) ((s, listed alpha (text_release s alpha ∷ text_release s beta ∷ [])) ∷ [])
 
 abbrev pub superseded_conflict_report : Report
 superseded_conflict_report = refuses (conflicts s (text_version alpha) 17 (text_version beta) 16 ∷ []) 23
-
--- and so is a superseded version's manifest that can't be read
-abbrev pub superseded_manifest : Inputs
-superseded_manifest = with_superseded (on a ∷ on c ∷ []) (record { version = version one_dot; manifest = Err (bad_file manifest_path [] (codes "json")) }) []
-
-abbrev pub superseded_manifest_report : Report
-superseded_manifest_report = refuses (troubled (unreadable manifest_path [] (codes "json")) 9 ∷ []) 15
-
--- an override that the table lacks
-abbrev pub missing_override : Inputs
-missing_override = record {
-  setting = setting (root_overriding (on b ∷ []) b (codes "9")) x64_linux x64_linux [];
-  pages = pages_of ((b, record { given = Ok (override (ask (codes "9"))); rows = release b one [] ∷ [] }) ∷ []);
-  at_most = at_most;
-}
-
-abbrev pub missing_override_report : Report
-missing_override_report = refuses (troubled (lacks_version b (ask (codes "9"))) 5 ∷ []) 5
-
--- two minimums of one text that the table lacks
-abbrev pub two_missing_minimums : Inputs
-two_missing_minimums = project (at_least_port b (codes "0.9") 0 ∷ at_least_port b (codes "0.9") 1 ∷ []) (pages_of ((b, listed one_dot (release b one_dot [] ∷ [])) ∷ []))
-
--- a root fact that also follows from another: its cause is `root`
-abbrev pub named_default_feature : Inputs
-named_default_feature = featured always (y ∷ []) true
-
-abbrev pub named_default_feature_reasons : List Reason
-named_default_feature_reasons =
-    record { fact = need (root (codes "x64-linux")) core; cause = by_root }
-    ∷ record { fact = need (root (codes "x64-linux")) default; cause = by_root }
-    ∷ record { fact = need (root (codes "x64-linux")) y; cause = by_root }
-    ∷ record { fact = need (inst (x64 b)) core; cause = by_one 3 }
-    ∷ record { fact = need (inst (x64 b)) default; cause = by_one 3 }
-    ∷ record { fact = floor b (ask one); cause = by_baseline 4 }
-    ∷ record { fact = visit (x64 b) core (ask one); cause = by_two 4 6 }
-    ∷ record { fact = visit (x64 b) default (ask one); cause = by_two 5 6 }
-    ∷ []
-
--- a later day is above an earlier one
-abbrev pub later_day : List ℕ
-later_day = codes "2024-01-02"
-
-abbrev pub raised_day : Inputs
-raised_day = project (at_least a later_day ∷ []) (pages_of ((a, listed cmake_day (bare_row a (day_version cmake_day) ∷ bare_row a (day_version later_day) ∷ [])) ∷ []))
-
-abbrev pub raised_day_report : Report
-raised_day_report = plans (planned_line a later_day 5 ∷ []) 10
-
--- a text of `version-string` with a port-version is above the same text without
-abbrev pub raised_port_version : Inputs
-raised_port_version = project (at_least_port s alpha 1 ∷ []) (pages_of ((s, listed alpha (text_release s alpha ∷ bare_row s (ported (text_version alpha) 1) ∷ [])) ∷ []))
-
--- a manifest's version with a blank, which is printed escaped
-abbrev pub spaced_version : Inputs
-spaced_version = with_wrong (disagrees manifest_path field_text one_dot (codes "1 1"))
-
--- a manifest that is wrong at a place within it
-abbrev pub wrong_at_a_place : Inputs
-wrong_at_a_place = with_wrong (bad_file manifest_path (codes "/dependencies/0") (codes "name"))
-
--- two faults whose lines don't stand in the order of their ports
-abbrev pub two_failing_ports : Inputs
-two_failing_ports = project (on a ∷ on b ∷ []) (pages_of ((a, record { given = Err no_registry; rows = [] }) ∷ (b, record { given = Err no_baseline; rows = [] }) ∷ []))

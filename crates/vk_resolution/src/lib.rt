@@ -9,7 +9,6 @@ mod agreement;
 mod choices;
 mod closures;
 mod computed;
-mod corners;
 mod edges;
 mod facts;
 mod faults;
@@ -35,10 +34,6 @@ pub use agreement::only_what_was_asked_matters;
 pub use choices::a_choice_is_the_least_version_allowed;
 pub use closures::a_closure_is_one_or_has_too_many_facts;
 pub use computed::what_is_computed_is_what_is_defined;
-pub use corners::{
-    a_version_by_its_port_version, facts_of_one_rank, marks_of_the_host, ports_that_are_not_pinned,
-    what_the_root_asks_of_itself,
-};
 pub use edges::an_edge_is_a_dependency;
 pub use facts::facts_come_in_order;
 pub use faults::fault_lines_mean_what_they_say;
@@ -58,11 +53,9 @@ pub use plans::{
 };
 pub use printouts::{faults_are_printed, plans_are_printed, reports_are_printed};
 pub use projects::{
-    a_feature_of_one_version, a_minimum_outside_the_table, a_project_with_every_cause,
-    a_raised_minimum, a_realistic_project, bad_files, conflicts, cycles, default_features,
-    failing_ports, host_instances, lines_of_one_rank, minimums_below_the_baseline, no_registry,
-    overlays, own_instances, reports_are_the_only_ones, root_features, superseded_versions,
-    the_smallest_project,
+    a_feature_of_one_version, a_project_with_every_cause, a_raised_minimum, a_realistic_project,
+    bad_files, conflicts, cycles, default_features, host_instances, overlays, own_instances,
+    reports_are_the_only_ones, superseded_versions,
 };
 pub use reasons::reasons_show_what_they_claim;
 pub use roots::{the_root_is_asked_what_it_says, the_root_names_what_it_depends_on};

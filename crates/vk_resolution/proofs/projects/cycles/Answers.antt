@@ -1,17 +1,11 @@
-use Rattle.vk_resolution.proofs.ProjectLemmas.{cycle, two_cycles, leads_in, own_feature, tied_cycles, shorter_cycle}
+use Rattle.vk_resolution.proofs.ProjectLemmas.{cycle, leads_in, tied_cycles, shorter_cycle}
 use Rattle.vk_resolution.proofs.projects.cycles.Goals as goal
 
 pub returns-clause-three : goal.returns-clause-three
 returns-clause-three c = cycle
 
-pub returns-clause-two : goal.returns-clause-two
-returns-clause-two c = two_cycles
-
 pub returns-clause-leads_in : goal.returns-clause-leads_in
 returns-clause-leads_in c = leads_in
-
-pub returns-clause-own : goal.returns-clause-own
-returns-clause-own c = own_feature
 
 pub returns-clause-tied : goal.returns-clause-tied
 returns-clause-tied c = tied_cycles

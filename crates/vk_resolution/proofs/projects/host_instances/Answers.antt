@@ -1,11 +1,8 @@
-use Rattle.vk_resolution.proofs.ProjectLemmas.{cross_build, native_build, host_platform, own_host_tool, own_host_tool_needs}
+use Rattle.vk_resolution.proofs.ProjectLemmas.{cross_build, host_platform, own_host_tool, own_host_tool_needs}
 use Rattle.vk_resolution.proofs.projects.host_instances.Goals as goal
 
 pub returns-clause-cross : goal.returns-clause-cross
 returns-clause-cross c = cross_build
-
-pub returns-clause-native : goal.returns-clause-native
-returns-clause-native c = native_build
 
 pub returns-clause-platform : goal.returns-clause-platform
 returns-clause-platform c = host_platform

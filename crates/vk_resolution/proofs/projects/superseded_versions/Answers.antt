@@ -1,4 +1,4 @@
-use Rattle.vk_resolution.proofs.ProjectLemmas.{superseded_minimum, superseded_reach, superseded_cycle, superseded_support, superseded_conflict, superseded_manifest}
+use Rattle.vk_resolution.proofs.ProjectLemmas.{superseded_minimum, superseded_reach, superseded_cycle, superseded_conflict}
 use Rattle.vk_resolution.proofs.projects.superseded_versions.Goals as goal
 
 pub returns-clause-minimum : goal.returns-clause-minimum
@@ -10,11 +10,5 @@ returns-clause-reach c = superseded_reach
 pub returns-clause-cycle : goal.returns-clause-cycle
 returns-clause-cycle c = superseded_cycle
 
-pub returns-clause-support : goal.returns-clause-support
-returns-clause-support c = superseded_support
-
 pub returns-clause-conflict : goal.returns-clause-conflict
 returns-clause-conflict c = superseded_conflict
-
-pub returns-clause-manifest : goal.returns-clause-manifest
-returns-clause-manifest c = superseded_manifest
