@@ -21,8 +21,8 @@ use Rattle.vk_app.specs.Once.{OnlyReadOnce}
 use Rattle.vk_app.specs.PortPlans.{Item, Trouble, or_trouble, given_for, version_for, manifest_for, item_with, item_at, item_of}
 use Rattle.vk_app.specs.AskReadings.{AsksAs, trouble_of, has_failed}
 use Rattle.vk_catalogue.specs.Views.{stop_view}
-use Rattle.vk_catalogue.specs.declared.stops.CatStop.{CatStop}
-use Rattle.vk_catalogue.specs.declared.stops.CatStop.TheVariants as cat
+use Rattle.vk_base.specs.declared.stops.Outage.{Outage}
+use Rattle.vk_base.specs.declared.stops.Outage.TheVariants as outage
 use Rattle.vk_app.specs.PortStops.{stop_after}
 use Rattle.vk_app.specs.declared.troubles.PortStop.{PortStop}
 use Rattle.vk_app.specs.declared.troubles.PortStop.TheVariants as stop
@@ -134,10 +134,10 @@ unfolding item_of
 asks_item port one = one
 
 -- a call that stopped, told in other words
-pub asks_stop : {A X Y : Type 0} {port : List ℕ} {Says : Page Condition → A → Type 0} {a b : CatalogueState Condition} (view : X → Y) (meaning : Pages Condition → Result Y Trouble) (s : CatStop)
+pub asks_stop : {A X Y : Type 0} {port : List ℕ} {Says : Page Condition → A → Type 0} {a b : CatalogueState Condition} (view : X → Y) (meaning : Pages Condition → Result Y Trouble) (s : Outage)
     → Asks port Says (Err (stop_view s)) a b → AsksAs {X = X} view (Err (stop_after s)) meaning a b
-asks_stop view meaning cat.Failed asks = asks_one view (Err stop.Failed) meaning asks refl (λ p said. tt)
-asks_stop view meaning cat.Memory asks = asks_one view (Err stop.Memory) meaning asks refl (λ p said. tt)
+asks_stop view meaning outage.Failed asks = asks_one view (Err stop.Failed) meaning asks refl (λ p said. tt)
+asks_stop view meaning (outage.Memory m) asks = asks_one view (Err stop.Memory) meaning asks refl (λ p said. tt)
 
 -- a call that answered, after which memory ran out
 pub asks_lack : {A X Y : Type 0} {port : List ℕ} {Says : Page Condition → A → Type 0} {x : A} {a b : CatalogueState Condition} (view : X → Y) (meaning : Pages Condition → Result Y Trouble)

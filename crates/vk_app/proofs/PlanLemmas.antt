@@ -26,8 +26,8 @@ use Rattle.vk_model.specs.declared.settings.Setting.{Setting}
 use Rattle.vk_model.specs.Views.{manifest_view}
 use Rattle.vk_opening.specs.declared.opens.Opened.{Opened}
 use Rattle.vk_opening.specs.declared.opens.Opened.TheVariants as opened
-use Rattle.vk_opening.specs.declared.opens.OpenStop.{OpenStop}
-use Rattle.vk_opening.specs.declared.opens.OpenStop.TheVariants as open_stop
+use Rattle.vk_base.specs.declared.stops.Outage.{Outage}
+use Rattle.vk_base.specs.declared.stops.Outage.TheVariants as outage
 use Rattle.vk_opening.proofs.OpenLemmas as opening
 use Rattle.vk_pages.specs.Pages.{page_of}
 use Rattle.vk_world.specs.VersionFolders.{place_in}
@@ -133,9 +133,9 @@ plan_ready triplet folder o setting start read a b is kept planned =
     rw (is, same) planned
 
 -- a project that wasn't opened
-pub not_opened : {X : Type 0} (view : X → List ℕ) (request : Request) (s : OpenStop) (a b : State) → Opens (project_of request) (Err s) a b → PlansAs {X = X} view (Err (stop_opened s)) (planned_report_of request) [] a b
-not_opened view request open_stop.TreeFailed a b opens = record { only = record { only = record { asked = paths_of opens.once.more; looks = opens.once.looks }; distinct = opening.none_twice opens }; content = of_each a.told (λ t. tt) }
-not_opened view request open_stop.Memory a b opens = record { only = record { only = record { asked = paths_of opens.once.more; looks = opens.once.looks }; distinct = opening.none_twice opens }; content = of_each a.told (λ t. tt) }
+pub not_opened : {X : Type 0} (view : X → List ℕ) (request : Request) (s : Outage) (a b : State) → Opens (project_of request) (Err s) a b → PlansAs {X = X} view (Err (stop_opened s)) (planned_report_of request) [] a b
+not_opened view request outage.Failed a b opens = record { only = record { only = record { asked = paths_of opens.once.more; looks = opens.once.looks }; distinct = opening.none_twice opens }; content = of_each a.told (λ t. tt) }
+not_opened view request (outage.Memory m) a b opens = record { only = record { only = record { asked = paths_of opens.once.more; looks = opens.once.looks }; distinct = opening.none_twice opens }; content = of_each a.told (λ t. tt) }
 
 -- nothing was asked for
 none_asked : (earlier : List Path) (s : State) → NoRepeats earlier → OnlyReadOnce earlier false s s

@@ -11,8 +11,8 @@ use Rattle.vk_opening.specs.Starts.{Start}
 use Rattle.vk_opening.specs.Views.{start_view, opened_files}
 use Rattle.vk_opening.specs.declared.opens.Opened.{Opened}
 use Rattle.vk_opening.specs.declared.opens.Opened.TheVariants as opened
-use Rattle.vk_opening.specs.declared.opens.OpenStop.{OpenStop}
-use Rattle.vk_opening.specs.declared.opens.OpenStop.TheVariants as open_stop
+use Rattle.vk_base.specs.declared.stops.Outage.{Outage}
+use Rattle.vk_base.specs.declared.stops.Outage.TheVariants as outage
 use Rattle.vk_model.specs.Views.{manifest_view}
 use Rattle.vk_model.specs.EarlyViews.{early_view}
 use Rattle.vk_files.specs.Kept.{IsOf}
@@ -68,9 +68,9 @@ abbrev pub planned_report_of : Request → Files → Result (List ℕ) Refused
 planned_report_of request files = reported request.triplet (plan_of (project_of request) files)
 
 -- a project that wasn't opened, told as the stop of a plan
-abbrev pub stop_opened : OpenStop → PlanStop
-stop_opened open_stop.TreeFailed = plan_stop.TreeFailed
-stop_opened open_stop.Memory = plan_stop.Memory
+abbrev pub stop_opened : Outage → PlanStop
+stop_opened outage.Failed = plan_stop.TreeFailed
+stop_opened (outage.Memory m) = plan_stop.Memory
 
 -- the report of what was opened, or the early line
 abbrev pub report_after : List ℕ → Path → Opened → Files → Result (List ℕ) Refused

@@ -31,9 +31,9 @@ use crate::reports::planned_report;
 use crate::requests::Request;
 use crate::troubles::{PortStop, Trouble};
 use std::alloc::{AllocError, Global};
-use vk_base::{List, Memory, PortName, Text, TreePath, TripletName};
+use vk_base::{List, Memory, Outage, PortName, Text, TreePath, TripletName};
 use vk_model::{Manifest, Project};
-use vk_opening::{OpenStop, Opened, Start, manifest_path};
+use vk_opening::{Opened, Start, manifest_path};
 use vk_tree::Tree;
 use vk_world::World;
 
@@ -204,12 +204,12 @@ fn planned_from<T: Tree>(
     }
 }
 
-fn stopped(stop: OpenStop) -> PlanStop
+fn stopped(stop: Outage) -> PlanStop
     ensures { result ≡ stop_opened stop }
 {
     match stop {
-        OpenStop::TreeFailed => PlanStop::TreeFailed,
-        OpenStop::Memory => PlanStop::Memory,
+        Outage::Failed => PlanStop::TreeFailed,
+        Outage::Memory(_) => PlanStop::Memory,
     }
 }
 

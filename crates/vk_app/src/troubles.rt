@@ -3,8 +3,8 @@ ghost use Rattle.vk_app.specs.declared.troubles.PortStop.TheVariants as stop;
 ghost use Rattle.vk_app.specs.PortStops.{stop_after};
 
 use std::alloc::{AllocError, AllocFailed};
-use vk_base::{Memory, PortName, TreePath};
-use vk_catalogue::{CatStop, Wrong};
+use vk_base::{Memory, Outage, PortName, TreePath};
+use vk_catalogue::Wrong;
 use vk_version::{Ask, Version};
 
 /// Why a port has no item in the plan.
@@ -50,13 +50,13 @@ impl From<Memory> for PortStop {
     }
 }
 
-impl From<CatStop> for PortStop {
+impl From<Outage> for PortStop {
     ghost from_gives = { λ stopped e. e ≡ stop_after stopped };
 
-    fn from(stopped: CatStop) -> Self {
+    fn from(stopped: Outage) -> Self {
         match stopped {
-            CatStop::Failed => PortStop::Failed,
-            CatStop::Memory => PortStop::Memory,
+            Outage::Failed => PortStop::Failed,
+            Outage::Memory(_) => PortStop::Memory,
         }
     }
 }

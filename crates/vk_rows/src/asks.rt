@@ -5,13 +5,13 @@ ghost use Rattle.vk_version.specs.AskViews.{ask_view};
 
 use crate::lines::{tell_given, tell_manifest, tell_version, tell_wrong};
 use crate::projects::{ask_of, port_of};
-use vk_base::{Memory, PortName};
-use vk_catalogue::{CatStop, Catalogue, GivenManifest, manifest_at_given};
+use vk_base::{Outage, PortName};
+use vk_catalogue::{Catalogue, GivenManifest, manifest_at_given};
 use vk_model::lines::no_version_line;
 use vk_row_text::{Reply, cut};
 use vk_version::Ask;
 
-fn given<C: Catalogue>(cat: &mut C, port: &PortName, reply: &mut Reply) -> Result<(), CatStop> {
+fn given<C: Catalogue>(cat: &mut C, port: &PortName, reply: &mut Reply) -> Result<(), Outage> {
     match cat.given(port)? {
         Ok(given) => tell_given(&given, reply),
         Err(wrong) => tell_wrong(port, &wrong, reply),
@@ -19,7 +19,7 @@ fn given<C: Catalogue>(cat: &mut C, port: &PortName, reply: &mut Reply) -> Resul
     Ok(())
 }
 
-fn at<C: Catalogue>(cat: &mut C, port: &PortName, reply: &mut Reply) -> Result<(), CatStop> {
+fn at<C: Catalogue>(cat: &mut C, port: &PortName, reply: &mut Reply) -> Result<(), Outage> {
     match manifest_at_given(cat, port)? {
         GivenManifest::Found(manifest) => tell_manifest(&manifest, reply),
         GivenManifest::NoVersion(ask) => {
@@ -36,7 +36,7 @@ fn listed<C: Catalogue>(
     port: &PortName,
     ask: &Ask,
     reply: &mut Reply,
-) -> Result<(), CatStop>
+) -> Result<(), Outage>
     requires { OnPage port.now (CanAskManifest (ask_view ask.now)) (C.state cat.old) }
 {
     match cat.manifest(port, ask)? {
@@ -51,7 +51,7 @@ fn version<C: Catalogue>(
     port: &PortName,
     ask: &Ask,
     reply: &mut Reply,
-) -> Result<(), CatStop>
+) -> Result<(), Outage>
     requires { OnPage port.now CanAskVersion (C.state cat.old) }
 {
     let version = cat.version(port, ask)?;
@@ -66,7 +66,7 @@ fn manifest<C: Catalogue>(
     port: &PortName,
     ask: &Ask,
     reply: &mut Reply,
-) -> Result<(), CatStop>
+) -> Result<(), Outage>
     requires { OnPage port.now CanAskVersion (C.state cat.old) }
 {
     match cat.version(port, ask)? {
@@ -85,7 +85,7 @@ fn version_of<C: Catalogue>(
     port: &PortName,
     ask: &Ask,
     reply: &mut Reply,
-) -> Result<(), CatStop> {
+) -> Result<(), Outage> {
     match cat.given(port)? {
         Ok(_) => version(cat, port, ask, reply),
         Err(_) => {
@@ -102,7 +102,7 @@ fn manifest_of<C: Catalogue>(
     port: &PortName,
     ask: &Ask,
     reply: &mut Reply,
-) -> Result<(), CatStop> {
+) -> Result<(), Outage> {
     match cat.given(port)? {
         Ok(_) => manifest(cat, port, ask, reply),
         Err(_) => {
@@ -118,7 +118,7 @@ fn with_ask<C: Catalogue>(
     port: &PortName,
     rest: &str,
     reply: &mut Reply,
-) -> Result<(), CatStop> {
+) -> Result<(), Outage> {
     match ask_of(rest, reply) {
         Some(ask) if question == "manifest" => manifest_of(cat, port, &ask, reply),
         Some(ask) => version_of(cat, port, &ask, reply),
@@ -132,7 +132,7 @@ fn of_port<C: Catalogue>(
     port: &PortName,
     rest: &str,
     reply: &mut Reply,
-) -> Result<(), CatStop> {
+) -> Result<(), Outage> {
     match question {
         "given" => given(cat, port, reply),
         "at" => at(cat, port, reply),
@@ -151,7 +151,7 @@ pub fn ask<C: Catalogue>(cat: &mut C, question: &str, row: &str, reply: &mut Rep
     };
     match of_port(cat, question, &port, rest, reply) {
         Ok(()) => {}
-        Err(CatStop::Failed) => reply.push("failed"),
-        Err(CatStop::Memory) => reply.lack(Memory::without_allocation()),
+        Err(Outage::Failed) => reply.push("failed"),
+        Err(Outage::Memory(memory)) => reply.lack(memory),
     }
 }

@@ -2,10 +2,10 @@
 
 use crate::projects::{port_of, version_of};
 use std::alloc::Global;
-use vk_base::{Memory, PortName};
+use vk_base::{Outage, PortName};
 use vk_model::lines::early_line;
 use vk_model::{Project, Setting};
-use vk_opening::{OpenStop, Opened, Start};
+use vk_opening::{Opened, Start};
 use vk_row_text::{Reply, cut};
 use vk_tree::MemTree;
 use vk_version::Version;
@@ -28,10 +28,10 @@ fn tell_ready(setting: &Setting, start: &Start, reply: &mut Reply) {
     reply.push_number(start.overlays.len() as u64);
 }
 
-fn stopped(stop: OpenStop, reply: &mut Reply) {
+fn stopped(stop: Outage, reply: &mut Reply) {
     match stop {
-        OpenStop::TreeFailed => reply.push("failed"),
-        OpenStop::Memory => reply.lack(Memory::without_allocation()),
+        Outage::Failed => reply.push("failed"),
+        Outage::Memory(memory) => reply.lack(memory),
     }
 }
 

@@ -6,7 +6,7 @@ use Rattle.vk_spec.specs.Paths.{Path}
 use Rattle.vk_spec.specs.Versions as versions
 use Rattle.vk_spec.specs.Pages.{Given, overlay, override, baseline}
 use Rattle.vk_catalogue.specs.Views.{given_said, given_answer, version_answer}
-use Rattle.vk_catalogue.specs.declared.stops.CatStop.{CatStop}
+use Rattle.vk_base.specs.declared.stops.Outage.{Outage}
 use Rattle.vk_model.specs.declared.wrongs.Wrong.{Wrong}
 use Rattle.vk_model.specs.declared.wrongs.Given as declared
 use Rattle.vk_version.specs.declared.versions.Version.{Version}
@@ -37,7 +37,7 @@ pairs_of_given port (Ok home) folders = pairs_of_by port (folder_at home) (given
 pairs_of_given port (Err wrong) folders = refl
 
 -- what is given makes an overlay's version known
-pub known_by_given : (port : List ℕ) (found : FoundHome) (result : Result (Result declared.Given Wrong) CatStop) (before after : List (PortVersion × Path))
+pub known_by_given : (port : List ℕ) (found : FoundHome) (result : Result (Result declared.Given Wrong) Outage) (before after : List (PortVersion × Path))
     → IfOk result (λ given. given_said given ≡ given_in found) → OnOk result (after ≡ folders_given port found before) → OnErr result (after ≡ before)
     → pairs_of after ≡ pairs_given port (given_answer result) (pairs_of before)
 known_by_given port found (Ok given) before after told ok err = ap pairs_of ok ∙ pairs_of_given port found before ∙ ap (λ g. pairs_said port g (pairs_of before)) (sym told)
@@ -48,7 +48,7 @@ pairs_of_listed port None folders = refl
 pairs_of_listed port (Some l) folders = pairs_with port l.0 l.1 folders
 
 -- a version that is answered is known
-pub known_by_version : (port : List ℕ) (listed : Option (versions.Version × Path)) (result : Result (Option Version) CatStop) (before after : List (PortVersion × Path))
+pub known_by_version : (port : List ℕ) (listed : Option (versions.Version × Path)) (result : Result (Option Version) Outage) (before after : List (PortVersion × Path))
     → IfOk result (λ v. v ≡ option_map (λ l. l.0) listed) → OnOk result (after ≡ folders_listed port listed before) → OnErr result (after ≡ before)
     → pairs_of after ≡ pairs_listed port (version_answer result) (pairs_of before)
 known_by_version port listed (Ok v) before after told ok err = ap pairs_of ok ∙ pairs_of_listed port listed before ∙ ap (λ x. pairs_found port x (pairs_of before)) (sym told)

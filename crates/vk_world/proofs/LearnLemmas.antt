@@ -5,10 +5,12 @@ use Rattle.vk_spec.specs.Files.{Files}
 use Rattle.vk_spec.specs.Reading.{Gives}
 use Rattle.vk_spec.specs.States.{Told}
 use Rattle.vk_spec.proofs.StateLemmas.{told_before}
-use Rattle.vk_catalogue.specs.Views.{or_wrong, wrong_view, cat_failed}
+use Rattle.vk_base.specs.Stops.{was_out}
+use Rattle.vk_catalogue.specs.Views.{or_wrong, wrong_view}
 use Rattle.vk_model.specs.declared.wrongs.Wrong.{Wrong}
-use Rattle.vk_catalogue.specs.declared.stops.CatStop.{CatStop}
-use Rattle.vk_catalogue.specs.declared.stops.CatStop.TheVariants as cat
+use Rattle.vk_base.specs.declared.stops.Outage.{Outage}
+use Rattle.vk_base.specs.declared.memory.Memory.{Memory}
+use Rattle.vk_base.specs.declared.stops.Outage.TheVariants as outage
 use Rattle.vk_spec.specs.Pages as plain
 use Rattle.vk_files.specs.Kept.{paths_of, IsOf, Held}
 use Rattle.vk_base.specs.Stops.{has_failed}
@@ -34,13 +36,13 @@ settled_means view (Err (stop.Fault wrong)) read gives = sym gives
 settled_means view (Err stop.Failed) read gives = tt
 settled_means view (Err (stop.Memory m)) read gives = tt
 
-settled_fails : {X F : Type 0} (answer : Result X (Stop F)) → cat_failed (settled answer) ≡ has_failed answer
+settled_fails : {X F : Type 0} (answer : Result X (Stop F)) → was_out (settled answer) ≡ has_failed answer
 settled_fails (Ok x) = refl
 settled_fails (Err (stop.Fault refusal)) = refl
 settled_fails (Err stop.Failed) = refl
 settled_fails (Err (stop.Memory m)) = refl
 
-pub learns_settled : {X Y : Type 0} {view : X → Y} {answer : Result X (Stop Wrong)} {meaning : Files → Result Y plain.Wrong} {Before After : Files → Type 0} {a b : Held} (result : Result (Result X Wrong) CatStop) → result ≡ settled answer
+pub learns_settled : {X Y : Type 0} {view : X → Y} {answer : Result X (Stop Wrong)} {meaning : Files → Result Y plain.Wrong} {Before After : Files → Type 0} {a b : Held} (result : Result (Result X Wrong) Outage) → result ≡ settled answer
     → ReadsNoting wrong_view view answer meaning Before After a b → Learns result (Means (or_wrong view) meaning) Before After a b
 learns_settled {view = view} {answer = answer} {meaning = meaning} {a = a} result is one = rw is (record {
   once = rw (settled_fails answer) one.once;
@@ -48,17 +50,17 @@ learns_settled {view = view} {answer = answer} {meaning = meaning} {a = a} resul
 })
 
 -- what needs no file
-pub learns_pure : {X : Type 0} (answer : Result X CatStop) (Says : Files → X → Type 0) (Before After : Files → Type 0) (h : Held) → cat_failed answer ≡ false
+pub learns_pure : {X : Type 0} (answer : Result X Outage) (Says : Files → X → Type 0) (Before After : Files → Type 0) (h : Held) → was_out answer ≡ false
     → ((f : Files) → Before f → After f × IfOk answer (Says f)) → Learns answer Says Before After h h
 learns_pure answer Says Before After h calm holds = record { once = rw calm (nothing_read h); content = of_each h.tree.told (λ t old. holds t.files) }
 
 -- out of memory
-pub learns_memory : {X : Type 0} (Says : Files → X → Type 0) (Known : Files → Type 0) (h : Held) → Learns (Err cat.Memory) Says Known Known h h
-learns_memory Says Known h = learns_pure (Err cat.Memory) Says Known Known h refl (λ f known. (known, tt))
+pub learns_memory : {X : Type 0} {m : Memory} (Says : Files → X → Type 0) (Known : Files → Type 0) (h : Held) → Learns (Err (outage.Memory m)) Says Known Known h h
+learns_memory {m = m} Says Known h = learns_pure (Err (outage.Memory m)) Says Known Known h refl (λ f known. (known, tt))
 
 -- the same said in other words, where as much was known before
-pub learns_so : {X Z : Type 0} {answer : Result X CatStop} {Says : Files → X → Type 0} {Before After : Files → Type 0} {a b : Held} (other : Result Z CatStop) (OtherSays : Files → Z → Type 0) (OtherBefore OtherAfter : Files → Type 0)
-    → cat_failed other ≡ cat_failed answer → ((f : Files) → OtherBefore f → Before f) → ((f : Files) → OtherBefore f → After f → IfOk answer (Says f) → OtherAfter f × IfOk other (OtherSays f))
+pub learns_so : {X Z : Type 0} {answer : Result X Outage} {Says : Files → X → Type 0} {Before After : Files → Type 0} {a b : Held} (other : Result Z Outage) (OtherSays : Files → Z → Type 0) (OtherBefore OtherAfter : Files → Type 0)
+    → was_out other ≡ was_out answer → ((f : Files) → OtherBefore f → Before f) → ((f : Files) → OtherBefore f → After f → IfOk answer (Says f) → OtherAfter f × IfOk other (OtherSays f))
     → Learns answer Says Before After a b → Learns other OtherSays OtherBefore OtherAfter a b
 learns_so {a = a} other OtherSays OtherBefore OtherAfter failed earlier later one = record {
   once = rw failed one.once;
@@ -66,7 +68,7 @@ learns_so {a = a} other OtherSays OtherBefore OtherAfter failed earlier later on
 }
 
 -- one after the other
-pub learns_then : {X Z : Type 0} {x : X} {answer : Result Z CatStop} {Says : Files → X → Type 0} {NextSays : Files → Z → Type 0} {Before Between After : Files → Type 0} {a b c : Held}
+pub learns_then : {X Z : Type 0} {x : X} {answer : Result Z Outage} {Says : Files → X → Type 0} {NextSays : Files → Z → Type 0} {Before Between After : Files → Type 0} {a b c : Held}
     → Learns (Ok x) Says Before Between a b → Learns answer NextSays (λ f. Between f × Says f x) After b c → Learns answer NextSays Before After a c
 learns_then {x = x} {answer = answer} {Says = Says} {NextSays = NextSays} {Before = Before} {Between = Between} {After = After} {a = a} {b = b} first then = record {
   once = once_then first.once then.once;
@@ -81,5 +83,5 @@ learns_then {x = x} {answer = answer} {Says = Says} {NextSays = NextSays} {Befor
     three (Some t) right one two = λ old before. two (right old) (one old before)
 
 -- learning stopped, so nothing more was done
-pub learns_stopped : {X Z : Type 0} {s : CatStop} {Says : Files → X → Type 0} {Before After : Files → Type 0} {a b : Held} (NextSays : Files → Z → Type 0) → Learns {X = X} (Err s) Says Before After a b → Learns {X = Z} (Err s) NextSays Before After a b
+pub learns_stopped : {X Z : Type 0} {s : Outage} {Says : Files → X → Type 0} {Before After : Files → Type 0} {a b : Held} (NextSays : Files → Z → Type 0) → Learns {X = X} (Err s) Says Before After a b → Learns {X = Z} (Err s) NextSays Before After a b
 learns_stopped {s = s} {Before = Before} {After = After} NextSays one = learns_so (Err s) NextSays Before After refl (λ f before. before) (λ f before after says. (after, tt)) one

@@ -7,8 +7,9 @@ use Rattle.vk_spec.specs.Files.{Files}
 use Rattle.vk_spec.specs.Versions as versions
 use Rattle.vk_spec.specs.Versions.{Ask}
 use Rattle.vk_spec.specs.Pages.{overlay, override, baseline, version_in, manifest_in}
-use Rattle.vk_catalogue.specs.Views.{given_said, cat_failed}
-use Rattle.vk_catalogue.specs.declared.stops.CatStop.{CatStop}
+use Rattle.vk_base.specs.Stops.{was_out}
+use Rattle.vk_catalogue.specs.Views.{given_said}
+use Rattle.vk_base.specs.declared.stops.Outage.{Outage}
 use Rattle.vk_model.specs.declared.wrongs.Wrong.{Wrong}
 use Rattle.vk_model.specs.declared.wrongs.Given as declared
 use Rattle.vk_model.specs.declared.manifests.Manifest.{Manifest}
@@ -54,7 +55,7 @@ given_right start files port (Ok (in_registry (overlay v) registry rows)) folder
 given_right start files port (Ok (in_registry (override ask) registry rows)) folders is right = right
 given_right start files port (Ok (in_registry (baseline ask) registry rows)) folders is right = right
 
-given_says : (start : Start) (files : Files) (port : List ℕ) (found : FoundHome) (answer : Result (Result declared.Given Wrong) CatStop) (before after : List (PortVersion × Path)) → found ≡ home_of start port files
+given_says : (start : Start) (files : Files) (port : List ℕ) (found : FoundHome) (answer : Result (Result declared.Given Wrong) Outage) (before after : List (PortVersion × Path)) → found ≡ home_of start port files
     → IfOk answer (λ given. given_said given ≡ given_in found) → OnOk answer (after ≡ folders_given port found before) → OnErr answer (after ≡ before)
     → AreRight (IsFolderOf start files) before → AreRight (IsFolderOf start files) after × IfOk answer (SaysGivenOf start port files)
 given_says start files port found (Ok given) before after is told ok err right = (
@@ -66,9 +67,9 @@ given_says start files port found (Err stop) before after is told ok err right =
 start_stays : (before after : Library) → Stays before after → start_of after ≡ start_of before
 start_stays before after s = ap layout_view s.layout
 
-pub given_learned : {lib mid : Library} (port : List ℕ) {answer : Result (Result declared.Given Wrong) CatStop} {a b : Held} (known : KnownVersions) (found : FoundHome)
+pub given_learned : {lib mid : Library} (port : List ℕ) {answer : Result (Result declared.Given Wrong) Outage} {a b : Held} (known : KnownVersions) (found : FoundHome)
     → Learns {X = Unit {0}} (Ok tt) SaysNothing (IsRight lib) (IsRight mid) a b → Stays lib mid → home_noted port mid.homes ≡ Some found
-    → IfOk answer (λ given. given_said given ≡ given_in found) → OnOk answer (folders_in known ≡ folders_given port found (folders_in mid.known)) → OnErr answer (folders_in known ≡ folders_in mid.known) → cat_failed answer ≡ false
+    → IfOk answer (λ given. given_said given ≡ given_in found) → OnOk answer (folders_in known ≡ folders_given port found (folders_in mid.known)) → OnErr answer (folders_in known ≡ folders_in mid.known) → was_out answer ≡ false
     → Learns answer (SaysGivenOf (start_of lib) port) (IsRight lib) (IsRight (record mid { known = known })) a b
 given_learned {lib = lib} {mid = mid} port {answer = answer} {a = a} {b = b} known found looked stays noted told ok err calm =
     subst (λ start. Learns answer (SaysGivenOf start port) (IsRight lib) (IsRight (record mid { known = known })) a b) (start_stays lib mid stays)
@@ -86,7 +87,7 @@ listed_right start files port found ask None folders is at right = right
 listed_right start files port (Err wrong) ask (Some l) folders is at right = (cc)
 listed_right start files port (Ok home) ask (Some l) folders is at right = right_with (IsFolderOf start files) port l.0 l.1 folders (ap (λ found. folder_found found l.0) (sym is) ∙ folder_of_listed home ask l at) right
 
-version_says : (start : Start) (files : Files) (port : List ℕ) (found : FoundHome) (ask : Ask) (answer : Result (Option Version) CatStop) (before after : List (PortVersion × Path)) → found ≡ home_of start port files
+version_says : (start : Start) (files : Files) (port : List ℕ) (found : FoundHome) (ask : Ask) (answer : Result (Option Version) Outage) (before after : List (PortVersion × Path)) → found ≡ home_of start port files
     → IfOk answer (λ v. v ≡ option_map (λ (l : versions.Version × Path). l.0) (listed_in found ask)) → OnOk answer (after ≡ folders_listed port (listed_in found ask) before) → OnErr answer (after ≡ before)
     → AreRight (IsFolderOf start files) before → AreRight (IsFolderOf start files) after × IfOk answer (SaysVersionOf start port ask files)
 version_says start files port found ask (Ok v) before after is told ok err right = (
@@ -95,9 +96,9 @@ version_says start files port found ask (Ok v) before after is told ok err right
 )
 version_says start files port found ask (Err stop) before after is told ok err right = (subst (AreRight (IsFolderOf start files)) (sym err) right, tt)
 
-pub version_learned : {lib mid : Library} (port : List ℕ) {answer : Result (Option Version) CatStop} {a b : Held} (ask : Ask) (known : KnownVersions) (found : FoundHome)
+pub version_learned : {lib mid : Library} (port : List ℕ) {answer : Result (Option Version) Outage} {a b : Held} (ask : Ask) (known : KnownVersions) (found : FoundHome)
     → Learns {X = Unit {0}} (Ok tt) SaysNothing (IsRight lib) (IsRight mid) a b → Stays lib mid → home_noted port mid.homes ≡ Some found
-    → IfOk answer (λ v. v ≡ option_map (λ (l : versions.Version × Path). l.0) (listed_in found ask)) → OnOk answer (folders_in known ≡ folders_listed port (listed_in found ask) (folders_in mid.known)) → OnErr answer (folders_in known ≡ folders_in mid.known) → cat_failed answer ≡ false
+    → IfOk answer (λ v. v ≡ option_map (λ (l : versions.Version × Path). l.0) (listed_in found ask)) → OnOk answer (folders_in known ≡ folders_listed port (listed_in found ask) (folders_in mid.known)) → OnErr answer (folders_in known ≡ folders_in mid.known) → was_out answer ≡ false
     → Learns answer (SaysVersionOf (start_of lib) port ask) (IsRight lib) (IsRight (record mid { known = known })) a b
 version_learned {lib = lib} {mid = mid} port {answer = answer} {a = a} {b = b} ask known found looked stays noted told ok err calm =
     subst (λ start. Learns answer (SaysVersionOf start port ask) (IsRight lib) (IsRight (record mid { known = known })) a b) (start_stays lib mid stays)
@@ -113,14 +114,14 @@ some_first : {X Y : Type 0} (o : Option (X × Y)) → IsSome (option_map (λ l. 
 some_first None some = (cc)
 some_first (Some l) some = (cc)
 
-manifest_says : {Z : Type 0} (start : Start) (files : Files) (port : List ℕ) (found : FoundHome) (ask : Ask) (answer : Result (Result (Rc Manifest Z) Wrong) CatStop) → found ≡ home_of start port files
+manifest_says : {Z : Type 0} (start : Start) (files : Files) (port : List ℕ) (found : FoundHome) (ask : Ask) (answer : Result (Result (Rc Manifest Z) Wrong) Outage) → found ≡ home_of start port files
     → IfOk answer (IsManifestFor port found ask files) → IfOk answer (SaysManifestOf start port ask files)
 manifest_says start files port found ask (Ok m) is says = λ some.
     says (some_first (listed_in found ask) (subst IsSome (version_on_page port files found ask) (subst (λ h. IsSome (version_in (page_at port files h) ask)) (sym is) some)))
     ∙ ap (λ h. manifest_in (page_at port files h) ask) is
 manifest_says start files port found ask (Err stop) is says = tt
 
-pub manifest_learned : {Z : Type 0} {lib mid : Library} (port : List ℕ) {answer : Result (Result (Rc Manifest Z) Wrong) CatStop} {a b c : Held} (ask : Ask) (files : FileCache) (manifests : Manifests) (found : FoundHome)
+pub manifest_learned : {Z : Type 0} {lib mid : Library} (port : List ℕ) {answer : Result (Result (Rc Manifest Z) Wrong) Outage} {a b c : Held} (ask : Ask) (files : FileCache) (manifests : Manifests) (found : FoundHome)
     → Learns {X = Unit {0}} (Ok tt) SaysNothing (IsRight lib) (IsRight mid) a b → Stays lib mid → home_noted port mid.homes ≡ Some found
     → Learns answer (IsManifestFor port found ask) (AreManifests mid.manifests) (AreManifests manifests) b c
     → Learns answer (SaysManifestOf (start_of lib) port ask) (IsRight lib) (IsRight (record mid { files = files; manifests = manifests })) a c

@@ -6,8 +6,9 @@ use Rattle.vk_spec.specs.Files.{Files}
 use Rattle.vk_spec.specs.Versions.{Version, Ask}
 use Rattle.vk_spec.specs.Pages.{Given}
 use Rattle.vk_registry.specs.Tables.{Row}
-use Rattle.vk_catalogue.specs.Views.{manifest_said, cat_failed}
-use Rattle.vk_catalogue.specs.declared.stops.CatStop.{CatStop}
+use Rattle.vk_base.specs.Stops.{was_out}
+use Rattle.vk_catalogue.specs.Views.{manifest_said}
+use Rattle.vk_base.specs.declared.stops.Outage.{Outage}
 use Rattle.vk_model.specs.declared.wrongs.Wrong.{Wrong}
 use Rattle.vk_model.specs.Views.{manifest_view}
 use Rattle.vk_model.specs.declared.manifests.Manifest.{Manifest}
@@ -32,25 +33,25 @@ row_agreed : (port : List ℕ) (registry : Path) (row : Row) (path : Path) (file
 unfolding row_manifest
 row_agreed port registry row path files is = rw is refl
 
-row_means : {Z : Type 0} (port : List ℕ) (registry : Path) (row : Row) (path : Path) (files : Files) (found : FoundManifest) (answer : Result (Result (Rc Manifest Z) Wrong) CatStop) → path ≡ manifest_path (row_folder registry row) → found ≡ manifest_file path files
+row_means : {Z : Type 0} (port : List ℕ) (registry : Path) (row : Row) (path : Path) (files : Files) (found : FoundManifest) (answer : Result (Result (Rc Manifest Z) Wrong) Outage) → path ≡ manifest_path (row_folder registry row) → found ≡ manifest_file path files
     → IfOk answer (λ m. manifest_said m ≡ agreed path port row.version found) → IfOk answer (Means manifest_said (row_manifest port registry row) files)
 row_means port registry row path files found (Ok m) is same told = told ∙ ap (agreed path port row.version) same ∙ row_agreed port registry row path files is
 row_means port registry row path files found (Err stop) is same told = tt
 
 -- a row's manifest is what was found at its path, where that is the port's at the version
-pub row_learned : {Z : Type 0} (port : List ℕ) (registry : Path) (row : Row) {answer : Result (Result (Rc Manifest Z) Wrong) CatStop} {Before : Files → Type 0} {a b : Held} (manifests : Manifests) (path : Path) (found : FoundManifest) → path ≡ manifest_path (row_folder registry row) → manifest_noted path manifests ≡ Some found
-    → Learns {X = Unit {0}} (Ok tt) SaysNothing Before (AreManifests manifests) a b → IfOk answer (λ m. manifest_said m ≡ agreed path port row.version found) → cat_failed answer ≡ false
+pub row_learned : {Z : Type 0} (port : List ℕ) (registry : Path) (row : Row) {answer : Result (Result (Rc Manifest Z) Wrong) Outage} {Before : Files → Type 0} {a b : Held} (manifests : Manifests) (path : Path) (found : FoundManifest) → path ≡ manifest_path (row_folder registry row) → manifest_noted path manifests ≡ Some found
+    → Learns {X = Unit {0}} (Ok tt) SaysNothing Before (AreManifests manifests) a b → IfOk answer (λ m. manifest_said m ≡ agreed path port row.version found) → was_out answer ≡ false
     → Learns answer (Means manifest_said (row_manifest port registry row)) Before (AreManifests manifests) a b
 row_learned port registry row {answer = answer} {b = b} manifests path found is noted looked told calm =
     learns_then looked (learns_pure answer (Means manifest_said (row_manifest port registry row)) (λ f. AreManifests manifests f × SaysNothing {X = Unit {0}} f tt) (AreManifests manifests) b calm
     (λ f both. (both.0, row_means port registry row path f found answer is (right_found (IsManifestAt f) same_path path_is (manifests_in manifests) path found both.0 noted) told)))
 
-table_means : {Z : Type 0} (port : List ℕ) (given : Given) (registry : Path) (rows : List Row) (ask : Ask) (files : Files) (answer : Result (Result (Rc Manifest Z) Wrong) CatStop) → IfOk answer (IsRowManifest port registry rows ask files) → IfOk answer (IsManifestFor port (Ok (in_registry given registry rows)) ask files)
+table_means : {Z : Type 0} (port : List ℕ) (given : Given) (registry : Path) (rows : List Row) (ask : Ask) (files : Files) (answer : Result (Result (Rc Manifest Z) Wrong) Outage) → IfOk answer (IsRowManifest port registry rows ask files) → IfOk answer (IsManifestFor port (Ok (in_registry given registry rows)) ask files)
 table_means port given registry rows ask files (Ok m) says = λ some. says (some_listed registry rows ask some) ∙ sym (manifest_on_table port registry files rows ask)
 table_means port given registry rows ask files (Err stop) says = tt
 
 -- the manifest of a row of the table is that of the page
-pub table_learned : {Z : Type 0} (port : List ℕ) (registry : Path) (rows : List Row) (ask : Ask) {answer : Result (Result (Rc Manifest Z) Wrong) CatStop} {Before After : Files → Type 0} {a b : Held} (given : Given) → Learns answer (IsRowManifest port registry rows ask) Before After a b
+pub table_learned : {Z : Type 0} (port : List ℕ) (registry : Path) (rows : List Row) (ask : Ask) {answer : Result (Result (Rc Manifest Z) Wrong) Outage} {Before After : Files → Type 0} {a b : Held} (given : Given) → Learns answer (IsRowManifest port registry rows ask) Before After a b
     → Learns answer (IsManifestFor port (Ok (in_registry given registry rows)) ask) Before After a b
 table_learned port registry rows ask {answer = answer} {Before = Before} {After = After} given one =
     learns_so answer (IsManifestFor port (Ok (in_registry given registry rows)) ask) Before After refl (λ f before. before) (λ f before after says. (after, table_means port given registry rows ask f answer says)) one

@@ -12,8 +12,10 @@ use Rattle.vk_spec.specs.States.{Told, State, with_asked}
 use Rattle.vk_spec.specs.Pages.{Page}
 use Rattle.vk_spec.specs.Catalogues.{ArePages, OnPage, OnlyAsked, Asks}
 use Rattle.vk_spec.specs.Conditions.{Condition}
-use Rattle.vk_catalogue.specs.Views.{cat_failed, seen_by}
-use Rattle.vk_catalogue.specs.declared.stops.CatStop.{CatStop}
+use Rattle.vk_base.specs.Stops.{was_out}
+use Rattle.vk_catalogue.specs.Views.{seen_by}
+use Rattle.vk_base.specs.declared.stops.Outage.{Outage}
+use Rattle.vk_base.specs.declared.stops.Outage.TheVariants as outage
 use Rattle.vk_files.specs.Kept.{Kept, paths_of, IsOf, IsSeen, ReadOnce}
 use Rattle.vk_files.specs.Views.{kept_of, held}
 use Rattle.vk_files.proofs.NoteLemmas.{right_more}
@@ -61,7 +63,7 @@ start_stays before after s = ap layout_view s.layout
 
 -- ---- it stays sound
 
-sound_on : {X : Type 0} {answer : Result X CatStop} {Says : Files → X → Type 0} (before after : Library) {s s' : State} → before.opened ≤ length (paths_in (learned_view before)) → Stays before after
+sound_on : {X : Type 0} {answer : Result X Outage} {Says : Files → X → Type 0} (before after : Library) {s s' : State} → before.opened ≤ length (paths_in (learned_view before)) → Stays before after
     → (l : Learns answer Says (IsRight before) (IsRight after) (held before.files s) (held after.files s')) → (t : Told)
     → IsOf t.files l.once.more → (IsOf t.files (kept_of before.files) → IsRight before t.files → IsRight after t.files × IfOk answer (Says t.files))
     → IsSoundOn before t → IsSoundOn after (record { files = t.files; log = t.log ++ paths_of l.once.more })
@@ -72,7 +74,7 @@ sound_on before after within stays l t more content sound = record {
   log = ap (λ log. log ++ paths_of l.once.more) sound.log ∙ append_assoc sound.before (asked_since (learned_view before)) (paths_of l.once.more) ∙ ap (λ asked. sound.before ++ asked) (sym (since_more before after within stays l.once));
 }
 
-pub still_sound : {X : Type 0} {answer : Result X CatStop} {Says : Files → X → Type 0} (before after : Library) {s s' : State} → IsSound s before → Stays before after
+pub still_sound : {X : Type 0} {answer : Result X Outage} {Says : Files → X → Type 0} (before after : Library) {s s' : State} → IsSound s before → Stays before after
     → Learns answer Says (IsRight before) (IsRight after) (held before.files s) (held after.files s') → IsSound s' after
 still_sound {answer = answer} {Says = Says} before after {s = s} {s' = s'} sound stays l = record {
   opened = within_more before after sound.opened stays l.once;
@@ -110,12 +112,13 @@ told_stays before after (Some t) p more e one two since =
     before_is (t.log ++ more) one.before now log ∙ sym (before_is t.log one.before was one.log) in
     ap (option_map (without_asked now)) e ∙ (λ i. Some (record { files = t.files; log = same i }))
 
-same_failed : {X A : Type 0} (view : X → A) (answer : Result X CatStop) → is_failed (seen_by view answer) ≡ cat_failed answer
+same_failed : {X A : Type 0} (view : X → A) (answer : Result X Outage) → is_failed (seen_by view answer) ≡ was_out answer
 same_failed view (Ok x) = refl
-same_failed view (Err e) = refl
+same_failed view (Err outage.Failed) = refl
+same_failed view (Err (outage.Memory m)) = refl
 
-only_asked : {X : Type 0} {answer : Result X CatStop} {Says : Files → X → Type 0} (before after : Library) {s s' : State} → IsSound s before → Stays before after
-    → Learns answer Says (IsRight before) (IsRight after) (held before.files s) (held after.files s') → OnlyAsked (cat_failed answer) (world_state s (learned_view before)) (world_state s' (learned_view after))
+only_asked : {X : Type 0} {answer : Result X Outage} {Says : Files → X → Type 0} (before after : Library) {s s' : State} → IsSound s before → Stays before after
+    → Learns answer Says (IsRight before) (IsRight after) (held before.files s) (held after.files s') → OnlyAsked (was_out answer) (world_state s (learned_view before)) (world_state s' (learned_view after))
 only_asked before after {s = s} {s' = s'} sound stays l =
     let looks = l.once.looks in
     let since = since_more before after sound.opened stays l.once in
@@ -137,7 +140,7 @@ only_asked before after {s = s} {s' = s'} sound stays l =
 
 -- ---- its answers are what the pages say
 
-pub asks_learned : {X A : Type 0} {answer : Result X CatStop} {Says : Files → X → Type 0} (before after : Library) {s s' : State} (view : X → A) (port : List ℕ) (PageSays : Page Condition → A → Type 0)
+pub asks_learned : {X A : Type 0} {answer : Result X Outage} {Says : Files → X → Type 0} (before after : Library) {s s' : State} (view : X → A) (port : List ℕ) (PageSays : Page Condition → A → Type 0)
     → ((start : Start) (files : Files) → ArePages (page_of start files)) → IsSound s before → Stays before after
     → ((t : Told) → s.told ≡ Some t → (x : X) → Says t.files x → PageSays (page_of (start_of before) t.files port) (view x))
     → Learns answer Says (IsRight before) (IsRight after) (held before.files s) (held after.files s') → Asks port PageSays (seen_by view answer) (world_state s (learned_view before)) (world_state s' (learned_view after))
@@ -151,7 +154,7 @@ asks_learned {X} {answer = answer} {Says = Says} before after {s = s} {s' = s'} 
     kept None = tt
     kept (Some t) = pages (start_of before) t.files
 
-    told : (r : Result X CatStop) (o : Option Told) → s.told ≡ o → IfSome o (λ t. IsOf t.files (kept_of before.files) → IsRight before t.files → IsRight after t.files × IfOk r (Says t.files)) → IfSome o (IsSoundOn before)
+    told : (r : Result X Outage) (o : Option Told) → s.told ≡ o → IfSome o (λ t. IsOf t.files (kept_of before.files) → IsRight before t.files → IsRight after t.files × IfOk r (Says t.files)) → IfSome o (IsSoundOn before)
         → IfOk (seen_by view r) (λ x. IfSome (option_map (λ t. page_of (start_of before) t.files) o) (λ p. PageSays (p port) x))
     told (Err e) o is content old = tt
     told (Ok x) None is content old = tt

@@ -4,13 +4,13 @@ use Rattle.vk_spec.specs.Files.{Files}
 use Rattle.vk_files.specs.Kept.{IsOf, Held, ReadOnce}
 use Rattle.vk_base.specs.declared.stops.Stop.{Stop}
 use Rattle.vk_base.specs.declared.stops.Stop.TheVariants as stop
-use Rattle.vk_catalogue.specs.declared.stops.CatStop.{CatStop}
-use Rattle.vk_catalogue.specs.declared.stops.CatStop.TheVariants as cat
-use Rattle.vk_catalogue.specs.Views.{cat_failed}
+use Rattle.vk_base.specs.declared.stops.Outage.{Outage}
+use Rattle.vk_base.specs.declared.stops.Outage.TheVariants as outage
+use Rattle.vk_base.specs.Stops.{was_out}
 
 -- nothing but reading was done, and what was found is kept; and where the files are told and the notes were right of them, the notes are right after it, and what is answered holds
-pub record Learns {X : Type 0} (answer : Result X CatStop) (Says : Files → X → Type 0) (Before After : Files → Type 0) (before after : Held) : Type 0 where
-  pub once : ReadOnce (cat_failed answer) before after
+pub record Learns {X : Type 0} (answer : Result X Outage) (Says : Files → X → Type 0) (Before After : Files → Type 0) (before after : Held) : Type 0 where
+  pub once : ReadOnce (was_out answer) before after
   pub content : IfSome before.tree.told (λ t. IsOf t.files before.kept → Before t.files → After t.files × IfOk answer (Says t.files))
 
 -- nothing is said of an answer
@@ -22,11 +22,11 @@ abbrev pub Means : {X Y : Type 0} → (X → Y) → (Files → Y) → Files → 
 Means view meaning files x = view x ≡ meaning files
 
 -- a refusal is an answer too; the tree's failure and out of memory are none
-abbrev pub unanswered : {X F : Type 0} → Stop F → Result (Result X F) CatStop
+abbrev pub unanswered : {X F : Type 0} → Stop F → Result (Result X F) Outage
 unanswered (stop.Fault refusal) = Ok (Err refusal)
-unanswered stop.Failed = Err cat.Failed
-unanswered (stop.Memory m) = Err cat.Memory
+unanswered stop.Failed = Err outage.Failed
+unanswered (stop.Memory m) = Err (outage.Memory m)
 
-abbrev pub settled : {X F : Type 0} → Result X (Stop F) → Result (Result X F) CatStop
+abbrev pub settled : {X F : Type 0} → Result X (Stop F) → Result (Result X F) Outage
 settled (Ok x) = Ok (Ok x)
 settled (Err s) = unanswered s

@@ -1,7 +1,8 @@
 //! Answers from what was found, which make versions known.
 ghost use Rattle.std.specs.Prelude.{◌≡◌, OnOk, OnErr, IfOk, false, option_map};
 ghost use Rattle.vk_version.specs.AskViews.{ask_view};
-ghost use Rattle.vk_catalogue.specs.Views.{cat_failed, given_said, given_view};
+ghost use Rattle.vk_base.specs.Stops.{was_out};
+ghost use Rattle.vk_catalogue.specs.Views.{given_said, given_view};
 ghost use Rattle.vk_pages.specs.HomeViews.{home_view};
 ghost use Rattle.vk_world.specs.KnownVersions.{folders_in};
 ghost use Rattle.vk_world.specs.HomeNotes.{found_home};
@@ -11,8 +12,8 @@ ghost use Rattle.vk_world.specs.Answered.{folders_by, folders_given, folders_lis
 use crate::answered::KnownVersions;
 use crate::listed::{Listed, folder_at, given_at, listed_at};
 use std::alloc::Global;
-use vk_base::{Memory, PortName, TreePath};
-use vk_catalogue::{CatStop, Given, Wrong};
+use vk_base::{Memory, Outage, PortName, TreePath};
+use vk_catalogue::{Given, Wrong};
 use vk_pages::Home;
 use vk_version::{Ask, Version};
 
@@ -35,17 +36,13 @@ fn note_given(
     }
 }
 
-fn answer_given_at(
-    known: &mut KnownVersions,
-    port: &PortName,
-    home: &Home,
-) -> Result<Given, CatStop>
+fn answer_given_at(known: &mut KnownVersions, port: &PortName, home: &Home) -> Result<Given, Outage>
     ensures told { IfOk result (λ given. given_view given ≡ given_at (home_view home.now)) }
     ensures ok { OnOk result
         (folders_in known.new ≡ folders_by port.now (folder_at (home_view home.now))
         (given_at (home_view home.now)) (folders_in known.old)) }
     ensures err { OnErr result (folders_in known.new ≡ folders_in known.old) }
-    ensures calm { cat_failed result ≡ false }
+    ensures calm { was_out result ≡ false }
 {
     let given = given_at(home)?;
     note_given(known, port, folder_at(home), &given)?;
@@ -57,13 +54,13 @@ pub fn answer_given(
     known: &mut KnownVersions,
     port: &PortName,
     found: &Result<Home, Wrong>,
-) -> Result<Result<Given, Wrong>, CatStop>
+) -> Result<Result<Given, Wrong>, Outage>
     ensures told { IfOk result (λ given. given_said given ≡ given_in (found_home found.now)) }
     ensures ok { OnOk result
         (folders_in known.new ≡ folders_given port.now (found_home found.now)
         (folders_in known.old)) }
     ensures err { OnErr result (folders_in known.new ≡ folders_in known.old) }
-    ensures calm { cat_failed result ≡ false }
+    ensures calm { was_out result ≡ false }
 {
     match found {
         Ok(home) => Ok(Ok(answer_given_at(known, port, home)?)),
@@ -77,14 +74,14 @@ fn answer_version_at(
     port: &PortName,
     home: &Home,
     ask: &Ask,
-) -> Result<Option<Version>, CatStop>
+) -> Result<Option<Version>, Outage>
     ensures told { IfOk result
         (λ v. v ≡ option_map (λ l. l.0) (listed_at (home_view home.now) (ask_view ask.now))) }
     ensures ok { OnOk result
         (folders_in known.new ≡ folders_listed port.now
         (listed_at (home_view home.now) (ask_view ask.now)) (folders_in known.old)) }
     ensures err { OnErr result (folders_in known.new ≡ folders_in known.old) }
-    ensures calm { cat_failed result ≡ false }
+    ensures calm { was_out result ≡ false }
 {
     let Some(listed) = listed_at(alloc, home, ask)? else {
         return Ok(None);
@@ -101,14 +98,14 @@ pub fn answer_version(
     port: &PortName,
     found: &Result<Home, Wrong>,
     ask: &Ask,
-) -> Result<Option<Version>, CatStop>
+) -> Result<Option<Version>, Outage>
     ensures told { IfOk result
         (λ v. v ≡ option_map (λ l. l.0) (listed_in (found_home found.now) (ask_view ask.now))) }
     ensures ok { OnOk result
         (folders_in known.new ≡ folders_listed port.now
         (listed_in (found_home found.now) (ask_view ask.now)) (folders_in known.old)) }
     ensures err { OnErr result (folders_in known.new ≡ folders_in known.old) }
-    ensures calm { cat_failed result ≡ false }
+    ensures calm { was_out result ≡ false }
 {
     match found {
         Ok(home) => answer_version_at(alloc, known, port, home, ask),

@@ -17,8 +17,8 @@ use crate::keeping::keep;
 use crate::settling::settle;
 use indexmap::IndexMap;
 use std::alloc::Global;
-use vk_base::PortName;
-use vk_catalogue::{CatStop, Wrong};
+use vk_base::{Outage, PortName};
+use vk_catalogue::Wrong;
 use vk_files::FileCache;
 use vk_pages::{Baselines, Home, Layout, home_of};
 use vk_tree::Tree;
@@ -39,7 +39,7 @@ fn find_home<T: Tree>(
     baselines: &mut Baselines,
     tree: &mut T,
     port: &PortName,
-) -> Result<Result<Home, Wrong>, CatStop>
+) -> Result<Result<Home, Wrong>, Outage>
     ensures { Learns result (Means found_home (home_of (layout_view layout.now) port.now))
         (AreBaselines (layout_view layout.now) (notes_of baselines.old))
         (AreBaselines (layout_view layout.now) (notes_of baselines.new))
@@ -78,7 +78,7 @@ impl Homes {
         files: &mut FileCache,
         tree: &mut T,
         port: &PortName,
-    ) -> Result<(), CatStop>
+    ) -> Result<(), Outage>
         requires { home_noted port.now self.old ≡ None }
         ensures learns { Learns result SaysNothing (AreHomes (layout_view layout.now) self.old)
             (AreHomes (layout_view layout.now) self.new) (held files.old (T.state tree.old))
@@ -100,7 +100,7 @@ impl Homes {
         files: &mut FileCache,
         tree: &mut T,
         port: &PortName,
-    ) -> Result<(), CatStop>
+    ) -> Result<(), Outage>
         ensures learns { Learns result SaysNothing (AreHomes (layout_view layout.now) self.old)
             (AreHomes (layout_view layout.now) self.new) (held files.old (T.state tree.old))
             (held files.new (T.state tree.new)) }

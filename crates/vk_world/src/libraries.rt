@@ -19,8 +19,8 @@ use crate::manifests::Manifests;
 use crate::row_manifests::manifest_for;
 use std::alloc::Global;
 use std::rc::Rc;
-use vk_base::PortName;
-use vk_catalogue::{CatStop, Given, Wrong};
+use vk_base::{Outage, PortName};
+use vk_catalogue::{Given, Wrong};
 use vk_files::FileCache;
 use vk_model::Manifest;
 use vk_opening::Start;
@@ -73,7 +73,7 @@ impl Library {
     }
 
     // Looks for the home of a port.
-    fn look<T: Tree>(&mut self, alloc: Global, tree: &mut T, port: &PortName) -> Result<(), CatStop>
+    fn look<T: Tree>(&mut self, alloc: Global, tree: &mut T, port: &PortName) -> Result<(), Outage>
         ensures learns { Learns result SaysNothing (IsRight self.old) (IsRight self.new)
             (held self.old.files (T.state tree.old)) (held self.new.files (T.state tree.new)) }
         ensures there { OnOk result (IsSome (home_noted port.now self.new.homes)) }
@@ -91,7 +91,7 @@ impl Library {
         alloc: Global,
         tree: &mut T,
         port: &PortName,
-    ) -> Result<Result<Given, Wrong>, CatStop>
+    ) -> Result<Result<Given, Wrong>, Outage>
         ensures learns { Learns result (SaysGivenOf (start_of self.old) port.now) (IsRight self.old)
             (IsRight self.new) (held self.old.files (T.state tree.old))
             (held self.new.files (T.state tree.new)) }
@@ -111,7 +111,7 @@ impl Library {
         tree: &mut T,
         port: &PortName,
         ask: &Ask,
-    ) -> Result<Option<Version>, CatStop>
+    ) -> Result<Option<Version>, Outage>
         ensures learns { Learns result
             (SaysVersionOf (start_of self.old) port.now (ask_view ask.now)) (IsRight self.old)
             (IsRight self.new) (held self.old.files (T.state tree.old))
@@ -133,7 +133,7 @@ impl Library {
         tree: &mut T,
         port: &PortName,
         ask: &Ask,
-    ) -> Result<Result<Rc<Manifest>, Wrong>, CatStop>
+    ) -> Result<Result<Rc<Manifest>, Wrong>, Outage>
         ensures learns { Learns result
             (SaysManifestOf (start_of self.old) port.now (ask_view ask.now)) (IsRight self.old)
             (IsRight self.new) (held self.old.files (T.state tree.old))

@@ -4,7 +4,8 @@ ghost use Rattle.vk_registry.specs.Tables.{IsTable};
 ghost use Rattle.vk_registry.specs.TableViews.{row_view};
 ghost use Rattle.vk_model.specs.Views.{manifest_view};
 ghost use Rattle.vk_version.specs.AskViews.{ask_view};
-ghost use Rattle.vk_catalogue.specs.Views.{cat_failed, given_view, manifest_said};
+ghost use Rattle.vk_base.specs.Stops.{was_out};
+ghost use Rattle.vk_catalogue.specs.Views.{given_view, manifest_said};
 ghost use Rattle.vk_pages.specs.HomeViews.{home_view};
 ghost use Rattle.vk_world.specs.Listed.{agreed, folder_at, given_at, listed_at, own_listed};
 ghost use Rattle.vk_world.specs.Listed.{row_listed, row_meant, table_listed};
@@ -13,8 +14,8 @@ ghost use Rattle.vk_world.specs.ListedViews.{listed_view};
 use crate::settling::settle;
 use std::alloc::{AllocError, Global};
 use std::rc::Rc;
-use vk_base::{PortName, TreePath};
-use vk_catalogue::{CatStop, Given, Wrong};
+use vk_base::{Outage, PortName, TreePath};
+use vk_catalogue::{Given, Wrong};
 use vk_model::Manifest;
 use vk_pages::{Home, agree, row_folder};
 use vk_registry::{Row, Table, find};
@@ -68,9 +69,9 @@ pub fn row_meant<'a>(table: &'a Table, ask: &Ask) -> Option<&'a Row>
 }
 
 // A row's version, and its folder.
-fn listed_row(alloc: Global, registry: &TreePath, row: &Row) -> Result<Listed, CatStop>
+fn listed_row(alloc: Global, registry: &TreePath, row: &Row) -> Result<Listed, Outage>
     ensures told { IfOk result (λ l. listed_view l ≡ row_listed registry.now (row_view row.now)) }
-    ensures calm { cat_failed result ≡ false }
+    ensures calm { was_out result ≡ false }
 {
     Ok(Listed {
         version: row.version.clone()?,
@@ -79,10 +80,10 @@ fn listed_row(alloc: Global, registry: &TreePath, row: &Row) -> Result<Listed, C
 }
 
 // An overlay's version, if it is what an ask means, and its folder.
-fn own_version(folder: &TreePath, version: &Version, ask: &Ask) -> Result<Option<Listed>, CatStop>
+fn own_version(folder: &TreePath, version: &Version, ask: &Ask) -> Result<Option<Listed>, Outage>
     ensures told { IfOk result
         (λ o. option_map listed_view o ≡ own_listed folder.now version.now (ask_view ask.now)) }
-    ensures calm { cat_failed result ≡ false }
+    ensures calm { was_out result ≡ false }
 {
     if version.ask() != ask {
         return Ok(None);
@@ -99,10 +100,10 @@ fn table_version(
     registry: &TreePath,
     table: &Table,
     ask: &Ask,
-) -> Result<Option<Listed>, CatStop>
+) -> Result<Option<Listed>, Outage>
     ensures told { IfOk result
         (λ o. option_map listed_view o ≡ table_listed registry.now table.now (ask_view ask.now)) }
-    ensures calm { cat_failed result ≡ false }
+    ensures calm { was_out result ≡ false }
 {
     match row_meant(table, ask) {
         Some(row) => Ok(Some(listed_row(alloc, registry, row)?)),
@@ -111,10 +112,10 @@ fn table_version(
 }
 
 /// The version that an ask means at a home, and its folder; `None` exactly where there is none.
-pub fn listed_at(alloc: Global, home: &Home, ask: &Ask) -> Result<Option<Listed>, CatStop>
+pub fn listed_at(alloc: Global, home: &Home, ask: &Ask) -> Result<Option<Listed>, Outage>
     ensures told { IfOk result
         (λ o. option_map listed_view o ≡ listed_at (home_view home.now) (ask_view ask.now)) }
-    ensures calm { cat_failed result ≡ false }
+    ensures calm { was_out result ≡ false }
 {
     match home {
         Home::Overlay {
@@ -133,11 +134,11 @@ fn agreed_manifest(
     port: &PortName,
     version: &Version,
     manifest: &Rc<Manifest>,
-) -> Result<Result<Rc<Manifest>, Wrong>, CatStop>
+) -> Result<Result<Rc<Manifest>, Wrong>, Outage>
     ensures told { IfOk result
         (λ m. manifest_said m ≡ agreed path.now port.now version.now
         (Ok (manifest_view manifest.now.value))) }
-    ensures calm { cat_failed result ≡ false }
+    ensures calm { was_out result ≡ false }
 {
     match settle(agree(alloc, path, port, version, manifest))? {
         Ok(()) => Ok(Ok(manifest.clone()?)),
@@ -152,10 +153,10 @@ pub fn agreed(
     port: &PortName,
     version: &Version,
     found: &Result<Rc<Manifest>, Wrong>,
-) -> Result<Result<Rc<Manifest>, Wrong>, CatStop>
+) -> Result<Result<Rc<Manifest>, Wrong>, Outage>
     ensures told { IfOk result
         (λ m. manifest_said m ≡ agreed path.now port.now version.now (manifest_said found.now)) }
-    ensures calm { cat_failed result ≡ false }
+    ensures calm { was_out result ≡ false }
 {
     match found {
         Ok(manifest) => agreed_manifest(alloc, path, port, version, manifest),

@@ -15,8 +15,8 @@ use crate::settling::settle;
 use indexmap::IndexMap;
 use std::alloc::Global;
 use std::rc::Rc;
-use vk_base::{Stop, TreePath};
-use vk_catalogue::{CatStop, Wrong};
+use vk_base::{Outage, Stop, TreePath};
+use vk_catalogue::Wrong;
 use vk_files::FileCache;
 use vk_model::Manifest;
 use vk_opening::PortFile;
@@ -71,7 +71,7 @@ impl Manifests {
         files: &mut FileCache,
         tree: &mut T,
         path: &TreePath,
-    ) -> Result<(), CatStop>
+    ) -> Result<(), Outage>
         requires { manifest_noted path.now self.old ≡ None }
         ensures learns { Learns result SaysNothing (AreManifests self.old) (AreManifests self.new)
             (held files.old (T.state tree.old)) (held files.new (T.state tree.new)) }
@@ -91,7 +91,7 @@ impl Manifests {
         files: &mut FileCache,
         tree: &mut T,
         path: &TreePath,
-    ) -> Result<(), CatStop>
+    ) -> Result<(), Outage>
         ensures learns { Learns result SaysNothing (AreManifests self.old) (AreManifests self.new)
             (held files.old (T.state tree.old)) (held files.new (T.state tree.new)) }
         ensures there { OnOk result (IsSome (manifest_noted path.now self.new)) }

@@ -2,7 +2,8 @@
 ghost use Rattle.std.specs.Prelude.{◌≡◌, Ok, Err, IfOk};
 ghost use Rattle.vk_registry.specs.TableViews.{row_view};
 ghost use Rattle.vk_version.specs.AskViews.{ask_view};
-ghost use Rattle.vk_catalogue.specs.declared.stops.CatStop.TheVariants as cat;
+ghost use Rattle.vk_base.specs.declared.stops.Outage.TheVariants as outage;
+ghost use Rattle.vk_base.specs.Stops.{out_of_memory};
 ghost use Rattle.vk_catalogue.specs.Views.{manifest_said};
 ghost use Rattle.vk_files.specs.Views.{held};
 ghost use Rattle.vk_opening.specs.Projects.{manifest_path};
@@ -17,8 +18,8 @@ use crate::listed::{agreed, row_meant};
 use crate::manifests::Manifests;
 use std::alloc::Global;
 use std::rc::Rc;
-use vk_base::{Memory, PortName, TreePath};
-use vk_catalogue::{CatStop, Wrong};
+use vk_base::{Memory, Outage, PortName, TreePath};
+use vk_catalogue::Wrong;
 use vk_files::FileCache;
 use vk_model::Manifest;
 use vk_opening::manifest_path;
@@ -44,7 +45,7 @@ fn row_manifest<T: Tree>(
     port: &PortName,
     registry: &TreePath,
     row: &Row,
-) -> Result<Result<Rc<Manifest>, Wrong>, CatStop>
+) -> Result<Result<Rc<Manifest>, Wrong>, Outage>
     ensures { Learns result
         (Means manifest_said (row_manifest port.now registry.now (row_view row.now)))
         (AreManifests manifests.old) (AreManifests manifests.new)
@@ -57,10 +58,10 @@ fn row_manifest<T: Tree>(
 }
 
 // The answer where there is no manifest to answer, which no caller asks for.
-fn no_answer<X>() -> Result<X, CatStop>
-    ensures { result ≡ Err cat.Memory }
+fn no_answer<X>() -> Result<X, Outage>
+    ensures { result ≡ Err (outage.Memory out_of_memory) }
 {
-    Err(CatStop::from(Memory::without_allocation()))
+    Err(Outage::from(Memory::without_allocation()))
 }
 
 // The manifest of the row that an ask means. Where no row is meant, nothing is promised.
@@ -73,7 +74,7 @@ fn table_manifest<T: Tree>(
     registry: &TreePath,
     table: &Table,
     ask: &Ask,
-) -> Result<Result<Rc<Manifest>, Wrong>, CatStop>
+) -> Result<Result<Rc<Manifest>, Wrong>, Outage>
     ensures { Learns result (IsRowManifest port.now registry.now table.now (ask_view ask.now))
         (AreManifests manifests.old) (AreManifests manifests.new)
         (held files.old (T.state tree.old)) (held files.new (T.state tree.new)) }
@@ -93,7 +94,7 @@ fn home_manifest<T: Tree>(
     port: &PortName,
     home: &Home,
     ask: &Ask,
-) -> Result<Result<Rc<Manifest>, Wrong>, CatStop>
+) -> Result<Result<Rc<Manifest>, Wrong>, Outage>
     ensures { Learns result (IsManifestFor port.now (Ok (home_view home.now)) (ask_view ask.now))
         (AreManifests manifests.old) (AreManifests manifests.new)
         (held files.old (T.state tree.old)) (held files.new (T.state tree.new)) }
@@ -116,7 +117,7 @@ pub fn manifest_for<T: Tree>(
     port: &PortName,
     found: &Result<Home, Wrong>,
     ask: &Ask,
-) -> Result<Result<Rc<Manifest>, Wrong>, CatStop>
+) -> Result<Result<Rc<Manifest>, Wrong>, Outage>
     ensures { Learns result (IsManifestFor port.now (found_home found.now) (ask_view ask.now))
         (AreManifests manifests.old) (AreManifests manifests.new)
         (held files.old (T.state tree.old)) (held files.new (T.state tree.new)) }

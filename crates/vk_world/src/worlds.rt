@@ -15,10 +15,10 @@ use crate::libraries::Library;
 use std::alloc::Global;
 use std::marker::Model;
 use std::rc::Rc;
-use vk_base::{PortName, TreePath};
-use vk_catalogue::{CatStop, Catalogue, Given, Wrong};
+use vk_base::{Outage, PortName, TreePath};
+use vk_catalogue::{Catalogue, Given, Wrong};
 use vk_model::{Manifest, Project, Store};
-use vk_opening::{OpenStop, Opened, Start, open};
+use vk_opening::{Opened, Start, open};
 use vk_tree::Tree;
 use vk_version::{Ask, Version};
 
@@ -54,7 +54,7 @@ impl<T: Tree> World<T> {
         tree: &mut T,
         project: &Project,
         _store: Option<&Store>,
-    ) -> Result<Opened, OpenStop>
+    ) -> Result<Opened, Outage>
         ensures { Opens project.now result (T.state tree.old) (T.state tree.new) }
     {
         open(alloc, tree, project)
@@ -103,7 +103,7 @@ impl<T: Tree> World<T> {
 impl<T: Tree> Catalogue for World<T> {
     ghost state = { state_of T.state };
 
-    fn given(&mut self, port: &PortName) -> Result<Result<Given, Wrong>, CatStop>
+    fn given(&mut self, port: &PortName) -> Result<Result<Given, Wrong>, Outage>
         ensures asks { Asks port.now SaysGiven (given_answer result) (state_of T.state self.old)
             (state_of T.state self.new) }
         ensures known { known_in self.new.learned ≡ pairs_given port.now (given_answer result)
@@ -112,7 +112,7 @@ impl<T: Tree> Catalogue for World<T> {
         self.library.given(self.alloc, &mut self.tree, port)
     }
 
-    fn version(&mut self, port: &PortName, ask: &Ask) -> Result<Option<Version>, CatStop>
+    fn version(&mut self, port: &PortName, ask: &Ask) -> Result<Option<Version>, Outage>
         requires { OnPage port.now CanAskVersion (state_of T.state self.old) }
         ensures asks { Asks port.now (SaysVersion (ask_view ask.now)) (version_answer result)
             (state_of T.state self.old) (state_of T.state self.new) }
@@ -126,7 +126,7 @@ impl<T: Tree> Catalogue for World<T> {
         &mut self,
         port: &PortName,
         ask: &Ask,
-    ) -> Result<Result<Rc<Manifest>, Wrong>, CatStop>
+    ) -> Result<Result<Rc<Manifest>, Wrong>, Outage>
         requires { OnPage port.now (CanAskManifest (ask_view ask.now)) (state_of T.state self.old) }
         ensures asks { Asks port.now (SaysManifest (ask_view ask.now)) (manifest_answer result)
             (state_of T.state self.old) (state_of T.state self.new) }

@@ -3,7 +3,8 @@ use Rattle.std.specs.Prelude.{Ok, Err, IsSome, bytes_eq}
 use Rattle.std.specs.Map.{lookup}
 use Rattle.std.proofs.lemmas.Result.{err_from_is_err_and}
 use Rattle.std.proofs.lemmas.Slice.Eq.{bytes_eq-Decides}
-use Rattle.vk_catalogue.specs.declared.stops.CatStop.TheVariants as cat
+use Rattle.vk_base.specs.declared.stops.Outage.TheVariants as outage
+use Rattle.vk_base.specs.Stops.{out_of_memory}
 use Rattle.vk_files.specs.Notes.{AreRight}
 use Rattle.vk_files.specs.Views.{held}
 use Rattle.vk_files.proofs.NoteLemmas.{right_more}
@@ -25,7 +26,7 @@ pub returns-in_err-reserve-clause-learns : goal.returns-in_err-reserve-clause-le
 returns-in_err-reserve-clause-learns g c =
     let p = err_from_is_err_and c.from_residual-in_err-reserve.result c.from_residual-in_err-reserve.ensures.1 in
     rw (p.1, p.2)
-    (learns_pure (Err cat.Memory) SaysNothing (AreHomes (layout_view c.args.layout.now) c.args.self.now) (AreHomes (layout_view c.args.layout.now) (record { baselines = c.args.self.now.baselines; found = c.reserve.new.self })) (held c.args.files.now (g.T.Tree.state c.args.tree.now)) refl
+    (learns_pure (Err (outage.Memory out_of_memory)) SaysNothing (AreHomes (layout_view c.args.layout.now) c.args.self.now) (AreHomes (layout_view c.args.layout.now) (record { baselines = c.args.self.now.baselines; found = c.reserve.new.self })) (held c.args.files.now (g.T.Tree.state c.args.tree.now)) refl
     (λ f right. (record { baselines = right.baselines; found = subst (λ es. AreRight (IsHomeOf (layout_view c.args.layout.now) f) (noted found_home es)) (sym c.reserve.ensures.entries) right.found }, tt)))
 
 pub returns-clause-learns : goal.returns-clause-learns

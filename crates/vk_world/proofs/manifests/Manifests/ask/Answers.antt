@@ -3,7 +3,8 @@ use Rattle.std.specs.Prelude.{Ok, Err, IsSome}
 use Rattle.std.specs.Map.{lookup}
 use Rattle.std.proofs.lemmas.Result.{err_from_is_err_and}
 use Rattle.vk_catalogue.specs.Views.{manifest_said}
-use Rattle.vk_catalogue.specs.declared.stops.CatStop.TheVariants as cat
+use Rattle.vk_base.specs.declared.stops.Outage.TheVariants as outage
+use Rattle.vk_base.specs.Stops.{out_of_memory}
 use Rattle.vk_files.specs.Notes.{AreRight}
 use Rattle.vk_files.specs.Views.{same_path, held}
 use Rattle.vk_files.proofs.NoteLemmas.{right_more}
@@ -24,7 +25,7 @@ pub returns-in_err-reserve-clause-learns : goal.returns-in_err-reserve-clause-le
 returns-in_err-reserve-clause-learns g c =
     let p = err_from_is_err_and c.from_residual-in_err-reserve.result c.from_residual-in_err-reserve.ensures.1 in
     rw (p.1, p.2)
-    (learns_pure (Err cat.Memory) SaysNothing (AreManifests c.args.self.now) (AreManifests (record { found = c.reserve.new.self })) (held c.args.files.now (g.T.Tree.state c.args.tree.now)) refl
+    (learns_pure (Err (outage.Memory out_of_memory)) SaysNothing (AreManifests c.args.self.now) (AreManifests (record { found = c.reserve.new.self })) (held c.args.files.now (g.T.Tree.state c.args.tree.now)) refl
     (λ f right. (subst (λ es. AreRight (IsManifestAt f) (noted manifest_said es)) (sym c.reserve.ensures.entries) right, tt)))
 
 pub returns-clause-learns : goal.returns-clause-learns
