@@ -1,18 +1,15 @@
 -- The first level, the next, the last, and too many; and what is known of pages, where they are told.
-use Rattle.std.proofs.Common.{◌≡◌, ◌≤◌, ◌+◌, ℕ, List, [], ◌∷◌, ◌++◌, length, take, refl, ap, sym, ◌∙◌, subst, inl, inr, arith}
+use Rattle.std.proofs.Common.{◌≡◌, ◌≤◌, ℕ, List, [], ◌∷◌, ◌++◌, length, take, ap, sym, ◌∙◌, subst, inl, inr, arith}
 use Rattle.std.specs.Prelude.{Option, Some, None, IfSome, Err}
 use Rattle.std.specs.List.{Contains}
 use Rattle.std.proofs.lemmas.List.{length-append, length-map}
 use Rattle.std.proofs.lemmas.List.Elements.{Contains-push_cases}
 use Rattle.std.proofs.Math.Seq.{take-append_seam}
-use Rattle.vk_spec.specs.Lists.{NoRepeats, IsWithin}
 use Rattle.vk_spec.specs.Settings.{Setting}
 use Rattle.vk_spec.proofs.ListLemmas.{contains_nothing, no_repeats_push}
 use Rattle.vk_base.specs.declared.stops.Stop.{Stop}
 use Rattle.vk_base.specs.declared.stops.Stop.TheVariants as stop
 use Rattle.vk_resolution.specs.Givens.{Pages}
-use Rattle.vk_resolution.specs.Asking as plain
-use Rattle.vk_resolution.specs.Consequences.{rules_of}
 use Rattle.vk_resolution.specs.Reasons.{Reason, facts_of, IsReasons}
 use Rattle.vk_resolution.specs.Closing.{NotesReasons, IsTooMuch, IsClosing}
 use Rattle.vk_resolution.specs.Closures.{HasTooManyFacts}

@@ -1,6 +1,6 @@
 -- The fact of a line, by the entries of the lines.
-use Rattle.std.proofs.Common.{◌≡◌, ◌-◌, ℕ, zero, suc, List, [], ◌∷◌, refl, ap, sym, ◌∙◌, subst, arith}
-use Rattle.std.specs.Prelude.{Option, Some, None, option_map, slice_get}
+use Rattle.std.proofs.Common.{◌≡◌, ◌-◌, ℕ, zero, suc, List, [], ◌∷◌, refl, ap, sym, ◌∙◌, arith}
+use Rattle.std.specs.Prelude.{option_map, slice_get}
 use Rattle.vk_resolution.specs.Reasons.{fact_at}
 use Rattle.vk_model.specs.declared.facts.Fact.{Fact}
 use Rattle.vk_model.specs.declared.reasons.Cause.{Cause}

@@ -1,6 +1,6 @@
 -- Index maps of facts, as lists of reasons: what is among them, one more at the end, a sort, and one behind the other.
-use Rattle.std.proofs.Common.{◌≡◌, ◌<◌, ◌≤◌, ◌⊎◌, ◌+◌, ℕ, zero, suc, Bool, true, false, cond, List, [], ◌∷◌, ◌++◌, length, map, get_or, inl, inr, refl, ap, sym, ◌∙◌, subst, arith}
-use Rattle.std.specs.Prelude.{Option, Some, None, is_some, ◌==◌}
+use Rattle.std.proofs.Common.{◌≡◌, ◌<◌, ◌+◌, suc, Bool, true, false, cond, List, [], ◌∷◌, ◌++◌, length, get_or, inl, inr, refl, ap, sym, ◌∙◌, subst, arith}
+use Rattle.std.specs.Prelude.{Option, Some, is_some, ◌==◌}
 use Rattle.std.specs.declared.cmp.Ordering.{Ordering}
 use Rattle.std.specs.declared.cmp.Ordering.TheVariants.{Less, Equal, Greater}
 use Rattle.std.specs.Ordering.{on, is_lt, nat_cmp}
@@ -9,8 +9,8 @@ use Rattle.std.specs.Map.{lookup, keys_of}
 use Rattle.std.specs.List.{Contains}
 use Rattle.std.specs.List.Sorted.{IsSorted, IsPermutation}
 use Rattle.std.proofs.lemmas.List.{append_assoc, map-append, append-nil}
-use Rattle.std.proofs.lemmas.List.Sorted.{Contains-permutation, IsPermutation-sym}
-use Rattle.std.proofs.lemmas.List.Elements.{Contains-append_left, Contains-append_right, Contains-append_cases, Contains-push_cases}
+use Rattle.std.proofs.lemmas.List.Sorted.{Contains-permutation}
+use Rattle.std.proofs.lemmas.List.Elements.{Contains-push_cases}
 use Rattle.indexmap.specs.IndexMap.{insert_all, insert_entry}
 use Rattle.vk_spec.specs.Lists.{NoRepeats, IsWithin}
 use Rattle.vk_spec.proofs.ListLemmas.{contains_nothing, contains_first, contains_later, contains_cases}
@@ -18,15 +18,15 @@ use Rattle.vk_spec.proofs.FileLemmas.{path_total, path_same}
 use Rattle.vk_resolution.specs.Keys.{Key, key_cmp, Ascends}
 use Rattle.vk_resolution.specs.Asking as plain
 use Rattle.vk_resolution.specs.Asking.{fact_key}
-use Rattle.vk_resolution.specs.Reasons.{Reason, facts_of}
+use Rattle.vk_resolution.specs.Reasons.{facts_of}
 use Rattle.vk_resolution.proofs.Members.{map_contains, contains_map, true_false}
-use Rattle.vk_resolution.proofs.Orders.{same_key-Decides, turned, before_itself}
+use Rattle.vk_resolution.proofs.Orders.{same_key-Decides, turned}
 use Rattle.vk_resolution.proofs.FactLemmas.{fact_key-IsKey}
 use Rattle.vk_model.specs.declared.facts.Fact.{Fact}
 use Rattle.vk_model.specs.declared.reasons.Cause.{Cause}
 use Rattle.vk_model.specs.FactViews.{fact_view}
 use Rattle.vk_model.specs.FactKeys.{key_of}
-use Rattle.vk_worklist.specs.Entries.{reason_of, reasons_in, facts_in, IsApart, IsNextLevel}
+use Rattle.vk_worklist.specs.Entries.{reason_of, reasons_in, facts_in}
 
 abbrev pub Entries : Type 0
 Entries = List (Fact × Cause)

@@ -1,5 +1,6 @@
 -- One reason more is noted, or is one too many.
 use Rattle.std.proofs.Common.{◌≡◌, ◌<◌, ◌+◌, ℕ, List, [], ◌∷◌, ◌++◌, length, inl, inr, refl, ap, sym, ◌∙◌, subst, arith}
+use Rattle.std.specs.Prelude.{Result, Ok, Err, OnOk}
 use Rattle.std.proofs.lemmas.List.{map-append, length-map}
 use Rattle.std.specs.List.{Contains}
 use Rattle.std.proofs.lemmas.List.Elements.{Contains-append_left, Contains-append_right, Contains-append_cases}
@@ -83,3 +84,8 @@ much_more rest done all e split noted much =
 pub nothing_left : {X : Type 0} (left : List X) → length left ≡ 0 → left ≡ []
 nothing_left [] none = refl
 nothing_left (x ∷ left) none = absurd (omega arith)
+
+-- what follows of what holds where a call is done
+pub done_means : {A E P Q : Type 0} (result : Result A E) → (P → Q) → OnOk result P → OnOk result Q
+done_means (Ok x) f h = f h
+done_means (Err e) f h = tt

@@ -1,11 +1,10 @@
 -- Rows of ports, after a write.
-use Rattle.std.proofs.Common.{◌≡◌, ℕ, Bool, true, false, cond, List, [], ◌∷◌, ◌++◌, refl, ap, sym, ◌∙◌, subst}
+use Rattle.std.proofs.Common.{◌≡◌, ℕ, Bool, true, false, cond, List, [], ◌++◌, refl, ap, sym, ◌∙◌, subst}
 use Rattle.std.specs.Prelude.{Option, Some, None, is_some, bytes_eq}
 use Rattle.std.specs.Map.{lookup}
 use Rattle.std.proofs.lemmas.List.{append-nil}
 use Rattle.std.proofs.lemmas.Slice.Eq.{bytes_eq-Decides}
 use Rattle.vk_worklist.specs.declared.rows.Row.{Row}
-use Rattle.vk_worklist.specs.Rows.{needs_in, floors_in, needs_of, floors_of}
 
 abbrev pub Ports : Type 0
 Ports = List (List ℕ × Row)

@@ -1,5 +1,5 @@
 -- How many steps there are.
-use Rattle.std.proofs.Common.{◌≡◌, ◌≤◌, ◌+◌, ℕ, zero, suc, List, [], ◌∷◌, ◌++◌, length, take, refl, ap, sym, ◌∙◌, subst, arith}
+use Rattle.std.proofs.Common.{◌≡◌, ◌≤◌, ◌+◌, ℕ, zero, suc, List, [], ◌∷◌, ◌++◌, length, take, ap, ◌∙◌, arith}
 use Rattle.vk_resolution.specs.Settings as who
 use Rattle.vk_resolution.specs.Asking.{Fact, need, floor, visit}
 use Rattle.vk_worklist.specs.Ticks.{tick_of, ticks}

@@ -1,9 +1,9 @@
-ghost use Rattle.std.specs.Prelude.{◌≡◌, ◌+◌, ◌≤◌, [], false, IfOk, length};
+ghost use Rattle.std.specs.Prelude.{◌≡◌, ◌+◌, ◌≤◌, [], false, IfOk, OnOk, length};
 ghost use Rattle.vk_spec.specs.Lists.{NoRepeats};
 ghost use Rattle.vk_spec.specs.Catalogues.{OnlyAsked, OnPages};
 ghost use Rattle.vk_base.specs.Stops.{has_failed};
 ghost use Rattle.vk_resolution.specs.Reasons.{IsReasons};
-ghost use Rattle.vk_resolution.specs.Closing.{IsTooMuch};
+ghost use Rattle.vk_resolution.specs.Closing.{IsClosing, IsTooMuch};
 ghost use Rattle.vk_resolution.specs.Closures.{HasTooManyFacts};
 ghost use Rattle.vk_resolution.specs.Planner.{inputs_of};
 ghost use Rattle.vk_worklist.specs.Entries.{reasons_in, facts_in, AreRoots, IsFirstLevel};
@@ -21,23 +21,105 @@ use vk_base::{Steps, Stop};
 use vk_catalogue::Catalogue;
 use vk_model::{Cause, Fact};
 
-// The lines of the facts that are given.
+// Puts the given facts, in order, on the first lines.
 fn first_level(
-    alloc: Global,
-    mut given: Vec<(Fact, Cause)>,
+    lines: &mut IndexMap<Fact, Cause>,
+    fresh: &mut IndexMap<Fact, Cause>,
+    given: &mut Vec<(Fact, Cause)>,
     most: u32,
-) -> Result<IndexMap<Fact, Cause>, Stop<CloseFault>>
-    ensures ok { IfOk result (λ m. IsFirstLevel (reasons_in given.items) (reasons_in m.entries)) }
-    ensures distinct { IfOk result (λ m. NoRepeats (facts_in m.entries)) }
-    ensures few { IfOk result (λ m. length m.entries ≤ most) }
-    ensures facts { OnFault result most (IsTooMuch [] (reasons_in given.items) [] most) }
+) -> Result<(), Stop<CloseFault>>
+    requires lines { lines.old.entries ≡ [] }
+    requires fresh { fresh.old.entries ≡ [] }
+    ensures ok { OnOk result
+        (IsFirstLevel (reasons_in given.old.items) (reasons_in lines.new.entries)) }
+    ensures distinct { OnOk result (NoRepeats (facts_in lines.new.entries)) }
+    ensures few { OnOk result (length lines.new.entries ≤ most) }
+    ensures fresh { OnOk result (fresh.new.entries ≡ []) }
+    ensures none { OnOk result (given.new.items ≡ []) }
+    ensures facts { OnFault result most (IsTooMuch [] (reasons_in given.old.items) [] most) }
     ensures calm { has_failed result ≡ false }
 {
-    let mut lines = IndexMap::new(alloc);
-    let mut fresh = IndexMap::new(alloc);
-    note_all(&lines, &mut fresh, most, &mut given)?;
-    next_level(&mut lines, &mut fresh)?;
-    Ok(lines)
+    note_all(lines, fresh, most, given)?;
+    next_level(lines, fresh)?;
+    Ok(())
+}
+
+// Takes up all lines, level by level, until nothing is fresh.
+fn close_levels<C: Catalogue, S: Source, L: Ledger>(
+    cat: &mut C,
+    source: &mut S,
+    lines: &mut IndexMap<Fact, Cause>,
+    most: u32,
+    fresh: &mut IndexMap<Fact, Cause>,
+    brought: &mut Vec<(Fact, Cause)>,
+    steps: &mut Steps<L>,
+) -> Result<(), Stop<CloseFault>>
+    requires limit { (S.setting source.old).max_facts ≡ most }
+    requires few { length lines.old.entries ≤ most }
+    requires distinct { NoRepeats (facts_in lines.old.entries) }
+    requires fresh { fresh.old.entries ≡ [] }
+    requires none { brought.old.items ≡ [] }
+    requires tracks { OnPages (λ pages. S.tracks source.old pages []) (C.state cat.old) }
+    requires closing { OnPages
+        (λ pages. IsClosing (inputs_of (S.setting source.old) pages)
+        (reasons_in lines.old.entries) [] [])
+        (C.state cat.old) }
+    ensures ok { OnOk result (OnPages
+        (λ pages. IsReasons (inputs_of (S.setting source.old) pages)
+        (reasons_in lines.new.entries))
+        (C.state cat.old)) }
+    ensures few { OnOk result (length lines.new.entries ≤ most) }
+    ensures facts { OnFault result most (OnPages
+        (λ pages. HasTooManyFacts (inputs_of (S.setting source.old) pages)) (C.state cat.old)) }
+    ensures ticks { OnOk result (steps.new ≤ steps.old + ticks (facts_in lines.new.entries)) }
+    ensures most { steps.new ≤ steps.old + most }
+    ensures setting { S.setting source.new ≡ S.setting source.old }
+    ensures asked { OnlyAsked (has_failed result) (C.state cat.old) (C.state cat.new) }
+    ensures tracks { OnOk result (OnPages
+        (λ pages. S.tracks source.new pages (facts_in lines.new.entries)) (C.state cat.old)) }
+{
+    let mut taken = 0;
+    loop {
+        take_up_level(cat, source, lines, taken, most, fresh, brought, steps)?;
+        if fresh.is_empty() {
+            return Ok(());
+        }
+        taken = lines.len();
+        next_level(lines, fresh)?;
+    }
+}
+
+// Closes empty lines from the facts that are given.
+fn close_lines<C: Catalogue, S: Source, L: Ledger>(
+    cat: &mut C,
+    source: &mut S,
+    lines: &mut IndexMap<Fact, Cause>,
+    most: u32,
+    fresh: &mut IndexMap<Fact, Cause>,
+    given: &mut Vec<(Fact, Cause)>,
+    steps: &mut Steps<L>,
+) -> Result<(), Stop<CloseFault>>
+    requires limit { (S.setting source.old).max_facts ≡ most }
+    requires lines { lines.old.entries ≡ [] }
+    requires fresh { fresh.old.entries ≡ [] }
+    requires tracks { OnPages (λ pages. S.tracks source.old pages []) (C.state cat.old) }
+    requires roots { AreRoots (S.setting source.old) (reasons_in given.old.items) }
+    ensures ok { OnOk result (OnPages
+        (λ pages. IsReasons (inputs_of (S.setting source.old) pages)
+        (reasons_in lines.new.entries))
+        (C.state cat.old)) }
+    ensures few { OnOk result (length lines.new.entries ≤ most) }
+    ensures facts { OnFault result most (OnPages
+        (λ pages. HasTooManyFacts (inputs_of (S.setting source.old) pages)) (C.state cat.old)) }
+    ensures ticks { OnOk result (steps.new ≤ steps.old + ticks (facts_in lines.new.entries)) }
+    ensures most { steps.new ≤ steps.old + most }
+    ensures setting { S.setting source.new ≡ S.setting source.old }
+    ensures asked { OnlyAsked (has_failed result) (C.state cat.old) (C.state cat.new) }
+    ensures tracks { OnOk result (OnPages
+        (λ pages. S.tracks source.new pages (facts_in lines.new.entries)) (C.state cat.old)) }
+{
+    first_level(lines, fresh, given, most)?;
+    close_levels(cat, source, lines, most, fresh, given, steps)
 }
 
 /// All that follows from the root facts, which are given: the least list in its order, each fact
@@ -47,7 +129,7 @@ pub fn close_from<C: Catalogue, S: Source, L: Ledger>(
     alloc: Global,
     cat: &mut C,
     source: &mut S,
-    given: Vec<(Fact, Cause)>,
+    mut given: Vec<(Fact, Cause)>,
     most: u32,
     steps: &mut Steps<L>,
 ) -> Result<IndexMap<Fact, Cause>, Stop<CloseFault>>
@@ -67,25 +149,8 @@ pub fn close_from<C: Catalogue, S: Source, L: Ledger>(
     ensures tracks { IfOk result (λ m. OnPages
         (λ pages. S.tracks source.new pages (facts_in m.entries)) (C.state cat.old)) }
 {
-    let mut lines = first_level(alloc, given, most)?;
+    let mut lines = IndexMap::new(alloc);
     let mut fresh = IndexMap::new(alloc);
-    let mut brought = Vec::new(alloc);
-    let mut taken = 0;
-    loop {
-        take_up_level(
-            cat,
-            source,
-            &lines,
-            taken,
-            most,
-            &mut fresh,
-            &mut brought,
-            steps,
-        )?;
-        if fresh.is_empty() {
-            return Ok(lines);
-        }
-        taken = lines.len();
-        next_level(&mut lines, &mut fresh)?;
-    }
+    close_lines(cat, source, &mut lines, most, &mut fresh, &mut given, steps)?;
+    Ok(lines)
 }

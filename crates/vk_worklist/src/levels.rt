@@ -32,7 +32,7 @@ pub(crate) fn next_level(
     ensures len { OnOk result
         (length lines.new.entries ≡ length lines.old.entries + length fresh.old.entries) }
     ensures distinct { OnOk result (NoRepeats (facts_in lines.new.entries)) }
-    ensures none { OnOk result (length fresh.new.entries ≡ 0) }
+    ensures fresh { OnOk result (fresh.new.entries ≡ []) }
 {
     fresh.sort_keys()?;
     lines.append(fresh)?;

@@ -1,7 +1,8 @@
 ghost use Rattle.std.specs.Prelude.{◌≡◌, ◌↔◌, ◌+◌, ◌++◌, ◌<◌, ◌≤◌, ◌∷◌, [], false, length};
-ghost use Rattle.std.specs.Prelude.{IsTrue, OnOk, OnErr};
+ghost use Rattle.std.specs.Prelude.{◌⊎◌, IsTrue, MatchBool, IfErr, OnOk};
 ghost use Rattle.std.specs.List.{Contains};
-ghost use Rattle.vk_base.specs.Stops.{has_failed};
+ghost use Rattle.vk_base.specs.Stops.{has_failed, out_of_memory};
+ghost use Rattle.vk_base.specs.declared.stops.Stop.TheVariants as stop;
 ghost use Rattle.vk_resolution.specs.Closing.{NotesReasons, IsTooMuch};
 ghost use Rattle.vk_model.specs.FactViews.{fact_view};
 ghost use Rattle.vk_worklist.specs.Entries.{reason_of, reasons_in, facts_in};
@@ -9,13 +10,23 @@ ghost use Rattle.vk_worklist.specs.Faults.{OnFault};
 
 use crate::faults::CloseFault;
 use indexmap::IndexMap;
-use vk_base::{Memory, Stop};
+use vk_base::Stop;
 use vk_model::{Cause, Fact};
 
 fn has(map: &IndexMap<Fact, Cause>, fact: &Fact) -> bool
     ensures { IsTrue result ↔ Contains (facts_in map.now.entries) (fact_view fact.now) }
 {
     map.contains_key(fact)
+}
+
+fn is_known(lines: &IndexMap<Fact, Cause>, fresh: &IndexMap<Fact, Cause>, fact: &Fact) -> bool
+    ensures { MatchBool result
+        (Contains (facts_in lines.now.entries) (fact_view fact.now)
+        ⊎ Contains (facts_in fresh.now.entries) (fact_view fact.now))
+        ((Contains (facts_in lines.now.entries) (fact_view fact.now) → ⊥)
+        × (Contains (facts_in fresh.now.entries) (fact_view fact.now) → ⊥)) }
+{
+    has(lines, fact) || has(fresh, fact)
 }
 
 fn is_full(lines: &IndexMap<Fact, Cause>, fresh: &IndexMap<Fact, Cause>, most: u32) -> bool
@@ -25,10 +36,10 @@ fn is_full(lines: &IndexMap<Fact, Cause>, fresh: &IndexMap<Fact, Cause>, most: u
     lines.len() + fresh.len() >= most as usize
 }
 
-fn put(fresh: &mut IndexMap<Fact, Cause>, fact: Fact, cause: Cause) -> Result<(), Memory>
+fn put(fresh: &mut IndexMap<Fact, Cause>, fact: Fact, cause: Cause) -> Result<(), Stop<CloseFault>>
     requires { Contains (facts_in fresh.old.entries) (fact_view fact) → ⊥ }
     ensures ok { OnOk result (fresh.new.entries ≡ fresh.old.entries ++ (fact, cause) ∷ []) }
-    ensures err { OnErr result (fresh.new.entries ≡ fresh.old.entries) }
+    ensures memory { IfErr result (λ e. e ≡ stop.Memory out_of_memory) }
 {
     fresh.insert(fact, cause)?;
     Ok(())
@@ -51,14 +62,13 @@ fn note(
         (reason_of (fact, cause) ∷ []) (reasons_in fresh.old.entries) most) }
     ensures calm { has_failed result ≡ false }
 {
-    if has(lines, &fact) || has(fresh, &fact) {
+    if is_known(lines, fresh, &fact) {
         return Ok(());
     }
     if is_full(lines, fresh, most) {
         return Err(Stop::Fault(CloseFault::Facts(most)));
     }
-    put(fresh, fact, cause)?;
-    Ok(())
+    put(fresh, fact, cause)
 }
 
 // Notes all that is brought up, if it is new, and leaves nothing of it.

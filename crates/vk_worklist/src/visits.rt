@@ -1,4 +1,4 @@
-ghost use Rattle.std.specs.Prelude.{◌≡◌, ◌++◌, ◌∷◌, [], ℕ, List, OnOk, option_map, flat_map};
+ghost use Rattle.std.specs.Prelude.{◌≡◌, ◌++◌, ◌∷◌, [], ℕ, List, IfOk, OnOk, option_map, flat_map};
 ghost use Rattle.std.specs.Prelude.{bytes_eq, if◌then◌else◌};
 ghost use Rattle.vk_base.specs.FeatureViews.{feature_view};
 ghost use Rattle.vk_version.specs.AskViews.{ask_view};
@@ -32,6 +32,17 @@ fn fact_on(lines: &IndexMap<Fact, Cause>, line: u32) -> Option<&Fact>
     }
 }
 
+fn visit_of(inst: &Instance, feature: &FeatureName, ask: &Ask) -> Result<Fact, AllocError>
+    ensures { IfOk result (λ x. fact_view x
+        ≡ plain.visit (instance_view inst.now) (feature_view feature.now) (ask_view ask.now)) }
+{
+    Ok(Fact::Visit {
+        inst: inst.clone()?,
+        feature: feature.clone()?,
+        ask: ask.clone()?,
+    })
+}
+
 fn push_visit(
     brought: &mut Vec<(Fact, Cause)>,
     inst: &Instance,
@@ -40,17 +51,12 @@ fn push_visit(
     need: u32,
     floor: u32,
 ) -> Result<(), AllocError>
-    ensures { OnOk result (reasons_in brought.new.items ≡ reasons_in brought.old.items
-        ++ record {
-          fact = plain.visit (instance_view inst.now) (feature_view feature.now) (ask_view ask.now);
-          cause = by_two need floor;
-        } ∷ []) }
+    ensures { OnOk result (reasons_in brought.new.items ≡ reasons_in brought.old.items ++ record {
+      fact = plain.visit (instance_view inst.now) (feature_view feature.now) (ask_view ask.now);
+      cause = by_two need floor;
+    } ∷ []) }
 {
-    let visit = Fact::Visit {
-        inst: inst.clone()?,
-        feature: feature.clone()?,
-        ask: ask.clone()?,
-    };
+    let visit = visit_of(inst, feature, ask)?;
     brought.push((visit, Cause::Both(need, floor)))?;
     Ok(())
 }

@@ -4,5 +4,5 @@ use Rattle.vk_worklist.proofs.closing.first_level.Goals as goal
 
 pub returns-clause-ok : goal.returns-clause-ok
 returns-clause-ok c =
-    first_made (reasons_in c.args.given.items) (reasons_in c.note_all.new.fresh.entries) (reasons_in c.next_level.new.lines.entries)
-    (rw (c.new-lines.ensures.empty, c.new-fresh.ensures.empty) at c.in_ok-note_all.ensures.ok) (rw c.new-lines.ensures.empty at c.in_ok-next_level.ensures.ok)
+    first_made (reasons_in c.args.given.now.items) (reasons_in c.note_all.new.fresh.entries) (reasons_in c.next_level.new.lines.entries)
+    (rw (c.requires.lines, c.requires.fresh) at c.in_ok-note_all.ensures.ok) (rw c.requires.lines at c.in_ok-next_level.ensures.ok)

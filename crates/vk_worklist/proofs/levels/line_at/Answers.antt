@@ -1,4 +1,4 @@
-use Rattle.std.proofs.Common.{◌≡◌, ◌∙◌, sym, ap}
+use Rattle.std.proofs.Common.{◌∙◌, sym, ap}
 use Rattle.std.specs.Prelude.{option_map}
 use Rattle.vk_worklist.proofs.LevelLemmas.{next_at}
 use Rattle.vk_worklist.proofs.levels.line_at.Goals as goal

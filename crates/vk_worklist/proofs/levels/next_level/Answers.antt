@@ -1,4 +1,4 @@
-use Rattle.std.proofs.Common.{◌≡◌, ◌∙◌, ◌+◌, ◌++◌, ap, length, length-append}
+use Rattle.std.proofs.Common.{◌∙◌, ◌+◌, ap, length, length-append}
 use Rattle.vk_worklist.proofs.LevelLemmas.{level_added}
 use Rattle.vk_worklist.proofs.levels.next_level.Goals as goal
 

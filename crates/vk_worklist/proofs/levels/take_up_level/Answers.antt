@@ -1,4 +1,4 @@
-use Rattle.std.proofs.Common.{◌≤◌, ◌+◌, arith}
+use Rattle.std.proofs.Common.{◌+◌, arith}
 use Rattle.vk_worklist.specs.Entries.{facts_in}
 use Rattle.vk_worklist.proofs.TickLemmas.{ticks_take}
 use Rattle.vk_worklist.proofs.levels.take_up_level.Goals as goal

@@ -1,9 +1,9 @@
 use Rattle.std.proofs.Common.{◌≡◌, ◌∙◌, ◌∷◌, ◌++◌, [], sym, ap}
-use Rattle.std.specs.Prelude.{Option, Some, bytes_eq, option_map}
+use Rattle.std.specs.Prelude.{Some, bytes_eq, option_map}
 use Rattle.std.specs.Map.{lookup}
 use Rattle.vk_worklist.specs.declared.rows.Row.{Row}
 use Rattle.vk_worklist.specs.Rows.{needs_in, floors_in}
-use Rattle.vk_worklist.proofs.RowLemmas.{IsWritten, written, kept}
+use Rattle.vk_worklist.proofs.RowLemmas.{written, kept}
 use Rattle.vk_worklist.proofs.rows.more_needs.Goals as goal
 
 pub returns-clause-needs : goal.returns-clause-needs

@@ -1,4 +1,4 @@
-use Rattle.std.proofs.Common.{◌≡◌, ◌∙◌, ◌-◌, Option, Some, None, sym, ap}
+use Rattle.std.proofs.Common.{◌≡◌, ◌∙◌, ◌-◌, Some, None, sym, ap}
 use Rattle.std.specs.Prelude.{option_map, slice_get}
 use Rattle.vk_model.specs.FactViews.{fact_view}
 use Rattle.vk_worklist.proofs.LineLemmas.{fact_on_line}

@@ -1,5 +1,4 @@
-use Rattle.std.proofs.Common.{◌≡◌, ◌∙◌, ◌+◌, take, refl}
-use Rattle.std.specs.Prelude.{IfSome}
+use Rattle.std.proofs.Common.{◌+◌, take, refl}
 use Rattle.vk_spec.proofs.OptionLemmas.{of_both}
 use Rattle.vk_resolution.specs.Planner.{inputs_of}
 use Rattle.vk_model.specs.FactViews.{fact_view}

@@ -5,10 +5,10 @@ use Rattle.vk_resolution.specs.Closing.{IsClosing}
 use Rattle.vk_resolution.specs.Planner.{inputs_of}
 use Rattle.vk_worklist.specs.Entries.{reasons_in, facts_in}
 use Rattle.vk_worklist.specs.Ticks.{ticks}
-use Rattle.vk_worklist.proofs.closing.close_from.Given as goal
+use Rattle.vk_worklist.proofs.closing.close_levels.Given as goal
 
-abbrev pub invariant-loop-brought : goal.invariant-loop-brought
-invariant-loop-brought g l = record {
+abbrev pub invariant-loop-fresh : goal.invariant-loop-fresh
+invariant-loop-fresh g l = record {
   within : l.taken ≤ length l.lines.entries;
   distinct : NoRepeats (facts_in l.lines.entries);
   few : length l.lines.entries ≤ l.most;
@@ -21,5 +21,5 @@ invariant-loop-brought g l = record {
   closing : OnPages (λ pages. IsClosing (inputs_of (g.S.Source.setting l.source) pages) (reasons_in l.lines.entries) (take l.taken (facts_in l.lines.entries)) []) (g.C.Catalogue.state l.cat);
 }
 
-abbrev pub decreases-loop-brought : goal.decreases-loop-brought
-decreases-loop-brought g l = (l.most + 1) - length l.lines.entries
+abbrev pub decreases-loop-fresh : goal.decreases-loop-fresh
+decreases-loop-fresh g l = (l.most + 1) - length l.lines.entries
