@@ -22,6 +22,7 @@ use Rattle.vk_resolution.proofs.ClosingLemmas.{closing_more, closing_forced, fac
 use Rattle.vk_model.specs.declared.facts.Fact.{Fact}
 use Rattle.vk_model.specs.declared.reasons.Cause.{Cause}
 use Rattle.vk_model.specs.FactViews.{fact_view}
+use Rattle.vk_worklist.specs.Alone.{Follows}
 use Rattle.vk_worklist.specs.Entries.{reason_of, reasons_in, facts_in, IsApart, IsNextLevel}
 use Rattle.vk_worklist.proofs.MapLemmas.{Entries, is, view_same, key_order, put_all, sorted_ascends, permuted_within}
 
@@ -89,6 +90,17 @@ one_more (Some pages) s lines n y brought old new next was produces notes =
     subst (λ l. IsClosing (inputs_of s pages) lines l new) (sym next)
     (closing_more (inputs_of s pages) lines (take n (facts_of lines)) (drop (n + 1) (facts_of lines)) old y brought new (line_whole (facts_of lines) n y next) was produces notes)
 
+stands : (lines : List Reason) (n : ℕ) (y : plain.Fact) → take (n + 1) (facts_of lines) ≡ take n (facts_of lines) ++ y ∷ [] → Contains (facts_of lines) y
+stands lines n y next =
+    subst (λ l. Contains l y) (line_whole (facts_of lines) n y next)
+    (Contains-append_left (take n (facts_of lines) ++ y ∷ []) (drop (n + 1) (facts_of lines)) y (Contains-append_right (take n (facts_of lines)) (y ∷ []) y (contains_first y [])))
+
+-- what stands on a line follows from the root facts
+pub line_follows : (o : Option Pages) (s : Setting) (lines : List Reason) (n : ℕ) (y : plain.Fact) (fresh : List Reason) → take (n + 1) (facts_of lines) ≡ take n (facts_of lines) ++ y ∷ []
+    → IfSome o (λ pages. IsClosing (inputs_of s pages) lines (take n (facts_of lines)) fresh) → IfSome o (λ pages. Follows (inputs_of s pages) y)
+line_follows None s lines n y fresh next was = tt
+line_follows (Some pages) s lines n y fresh next was = (was.work.rank, was.work.ordered.level.sound y (stands lines n y next))
+
 pub one_forced : (o : Option Pages) (s : Setting) (lines : List Reason) (n : ℕ) (y : plain.Fact) (brought old : List Reason) (most : ℕ) → s.max_facts ≡ most
     → take (n + 1) (facts_of lines) ≡ take n (facts_of lines) ++ y ∷ []
     → IfSome o (λ pages. IsClosing (inputs_of s pages) lines (take n (facts_of lines)) old)
@@ -97,9 +109,7 @@ pub one_forced : (o : Option Pages) (s : Setting) (lines : List Reason) (n : ℕ
 one_forced None s lines n y brought old most limit next was produces much = tt
 one_forced (Some pages) s lines n y brought old most limit next was produces much =
     closing_forced (inputs_of s pages) lines (take n (facts_of lines)) old y brought
-    (subst (λ l. Contains l y) (line_whole (facts_of lines) n y next)
-    (Contains-append_left (take n (facts_of lines) ++ y ∷ []) (drop (n + 1) (facts_of lines)) y (Contains-append_right (take n (facts_of lines)) (y ∷ []) y (contains_first y []))))
-    was produces (subst (IsTooMuch (facts_of lines) brought old) (sym limit) much)
+    (stands lines n y next) was produces (subst (IsTooMuch (facts_of lines) brought old) (sym limit) much)
 
 -- the next line is taken up behind those before it
 next_line : (es : Entries) (n : ℕ) (e : Fact × Cause) → slice_get es n ≡ Some e → take (suc n) (facts_in es) ≡ take n (facts_in es) ++ fact_view e.0 ∷ []

@@ -1,7 +1,8 @@
 -- What one fact brings up alone, each with its cause, and which facts are joined with others of their port.
 use Rattle.std.specs.Prelude.{ℕ, Bool, true, List, map}
 use Rattle.vk_resolution.specs.Asking.{Fact, need, floor, visit}
-use Rattle.vk_resolution.specs.Consequences.{Inputs, Cause, by_root, by_baseline, by_override, by_overlay, by_minimum, by_one, by_two, steps_from, is_visited}
+use Rattle.vk_resolution.specs.Consequences.{Inputs, Cause, by_root, by_baseline, by_override, by_overlay, by_minimum, by_one, by_two, steps_from, is_visited, rules_of}
+use Rattle.vk_resolution.specs.Least.{IsReached}
 use Rattle.vk_resolution.specs.Reasons.{Reason}
 
 -- a cause that cites one line, whatever fact stands on it
@@ -23,3 +24,7 @@ abbrev pub joins : Inputs → Fact → Bool
 joins inputs (need who f) = true
 joins inputs (floor q a) = is_visited inputs q a
 joins inputs (visit i f a) = true
+
+-- it follows from the root facts in some number of steps
+abbrev pub Follows : Inputs → Fact → Type 0
+Follows inputs x = (n : ℕ) × IsReached (rules_of inputs) n x

@@ -8,7 +8,7 @@ ghost use Rattle.vk_resolution.specs.Planner.{inputs_of};
 ghost use Rattle.vk_model.specs.FactViews.{fact_view};
 ghost use Rattle.vk_worklist.specs.Entries.{reasons_in, facts_in};
 ghost use Rattle.vk_worklist.specs.Ticks.{tick_of};
-ghost use Rattle.vk_worklist.specs.Alone.{alone_at, joins};
+ghost use Rattle.vk_worklist.specs.Alone.{Follows, alone_at, joins};
 
 use indexmap::IndexMap;
 use std::sync::ledger::Ledger;
@@ -17,7 +17,7 @@ use vk_catalogue::Catalogue;
 use vk_model::{Cause, Fact};
 
 /// What one fact brings up alone, and whether it is joined with others of its port. Facts are asked
-/// about in the order of their lines.
+/// about in the order of their lines, each only where it follows from the root facts.
 pub trait Asker {
     /// What a plan is made under.
     ghost setting: { Self → Setting };
@@ -41,6 +41,9 @@ pub trait Asker {
             ≡ take n (facts_in lines.now.entries) ++ fact_view fact.now ∷ [] }
         requires tracks { OnPages
             (λ pages. tracks self.old pages (take n (facts_in lines.now.entries)))
+            (C.state cat.old) }
+        requires follows { OnPages
+            (λ pages. Follows (inputs_of (setting self.old) pages) (fact_view fact.now))
             (C.state cat.old) }
         ensures ticks { steps.new ≤ steps.old + tick_of (fact_view fact.now) }
         ensures setting { setting self.new ≡ setting self.old }

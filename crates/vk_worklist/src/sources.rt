@@ -9,6 +9,7 @@ ghost use Rattle.vk_resolution.specs.Asking as plain;
 ghost use Rattle.vk_resolution.specs.Closing.{Produces};
 ghost use Rattle.vk_resolution.specs.Planner.{inputs_of};
 ghost use Rattle.vk_model.specs.FactViews.{fact_view};
+ghost use Rattle.vk_worklist.specs.Alone.{Follows};
 ghost use Rattle.vk_worklist.specs.Entries.{reasons_in, facts_in};
 ghost use Rattle.vk_worklist.specs.Ticks.{tick_of};
 
@@ -19,7 +20,8 @@ use vk_catalogue::Catalogue;
 use vk_model::{Cause, Fact};
 
 /// What facts bring up, one after the other: alone, and together with those that were taken up
-/// before. It keeps what it needs to know of those.
+/// before. It keeps what it needs to know of those. A fact is taken up only where it follows from
+/// the root facts.
 pub trait Source {
     /// What a plan is made under.
     ghost setting: { Self → Setting };
@@ -45,6 +47,9 @@ pub trait Source {
         requires none { brought.old.items ≡ [] }
         requires tracks { OnPages
             (λ pages. tracks self.old pages (take n (facts_in lines.now.entries)))
+            (C.state cat.old) }
+        requires follows { OnPages
+            (λ pages. Follows (inputs_of (setting self.old) pages) (fact_view fact.now))
             (C.state cat.old) }
         ensures ticks { steps.new ≤ steps.old + tick_of (fact_view fact.now) }
         ensures setting { setting self.new ≡ setting self.old }

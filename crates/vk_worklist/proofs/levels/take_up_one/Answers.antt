@@ -5,10 +5,14 @@ use Rattle.vk_resolution.specs.Closures.{HasTooManyFacts}
 use Rattle.vk_resolution.specs.Planner.{inputs_of}
 use Rattle.vk_model.specs.FactViews.{fact_view}
 use Rattle.vk_worklist.specs.Entries.{reasons_in, facts_in}
-use Rattle.vk_worklist.proofs.LevelLemmas.{one_more, one_forced, apart_more}
+use Rattle.vk_worklist.proofs.LevelLemmas.{one_more, one_forced, apart_more, line_follows}
 use Rattle.vk_worklist.proofs.EndLemmas.{stays, fault_means}
 use Rattle.vk_worklist.proofs.TickLemmas.{tick_step}
 use Rattle.vk_worklist.proofs.levels.take_up_one.Goals as goal
+
+pub take_up-requires-clause-follows : goal.take_up-requires-clause-follows
+take_up-requires-clause-follows g c =
+    line_follows (g.C.Catalogue.state c.args.cat.now).pages (g.S.Source.setting c.args.source.now) (reasons_in c.args.lines.now.entries) c.args.taken (fact_view c.line_at-fact.result.now) (reasons_in c.args.fresh.now.entries) c.line_at-fact.ensures c.requires.closing
 
 pub returns-clause-apart : goal.returns-clause-apart
 returns-clause-apart g c was = apart_more (facts_in c.args.lines.now.entries) (reasons_in c.take_up.new.brought.items) (reasons_in c.args.fresh.now.entries) (reasons_in c.note_all.new.fresh.entries) c.in_ok-note_all.ensures.ok was
