@@ -1,0 +1,5 @@
+-- what is promised
+-- what functions, laws and examples say besides
+pub mod Roots
+pub mod Offs
+pub mod Asked

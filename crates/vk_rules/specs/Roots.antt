@@ -1,0 +1,22 @@
+-- What contracts see of a root with its triplets: a setting with nothing besides.
+use Rattle.std.specs.Prelude.{ℕ, Bool, false, List, [], map, Option, if◌then◌else◌}
+use Rattle.vk_spec.specs.Settings.{Setting, Instance}
+use Rattle.vk_resolution.specs.Settings.{Who, triplet_of}
+use Rattle.vk_triplet.specs.Meanings.{meaning_of}
+use Rattle.vk_base.specs.declared.names.PortName.{PortName}
+use Rattle.vk_model.specs.Views.{manifest_view}
+use Rattle.vk_rules.specs.declared.roots.Root.{Root}
+
+-- a root and its triplets, with no words and nothing off
+abbrev pub root_setting : Root → Setting
+root_setting r = record { root = manifest_view r.manifest.now; target = meaning_of r.target.now; host = meaning_of r.host.now; features = []; defaults = false; off = []; max_facts = 0 }
+
+abbrev pub name_view : Option PortName → Option (List ℕ)
+name_view name = name
+
+abbrev pub instance_at : List ℕ → List ℕ → Instance
+instance_at port triplet = record { port = port; triplet = triplet }
+
+-- the triplet that a dependency of someone is for
+abbrev pub triplet_for : Setting → Who → Bool → List ℕ
+triplet_for s who host = if host then s.host.name else triplet_of who

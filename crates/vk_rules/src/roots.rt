@@ -1,0 +1,92 @@
+//! The root, and the triplets that a plan is made for.
+ghost use Rattle.std.specs.Prelude.{◌≡◌, bytes_eq};
+ghost use Rattle.vk_resolution.specs.Settings.{marks_of, triplet_of, is_own, is_root};
+ghost use Rattle.vk_resolution.specs.Settings.{same_instance};
+ghost use Rattle.vk_model.specs.SettingViews.{instance_view};
+ghost use Rattle.vk_model.specs.FactViews.{who_view};
+ghost use Rattle.vk_rules.specs.Roots.{root_setting, name_view, instance_at, triplet_for};
+
+use vk_base::{Instance, PortName, TripletName};
+use vk_expr::Marks;
+use vk_model::{Manifest, Who};
+use vk_triplet::{Triplet, native_rule};
+
+/// A root manifest, with the triplets of the target and of the host.
+#[derive(Clone, Copy, Drop)]
+pub(crate) struct Root<'a> {
+    pub manifest: &'a Manifest,
+    pub target: &'a Triplet,
+    pub host: &'a Triplet,
+}
+
+fn is_triplet(one: &TripletName, other: &TripletName) -> bool
+    ensures { result ≡ bytes_eq one.now other.now }
+{
+    one == other
+}
+
+// The triplet of who has requirements.
+pub(crate) fn triplet_of(who: &Who) -> &TripletName
+    ensures { result.now ≡ triplet_of (who_view who.now) }
+{
+    match who {
+        Who::Root(triplet) => triplet,
+        Who::Inst(inst) => &inst.triplet,
+    }
+}
+
+// Whether an instance is that of a port for a triplet.
+fn is_instance(inst: &Instance, port: &PortName, triplet: &TripletName) -> bool
+    ensures { result ≡ same_instance (instance_view inst.now) (instance_at port.now triplet.now) }
+{
+    inst.port == *port && inst.triplet == *triplet
+}
+
+// Whether a port for a triplet is the root's own instance.
+fn is_named(
+    name: &Option<PortName>,
+    own: &TripletName,
+    port: &PortName,
+    triplet: &TripletName,
+) -> bool
+    ensures { result ≡ is_root (name_view name.now) own.now (instance_at port.now triplet.now) }
+{
+    match name {
+        Some(name) => name == port && own == triplet,
+        None => false,
+    }
+}
+
+impl<'a> Root<'a> {
+    /// The marks that hold for the instances of a triplet.
+    pub fn marks(self, triplet: &TripletName) -> &'a Marks
+        ensures { result.now.names ≡ marks_of (root_setting self.entry) triplet.now }
+    {
+        native_rule();
+        if is_triplet(triplet, self.host.name()) {
+            return self.host.marks(true);
+        }
+        self.target.marks(false)
+    }
+
+    /// The triplet that a dependency is for.
+    pub fn triplet_for(self, who: &'a Who, host: bool) -> &'a TripletName
+        ensures { result.now ≡ triplet_for (root_setting self.entry) (who_view who.now) host }
+    {
+        if host {
+            return self.host.name();
+        }
+        triplet_of(who)
+    }
+
+    /// Whether a port for a triplet is the instance of the one who depends.
+    pub fn is_own(self, who: &Who, port: &PortName, triplet: &TripletName) -> bool
+        ensures { result ≡ is_own (root_setting self.entry) (who_view who.now)
+            (instance_at port.now triplet.now) }
+    {
+        match who {
+            Who::Root(own) => is_named(&self.manifest.name, own, port, triplet),
+            Who::Inst(inst) => is_instance(inst, port, triplet),
+        }
+    }
+}

@@ -1,0 +1,239 @@
+//! The rules of a setting.
+ghost use Rattle.std.specs.Prelude.{◌≡◌, ◌++◌, ◌+◌, OnOk, IfOk, map, flat_map};
+ghost use Rattle.indexmap.specs.IndexSet.{insert_key};
+ghost use Rattle.vk_resolution.specs.Settings.{marks_of, triplet_of, is_own, is_off};
+ghost use Rattle.vk_resolution.specs.Asking.{asked_by, asked_of};
+ghost use Rattle.vk_base.specs.FeatureViews.{feature_view};
+ghost use Rattle.vk_model.specs.Views.{manifest_view, dependency_view};
+ghost use Rattle.vk_model.specs.SettingViews.{instance_view, setting_view};
+ghost use Rattle.vk_model.specs.FactViews.{fact_view, who_view};
+ghost use Rattle.vk_rules.specs.Roots.{instance_at, triplet_for, root_setting};
+ghost use Rattle.vk_rules.specs.Asked.{facts_view, asked_where, asked_each};
+ghost use Rattle.vk_rules.specs.Offs.{AreOff, is_same};
+
+use crate::asking::{push_other, push_own, push_uses};
+use crate::manifests::{defaults_of, dependencies_of};
+use crate::roots::{Root, triplet_of};
+use indexmap::IndexSet;
+use std::alloc::Global;
+use std::marker::Model;
+use std::sync::ledger::Ledger;
+use vk_base::{FeatureName, Instance, List, Memory, PortName, Steps, TripletName};
+use vk_expr::{Marks, truth};
+use vk_model::{Dependency, Fact, Manifest, Setting, Who};
+
+/// The rules of a setting, ready to be asked: whether an instance is off is a look-up, and marks
+/// are those that the triplets keep. Contracts see the setting.
+#[derive(Drop)]
+pub struct Rules<'a> {
+    setting: &'a Setting,
+    off: IndexSet<Instance>,
+}
+
+impl<'a> Model for Rules<'a> {
+    ghost use Rattle.std.specs.Coded.{codes};
+    ghost use Rattle.vk_expr.specs.contracts.exprs.Expr as e;
+    ghost use Rattle.vk_model.specs.declared.settings.Setting.{Setting};
+    ghost use Rattle.vk_rules.specs.Offs.{AreOff};
+
+    ghost Value = { Setting };
+
+    ghost coded = { Prim.hlevel (codes, e.the_row.coded) };
+
+    ghost view = { λ r. r.setting.now };
+
+    ghost invariant = { λ r. AreOff r.setting.now.off r.off.keys };
+}
+
+// An instance of a port for a triplet.
+fn instance_of(port: &PortName, triplet: &TripletName) -> Result<Instance, Memory>
+    ensures { IfOk result (λ i. instance_view i ≡ instance_at port.now triplet.now) }
+{
+    Ok(Instance {
+        port: port.clone()?,
+        triplet: triplet.clone()?,
+    })
+}
+
+// Puts an instance into a set, unless it is there.
+fn put(set: &mut IndexSet<Instance>, instance: &Instance) -> Result<(), Memory>
+    ensures { OnOk result (set.new.keys ≡ insert_key is_same set.old.keys instance.now) }
+{
+    set.insert(instance.clone()?)?;
+    Ok(())
+}
+
+// The instances of a list, ready to be looked up.
+fn set_of(alloc: Global, instances: &[Instance]) -> Result<IndexSet<Instance>, Memory>
+    ensures { IfOk result (λ set. AreOff instances.now set.keys) }
+{
+    let mut set = IndexSet::new(alloc);
+    for instance in instances {
+        put(&mut set, instance)?;
+    }
+    Ok(set)
+}
+
+impl<'a> Rules<'a> {
+    /// The rules of a setting.
+    pub fn new(alloc: Global, setting: &'a Setting) -> Result<Rules<'a>, Memory>
+        ensures { IfOk result (λ r. r ≡ setting.now) }
+    {
+        let off = set_of(alloc, setting.off.as_slice())?;
+        Ok(Rules { setting, off })
+    }
+
+    // The root and the triplets.
+    fn root(&self) -> Root<'_>
+        ensures root { (root_setting result).root ≡ (setting_view self.now).root }
+        ensures target { (root_setting result).target ≡ (setting_view self.now).target }
+        ensures host { (root_setting result).host ≡ (setting_view self.now).host }
+    {
+        Root {
+            manifest: &self.setting.root,
+            target: &self.setting.target,
+            host: &self.setting.host,
+        }
+    }
+
+    // The triplet that a dependency of someone is for.
+    fn triplet_for<'b>(&'b self, who: &'b Who, host: bool) -> &'b TripletName
+        ensures { result.now ≡ triplet_for (setting_view self.now) (who_view who.now) host }
+    {
+        self.root().triplet_for(who, host)
+    }
+
+    // Whether a port for a triplet is the instance of the one who depends.
+    fn is_own(&self, who: &Who, port: &PortName, triplet: &TripletName) -> bool
+        ensures { result ≡ is_own (setting_view self.now) (who_view who.now)
+            (instance_at port.now triplet.now) }
+    {
+        self.root().is_own(who, port, triplet)
+    }
+
+    // Whether default features are never asked for an instance.
+    fn is_off(&self, instance: &Instance) -> bool
+        ensures { result ≡ is_off (setting_view self.now) (instance_view instance.now) }
+    {
+        self.off.contains(instance)
+    }
+}
+
+// What a dependency asks for.
+fn push_asked(
+    rules: &Rules<'_>,
+    who: &Who,
+    marks: &Marks,
+    dependency: &Dependency,
+    facts: &mut List<Fact>,
+) -> Result<(), Memory>
+    requires { marks.now.names ≡ marks_of (setting_view rules.now) (triplet_of (who_view who.now)) }
+    ensures { OnOk result (facts_view facts.new ≡ facts_view facts.old
+        ++ asked_by (setting_view rules.now) (who_view who.now) (dependency_view dependency.now)) }
+{
+    let triplet = rules.triplet_for(who, dependency.host);
+    if rules.is_own(who, &dependency.name, triplet) {
+        return push_own(who, marks, dependency, facts);
+    }
+    let other = instance_of(&dependency.name, triplet)?;
+    let off = rules.is_off(&other);
+    push_other(&Who::Inst(other), off, marks, dependency, facts)
+}
+
+fn push_applicable(
+    rules: &Rules<'_>,
+    who: &Who,
+    marks: &Marks,
+    dependency: &Dependency,
+    facts: &mut List<Fact>,
+) -> Result<(), Memory>
+    requires { marks.now.names ≡ marks_of (setting_view rules.now) (triplet_of (who_view who.now)) }
+    ensures { OnOk result (facts_view facts.new ≡ facts_view facts.old
+        ++ asked_where (setting_view rules.now) (who_view who.now) dependency.now) }
+{
+    if truth(&dependency.platform, marks) {
+        return push_asked(rules, who, marks, dependency, facts);
+    }
+    Ok(())
+}
+
+// What dependencies ask for, where they apply.
+fn push_all(
+    rules: &Rules<'_>,
+    who: &Who,
+    marks: &Marks,
+    dependencies: &[Dependency],
+    facts: &mut List<Fact>,
+) -> Result<(), Memory>
+    requires { marks.now.names ≡ marks_of (setting_view rules.now) (triplet_of (who_view who.now)) }
+    ensures { OnOk result (facts_view facts.new ≡ facts_view facts.old
+        ++ asked_each (setting_view rules.now) (who_view who.now) (map dependency_view dependencies.now)) }
+{
+    for dependency in dependencies {
+        push_applicable(rules, who, marks, dependency, facts)?;
+    }
+    Ok(())
+}
+
+// What a feature of a manifest asks for.
+fn asked_of(
+    alloc: Global,
+    rules: &Rules<'_>,
+    who: &Who,
+    feature: &FeatureName,
+    manifest: &Manifest,
+) -> Result<List<Fact>, Memory>
+    ensures { IfOk result (λ l. map fact_view l ≡ asked_of (setting_view rules.now)
+        (who_view who.now) (feature_view feature.now) (manifest_view manifest.now)) }
+{
+    let marks = rules.root().marks(triplet_of(who));
+    let mut facts = List::new(alloc);
+    push_all(
+        rules,
+        who,
+        marks,
+        dependencies_of(manifest, feature),
+        &mut facts,
+    )?;
+    push_uses(who, defaults_of(manifest, feature), marks, &mut facts)?;
+    Ok(facts)
+}
+
+impl<'a> Rules<'a> {
+    /// What a feature of a manifest asks for, in the order of its dependencies, where the manifest
+    /// is that of the root or of an instance: each minimum as a floor, also of pinned ports. It is
+    /// one step.
+    pub fn consequences<L: Ledger>(
+        &self,
+        alloc: Global,
+        who: &Who,
+        feature: &FeatureName,
+        manifest: &Manifest,
+        steps: &mut Steps<L>,
+    ) -> Result<List<Fact>, Memory>
+        ensures facts { IfOk result (λ l. map fact_view l ≡ asked_of (setting_view self.now)
+            (who_view who.now) (feature_view feature.now) (manifest_view manifest.now)) }
+        ensures ticks { steps.new ≡ steps.old + 1 }
+    {
+        steps.tick();
+        asked_of(alloc, self, who, feature, manifest)
+    }
+}
+
+/// The same for a setting that is asked once.
+pub fn consequences<L: Ledger>(
+    alloc: Global,
+    setting: &Setting,
+    who: &Who,
+    feature: &FeatureName,
+    manifest: &Manifest,
+    steps: &mut Steps<L>,
+) -> Result<List<Fact>, Memory>
+    ensures facts { IfOk result (λ l. map fact_view l ≡ asked_of (setting_view setting.now)
+        (who_view who.now) (feature_view feature.now) (manifest_view manifest.now)) }
+    ensures ticks { steps.new ≡ steps.old + 1 }
+{
+    steps.tick();
+    let rules = Rules::new(alloc, setting)?;
+    asked_of(alloc, &rules, who, feature, manifest)
+}
