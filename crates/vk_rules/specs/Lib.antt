@@ -3,3 +3,5 @@
 pub mod Roots
 pub mod Offs
 pub mod Asked
+pub mod AskedNames
+pub mod NamedInstances

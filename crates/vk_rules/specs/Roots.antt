@@ -1,7 +1,9 @@
 -- What contracts see of a root with its triplets: a setting with nothing besides.
 use Rattle.std.specs.Prelude.{ℕ, Bool, false, List, [], map, Option, if◌then◌else◌}
 use Rattle.vk_spec.specs.Settings.{Setting, Instance}
-use Rattle.vk_resolution.specs.Settings.{Who, triplet_of}
+use Rattle.vk_resolution.specs.Settings.{Who, root, triplet_of, instance_of, is_own}
+use Rattle.vk_spec.specs.Conditions.{Condition}
+use Rattle.vk_spec.specs.Manifests.{Dependency}
 use Rattle.vk_triplet.specs.Meanings.{meaning_of}
 use Rattle.vk_base.specs.declared.names.PortName.{PortName}
 use Rattle.vk_model.specs.Views.{manifest_view}
@@ -20,3 +22,11 @@ instance_at port triplet = record { port = port; triplet = triplet }
 -- the triplet that a dependency of someone is for
 abbrev pub triplet_for : Setting → Who → Bool → List ℕ
 triplet_for s who host = if host then s.host.name else triplet_of who
+
+-- the instance that a dependency of the root is on
+abbrev pub at_root : Setting → Dependency Condition → Instance
+at_root s d = instance_of s (root s.target.name) d
+
+-- whether that is the root's own
+abbrev pub is_on_root : Setting → Dependency Condition → Bool
+is_on_root s d = is_own s (root s.target.name) (at_root s d)

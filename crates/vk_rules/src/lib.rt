@@ -3,9 +3,13 @@
 //! It promises upwards that both answers are the whole lists of the definitions, in their order.
 #![tactic(auto)]
 
+mod asked_features;
 mod asking;
+mod instance_sets;
 mod manifests;
+mod off_lists;
 mod roots;
 mod setting_rules;
 
+pub use off_lists::off_list;
 pub use setting_rules::{Rules, consequences};

@@ -5,10 +5,12 @@ ghost use Rattle.vk_resolution.specs.Settings.{same_instance};
 ghost use Rattle.vk_model.specs.SettingViews.{instance_view};
 ghost use Rattle.vk_model.specs.FactViews.{who_view};
 ghost use Rattle.vk_rules.specs.Roots.{root_setting, name_view, instance_at, triplet_for};
+ghost use Rattle.vk_rules.specs.Roots.{at_root, is_on_root};
+ghost use Rattle.vk_model.specs.Views.{dependency_view};
 
 use vk_base::{Instance, PortName, TripletName};
 use vk_expr::Marks;
-use vk_model::{Manifest, Who};
+use vk_model::{Dependency, Manifest, Who};
 use vk_triplet::{Triplet, native_rule};
 
 /// A root manifest, with the triplets of the target and of the host.
@@ -88,5 +90,35 @@ impl<'a> Root<'a> {
             Who::Root(own) => is_named(&self.manifest.name, own, port, triplet),
             Who::Inst(inst) => is_instance(inst, port, triplet),
         }
+    }
+
+    /// The marks that hold for the root.
+    pub fn own_marks(self) -> &'a Marks
+        ensures { result.now.names ≡ marks_of (root_setting self.entry) self.entry.target.now.name }
+    {
+        self.marks(self.target.name())
+    }
+
+    /// The triplet that a dependency of the root is for.
+    pub fn triplet_of(self, dependency: &Dependency) -> &'a TripletName
+        ensures { result.now
+            ≡ (at_root (root_setting self.entry) (dependency_view dependency.now)).triplet }
+    {
+        if dependency.host {
+            return self.host.name();
+        }
+        self.target.name()
+    }
+
+    /// Whether a dependency of the root is on the root's own instance.
+    pub fn is_on_itself(self, dependency: &Dependency) -> bool
+        ensures { result ≡ is_on_root (root_setting self.entry) (dependency_view dependency.now) }
+    {
+        is_named(
+            &self.manifest.name,
+            self.target.name(),
+            &dependency.name,
+            self.triplet_of(dependency),
+        )
     }
 }

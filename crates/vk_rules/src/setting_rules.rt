@@ -1,6 +1,5 @@
 //! The rules of a setting.
 ghost use Rattle.std.specs.Prelude.{◌≡◌, ◌++◌, ◌+◌, OnOk, IfOk, map, flat_map};
-ghost use Rattle.indexmap.specs.IndexSet.{insert_key};
 ghost use Rattle.vk_resolution.specs.Settings.{marks_of, triplet_of, is_own, is_off};
 ghost use Rattle.vk_resolution.specs.Asking.{asked_by, asked_of};
 ghost use Rattle.vk_base.specs.FeatureViews.{feature_view};
@@ -9,9 +8,9 @@ ghost use Rattle.vk_model.specs.SettingViews.{instance_view, setting_view};
 ghost use Rattle.vk_model.specs.FactViews.{fact_view, who_view};
 ghost use Rattle.vk_rules.specs.Roots.{instance_at, triplet_for, root_setting};
 ghost use Rattle.vk_rules.specs.Asked.{facts_view, asked_where, asked_each};
-ghost use Rattle.vk_rules.specs.Offs.{AreOff, is_same};
 
 use crate::asking::{push_other, push_own, push_uses};
+use crate::instance_sets::set_of;
 use crate::manifests::{defaults_of, dependencies_of};
 use crate::roots::{Root, triplet_of};
 use indexmap::IndexSet;
@@ -53,25 +52,6 @@ fn instance_of(port: &PortName, triplet: &TripletName) -> Result<Instance, Memor
         port: port.clone()?,
         triplet: triplet.clone()?,
     })
-}
-
-// Puts an instance into a set, unless it is there.
-fn put(set: &mut IndexSet<Instance>, instance: &Instance) -> Result<(), Memory>
-    ensures { OnOk result (set.new.keys ≡ insert_key is_same set.old.keys instance.now) }
-{
-    set.insert(instance.clone()?)?;
-    Ok(())
-}
-
-// The instances of a list, ready to be looked up.
-fn set_of(alloc: Global, instances: &[Instance]) -> Result<IndexSet<Instance>, Memory>
-    ensures { IfOk result (λ set. AreOff instances.now set.keys) }
-{
-    let mut set = IndexSet::new(alloc);
-    for instance in instances {
-        put(&mut set, instance)?;
-    }
-    Ok(set)
 }
 
 impl<'a> Rules<'a> {

@@ -2,7 +2,7 @@ use Rattle.std.proofs.Common.{subst}
 use Rattle.std.proofs.lemmas.List.{take_all}
 use Rattle.vk_rules.specs.Offs.{AreOff}
 use Rattle.vk_rules.proofs.OffSetLemmas.{off_more}
-use Rattle.vk_rules.proofs.setting_rules.set_of.Goals as goal
+use Rattle.vk_rules.proofs.instance_sets.set_of.Goals as goal
 
 pub loop-instance-preserved : goal.loop-instance-preserved
 loop-instance-preserved c =

@@ -1,0 +1,47 @@
+-- What contracts see of the instances that a root names.
+use Rattle.std.specs.Prelude.{◌&&◌, ◌||◌, not, ℕ, Bool, List, [], ◌∷◌, map, filter, flat_map, if◌then◌else◌}
+use Rattle.vk_spec.specs.Conditions.{Condition, holds}
+use Rattle.vk_spec.specs.Manifests.{Manifest, Dependency}
+use Rattle.vk_spec.specs.Settings.{Setting, Triplet}
+use Rattle.vk_spec.specs.Settings as plain
+use Rattle.vk_resolution.specs.Settings.{Marks, root, applicable_of}
+use Rattle.vk_base.specs.declared.instances.Instance.{Instance}
+use Rattle.vk_model.specs.SettingViews.{instance_view}
+use Rattle.vk_model.specs.Views.{dependency_view}
+use Rattle.vk_model.specs.declared.manifests.Dependency as code
+use Rattle.vk_rules.specs.declared.roots.Root.{Root}
+use Rattle.vk_rules.specs.Roots.{root_setting, at_root, is_on_root}
+
+-- the setting of these, with these instances off and as many requirements at most
+abbrev pub setting_of : Manifest Condition → Triplet → Triplet → List (List ℕ) → Bool → List plain.Instance → ℕ → Setting
+setting_of manifest target host features defaults off most = record { root = manifest; target = target; host = host; features = features; defaults = defaults; off = off; max_facts = most }
+
+-- the setting of a root
+abbrev pub setting_at : Root → List (List ℕ) → Bool → List plain.Instance → ℕ → Setting
+setting_at r = setting_of (root_setting r).root (root_setting r).target (root_setting r).host
+
+abbrev pub instances_view : List Instance → List plain.Instance
+instances_view = map instance_view
+
+-- each dependency counts, or only those that want default features
+abbrev pub counts : Bool → Dependency Condition → Bool
+counts only d = not only || d.defaults
+
+-- whether a dependency of the root applies, is on another instance, and counts
+abbrev pub is_counted : Setting → Marks → Bool → Dependency Condition → Bool
+is_counted s marks only d = (holds d.platform marks && not (is_on_root s d)) && counts only d
+
+-- the instance that it then names
+abbrev pub named_where : Setting → Marks → Bool → code.Dependency → List plain.Instance
+named_where s marks only d = if is_counted s marks only (dependency_view d) then at_root s (dependency_view d) ∷ [] else []
+
+abbrev pub named_each : Setting → Marks → Bool → List code.Dependency → List plain.Instance
+named_each s marks only ds = flat_map (named_where s marks only) ds
+
+-- the instances that a feature of the root names
+abbrev pub named_in : Setting → Bool → List ℕ → List plain.Instance
+named_in s only f = map (at_root s) (filter (counts only) (filter (λ d. not (is_on_root s d)) (applicable_of s (root s.target.name) f s.root)))
+
+-- the instances that features of the root name
+abbrev pub named_of : Setting → Bool → List (List ℕ) → List plain.Instance
+named_of s only features = flat_map (named_in s only) features
