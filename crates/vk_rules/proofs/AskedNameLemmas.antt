@@ -47,7 +47,7 @@ module _ (s : Setting) where
   own_step d ds marks false b own rest at = rest
   own_step d ds marks true true own rest at =
       let here : names_of marks (map use_view d.features) ≡ asked_of_root_by s (dependency_view d) =
-        ap (λ m. names_of m (map use_view d.features)) at ∙ sym (ap (λ c. cond c (names_of (marks_of s s.target.name) (map use_view d.features)) []) own) in
+      ap (λ m. names_of m (map use_view d.features)) at ∙ sym (ap (λ c. cond c (names_of (marks_of s s.target.name) (map use_view d.features)) []) own) in
       ap (λ l. l ++ names_each s marks ds) here ∙ ap (λ l. asked_of_root_by s (dependency_view d) ++ l) rest
   own_step d ds marks true false own rest at =
       let here : [] ≡ asked_of_root_by s (dependency_view d) = sym (ap (λ c. cond c (names_of (marks_of s s.target.name) (map use_view d.features)) []) own) in
@@ -69,10 +69,10 @@ module _ (s : Setting) where
       → names_view new ≡ (root_rules_of s).alone f
   asked_made f marks ds us before made new none first second at listed by_default =
       let own : names_each s marks ds ≡ flat_map (asked_of_root_by s) (filter (λ e. holds e.platform (marks_of s s.target.name)) (dependencies_of s.root f)) =
-        own_each marks ds at ∙ ap (λ m. flat_map (asked_of_root_by s) (filter (λ e. holds e.platform m) (map dependency_view ds))) at
-        ∙ ap (λ l. flat_map (asked_of_root_by s) (filter (λ e. holds e.platform (marks_of s s.target.name)) l)) listed in
+      own_each marks ds at ∙ ap (λ m. flat_map (asked_of_root_by s) (filter (λ e. holds e.platform m) (map dependency_view ds))) at
+      ∙ ap (λ l. flat_map (asked_of_root_by s) (filter (λ e. holds e.platform (marks_of s s.target.name)) l)) listed in
       let defaults : names_of marks (map use_view us) ≡ (if bytes_eq f default then names_of (marks_of s s.target.name) s.root.default_features else []) =
-        ap (names_of marks) by_default ∙ default_names marks (bytes_eq f default) s.root.default_features ∙ ap (λ m. if bytes_eq f default then names_of m s.root.default_features else []) at in
+      ap (names_of marks) by_default ∙ default_names marks (bytes_eq f default) s.root.default_features ∙ ap (λ m. if bytes_eq f default then names_of m s.root.default_features else []) at in
       second ∙ ap (λ l. l ++ names_of marks (map use_view us)) (first ∙ ap (λ l. names_view l ++ names_each s marks ds) none)
       ∙ ap (λ l. names_each s marks ds ++ l) defaults ∙ ap (λ l. l ++ (if bytes_eq f default then names_of (marks_of s s.target.name) s.root.default_features else [])) own
 
@@ -94,7 +94,7 @@ module _ (rules : Rules (List ℕ)) where
       let inside : n < length old = slice_get_within old n f at in
       let fits : n + 1 ≤ length old = omega (arith, inside) in
       let taken : take (n + 1) new ≡ take n old ++ f ∷ [] =
-        ap (take (n + 1)) grows.kept ∙ take-append-le (n + 1) old grows.more fits ∙ take_more old n f inside ∙ ap (λ k. take n old ++ k ∷ []) (get_or_from_slice_get old n f f at) in
+      ap (take (n + 1)) grows.kept ∙ take-append-le (n + 1) old grows.more fits ∙ take_more old n f inside ∙ ap (λ k. take n old ++ k ∷ []) (get_or_from_slice_get old n f f at) in
       let seen : names_view (take (n + 1) new) ≡ names_view (take n old) ++ feature_view f ∷ [] = ap names_view taken ∙ map-append feature_view (take n old) (f ∷ []) in
       let here : Contains (names_view old) (feature_view f) = map_contains feature_view old f (n, inside, get_or_from_slice_get old n f f at) in
       record {

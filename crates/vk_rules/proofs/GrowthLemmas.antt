@@ -69,5 +69,5 @@ pub grows_next : {old mid new : List FeatureName} (names : List FeatureName) (n 
     → Grows old mid (names_view (take n names)) → Grows mid new (feature_view name ∷ []) → Grows old new (names_view (take (n + 1) names))
 grows_next {old} {mid} {new} names n name within at one two =
     let seen : names_view (take n names) ++ feature_view name ∷ [] ≡ names_view (take (n + 1) names) =
-      sym (names_push (take n names) name) ∙ ap (λ k. names_view (take n names ++ k ∷ [])) at ∙ ap names_view (sym (take_more names n name within)) in
+    sym (names_push (take n names) name) ∙ ap (λ k. names_view (take n names ++ k ∷ [])) at ∙ ap names_view (sym (take_more names n name within)) in
     subst (Grows old new) seen (grows_then one two)

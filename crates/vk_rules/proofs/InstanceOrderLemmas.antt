@@ -49,8 +49,8 @@ pub sorted_ascends : (is : List Instance) → IsStrictlySortedBy instance_order 
 sorted_ascends [] sorted = tt
 sorted_ascends (i ∷ is) sorted = (
   (λ j h. (
-  let k = contains_map instance_view is j h in
-  subst (λ l. key_cmp (instance_key (instance_view i)) (instance_key l) ≡ Less) k.2 (key_order i k.0 ∙ holds_of (λ l. instance_order i l ≡ Less) is (sorted_head instance_order i is sorted) k.0 k.1)
-  )),
+      let k = contains_map instance_view is j h in
+      subst (λ l. key_cmp (instance_key (instance_view i)) (instance_key l) ≡ Less) k.2 (key_order i k.0 ∙ holds_of (λ l. instance_order i l ≡ Less) is (sorted_head instance_order i is sorted) k.0 k.1)
+      )),
   sorted_ascends is (sorted_tail instance_order i is sorted),
 )

@@ -34,12 +34,6 @@ module _ {X : Type 0} (test : X → Bool) (x : X) (xs : List X) where
 -- ---- what a feature names, as its dependencies were gone through
 
 module _ (s : Setting) (marks : Marks) (only : Bool) where
-  is_other : Dependency Condition → Bool
-  is_other d = not (is_on_root s d)
-
-  applying : List code.Dependency → List (Dependency Condition)
-  applying ds = filter (λ d. holds d.platform marks) (map dependency_view ds)
-
   named_step : (d : Dependency Condition) (ds : List (Dependency Condition)) (rest : List plain.Instance) (a b c : Bool) → not (is_on_root s d) ≡ b → counts only d ≡ c
       → rest ≡ map (at_root s) (filter (counts only) (filter (λ e. not (is_on_root s e)) ds))
       → cond ((a && b) && c) (at_root s d ∷ []) [] ++ rest ≡ map (at_root s) (filter (counts only) (filter (λ e. not (is_on_root s e)) (cond a (d ∷ ds) ds)))
@@ -113,26 +107,29 @@ module _ (s : Setting) (features : List (List ℕ)) (named wanted keys : List In
   off_by_is j h =
       let r = contains_filter (λ j. list_all (λ e. not (same_instance (at_root s e) j && e.defaults)) (named_by s features)) (map (at_root s) (named_by s features)) j h in
       let d = contains_map (at_root s) (named_by s features) j r.0 in
-      let i = contains_map instance_view named j (subst (λ l. Contains l j) (sym all) (subst (Contains (named_of s false features)) d.2 (has_named s features false d.0 d.1 refl))) in
-      (i.0, filter_contains (λ k. not (has_instance keys k)) named i.0 i.1 (not_false _ (no_is_false _ (λ held. (
-      let e = from_set i.0 held in
-      let named_so : same_instance (at_root s e.0) j ≡ true = (same_instance-Decides (at_root s e.0) j).1 (e.2 ∙ i.2) in
-      let passes = all_contains (λ e. not (same_instance (at_root s e) j && e.defaults)) (named_by s features) r.1 e.0 e.1 in
-      true_false (same_instance (at_root s e.0) j && e.0.defaults) (ap (λ b. b && e.0.defaults) named_so ∙ e.3) (not_true _ passes)
-      )))), i.2)
+      let i = contains_map instance_view named j (subst (λ l. Contains l j) (sym all) (subst (Contains (named_of s false features)) d.2 (has_named s features false d.0 d.1 refl))) in (
+        i.0,
+        filter_contains (λ k. not (has_instance keys k)) named i.0 i.1 (not_false _ (no_is_false _ (λ held. (
+            let e = from_set i.0 held in
+            let named_so : same_instance (at_root s e.0) j ≡ true = (same_instance-Decides (at_root s e.0) j).1 (e.2 ∙ i.2) in
+            let passes = all_contains (λ e. not (same_instance (at_root s e) j && e.defaults)) (named_by s features) r.1 e.0 e.1 in
+            true_false (same_instance (at_root s e.0) j && e.0.defaults) (ap (λ b. b && e.0.defaults) named_so ∙ e.3) (not_true _ passes)
+            )))),
+        i.2,
+      )
 
   pub off_listing : IsLeast (root_rules_of s) features → (off : List Instance) → Ascends instance_key (instances_view off)
       → ((i : Instance) → Contains off i ↔ Contains (filter (λ k. not (has_instance keys k)) named) i) → IsListing instance_key (IsOff s) (instances_view off)
   off_listing least off order each = record {
     each = λ j. (
       (λ h. (
-      let i = contains_map instance_view off j h in
-      subst (IsOff s) i.2 (off_is s features least (instance_view i.0) (is_off_by i.0 ((each i.0).0 i.1)))
-      )),
+          let i = contains_map instance_view off j h in
+          subst (IsOff s) i.2 (off_is s features least (instance_view i.0) (is_off_by i.0 ((each i.0).0 i.1)))
+          )),
       (λ is. (
-      let i = off_by_is j (is_in_off s features least j is) in
-      subst (Contains (instances_view off)) i.2 (map_contains instance_view off i.0 ((each i.0).1 i.1))
-      )),
+          let i = off_by_is j (is_in_off s features least j is) in
+          subst (Contains (instances_view off)) i.2 (map_contains instance_view off i.0 ((each i.0).1 i.1))
+          )),
     );
     ascends = order;
   }

@@ -19,10 +19,6 @@ use Rattle.vk_rules.specs.Roots.{root_setting, is_on_root}
 abbrev pub names_view : List FeatureName → List (List ℕ)
 names_view = map feature_view
 
--- the setting of a root and the words
-abbrev pub words_setting : Root → List (List ℕ) → Bool → Setting
-words_setting r features defaults = record { root = (root_setting r).root; target = (root_setting r).target; host = (root_setting r).host; features = features; defaults = defaults; off = []; max_facts = 0 }
-
 -- a name, where its condition holds
 abbrev pub name_where : Marks → code_use.FeatureUse → List (List ℕ)
 name_where marks u = if holds (condition_of u.platform) marks then feature_view u.name ∷ [] else []

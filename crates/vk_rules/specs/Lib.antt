@@ -1,4 +1,5 @@
 -- what is promised
+pub mod RootSettings
 -- what functions, laws and examples say besides
 pub mod Roots
 pub mod Offs

@@ -12,14 +12,6 @@ use Rattle.vk_model.specs.declared.manifests.Dependency as code
 use Rattle.vk_rules.specs.declared.roots.Root.{Root}
 use Rattle.vk_rules.specs.Roots.{root_setting, at_root, is_on_root}
 
--- the setting of these, with these instances off and as many requirements at most
-abbrev pub setting_of : Manifest Condition → Triplet → Triplet → List (List ℕ) → Bool → List plain.Instance → ℕ → Setting
-setting_of manifest target host features defaults off most = record { root = manifest; target = target; host = host; features = features; defaults = defaults; off = off; max_facts = most }
-
--- the setting of a root
-abbrev pub setting_at : Root → List (List ℕ) → Bool → List plain.Instance → ℕ → Setting
-setting_at r = setting_of (root_setting r).root (root_setting r).target (root_setting r).host
-
 abbrev pub instances_view : List Instance → List plain.Instance
 instances_view = map instance_view
 

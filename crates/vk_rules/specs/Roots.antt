@@ -1,4 +1,4 @@
--- What contracts see of a root with its triplets: a setting with nothing besides.
+-- What contracts see of a root with its triplets: a setting.
 use Rattle.std.specs.Prelude.{ℕ, Bool, false, List, [], map, Option, if◌then◌else◌}
 use Rattle.vk_spec.specs.Settings.{Setting, Instance}
 use Rattle.vk_resolution.specs.Settings.{Who, root, triplet_of, instance_of, is_own}
@@ -7,11 +7,16 @@ use Rattle.vk_spec.specs.Manifests.{Dependency}
 use Rattle.vk_triplet.specs.Meanings.{meaning_of}
 use Rattle.vk_base.specs.declared.names.PortName.{PortName}
 use Rattle.vk_model.specs.Views.{manifest_view}
+use Rattle.vk_rules.specs.RootSettings.{setting_of}
 use Rattle.vk_rules.specs.declared.roots.Root.{Root}
 
--- a root and its triplets, with no words and nothing off
+-- a root and its triplets, with these words, these instances off, and at most as many requirements
+abbrev pub setting_at : Root → List (List ℕ) → Bool → List Instance → ℕ → Setting
+setting_at r = setting_of (manifest_view r.manifest.now) (meaning_of r.target.now) (meaning_of r.host.now)
+
+-- with no words and nothing off
 abbrev pub root_setting : Root → Setting
-root_setting r = record { root = manifest_view r.manifest.now; target = meaning_of r.target.now; host = meaning_of r.host.now; features = []; defaults = false; off = []; max_facts = 0 }
+root_setting r = setting_at r [] false [] 0
 
 abbrev pub name_view : Option PortName → Option (List ℕ)
 name_view name = name

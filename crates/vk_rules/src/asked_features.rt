@@ -8,8 +8,8 @@ ghost use Rattle.vk_resolution.specs.Settings.{marks_of, names_of, applicable_of
 ghost use Rattle.vk_resolution.specs.Settings.{asked_of_root_by, first_features_of, root_rules_of};
 ghost use Rattle.vk_base.specs.FeatureViews.{feature_view};
 ghost use Rattle.vk_model.specs.Views.{use_view, dependency_view};
-ghost use Rattle.vk_rules.specs.Roots.{root_setting};
-ghost use Rattle.vk_rules.specs.AskedNames.{names_view, words_setting, name_where, asks_itself};
+ghost use Rattle.vk_rules.specs.Roots.{root_setting, setting_at};
+ghost use Rattle.vk_rules.specs.AskedNames.{names_view, name_where, asks_itself};
 ghost use Rattle.vk_rules.specs.AskedNames.{names_where, names_each, is_same_name, Grows};
 
 use crate::manifests::{defaults_of, dependencies_of};
@@ -28,11 +28,7 @@ fn push_name(name: &FeatureName, names: &mut List<FeatureName>) -> Result<(), Me
     Ok(())
 }
 
-fn push_use(
-    wanted: &FeatureUse,
-    marks: &Marks,
-    names: &mut List<FeatureName>,
-) -> Result<(), Memory>
+fn push_use(wanted: &FeatureUse, marks: &Marks, names: &mut List<FeatureName>) -> Result<(), Memory>
     ensures { OnOk result (names_view names.new
         ≡ names_view names.old ++ name_where marks.now.names wanted.now) }
 {
@@ -107,7 +103,12 @@ fn asked_by(
 {
     let marks = root.own_marks();
     let mut names = List::new(alloc);
-    push_all(root, marks, dependencies_of(root.manifest, feature), &mut names)?;
+    push_all(
+        root,
+        marks,
+        dependencies_of(root.manifest, feature),
+        &mut names,
+    )?;
     push_uses(defaults_of(root.manifest, feature), marks, &mut names)?;
     Ok(names)
 }
@@ -171,7 +172,7 @@ pub(crate) fn asked_features(
     defaults: bool,
 ) -> Result<IndexSet<FeatureName>, Memory>
     ensures { IfOk result (λ set. IsLeast
-        (root_rules_of (words_setting root.entry (names_view features.now) defaults))
+        (root_rules_of (setting_at root.entry (names_view features.now) defaults [] 0))
         (names_view set.keys)) }
 {
     let mut names = first_features(alloc, features, defaults)?;

@@ -1,5 +1,6 @@
 //! The instances that a root manifest turns off.
-ghost use Rattle.std.specs.Prelude.{◌≡◌, ◌++◌, ◌∷◌, [], ◌↔◌, ℕ, Bool, true, List, OnOk, IfOk, map, filter, not, false};
+ghost use Rattle.std.specs.Prelude.{◌≡◌, ◌↔◌, ◌++◌, ◌∷◌, [], ℕ, Bool, true, false, not, List};
+ghost use Rattle.std.specs.Prelude.{OnOk, IfOk, map, filter};
 ghost use Rattle.std.specs.List.{Contains};
 ghost use Rattle.vk_spec.specs.Settings as plain;
 ghost use Rattle.vk_resolution.specs.Keys.{Ascends, IsListing};
@@ -12,9 +13,10 @@ ghost use Rattle.vk_triplet.specs.Meanings.{meaning_of};
 ghost use Rattle.vk_model.specs.SettingViews.{instance_view};
 ghost use Rattle.vk_model.specs.Views.{manifest_view, dependency_view};
 ghost use Rattle.vk_rules.specs.Offs.{AreOff, has_instance};
-ghost use Rattle.vk_rules.specs.Roots.{root_setting, at_root};
+ghost use Rattle.vk_rules.specs.RootSettings.{setting_of};
+ghost use Rattle.vk_rules.specs.Roots.{root_setting, setting_at, at_root};
 ghost use Rattle.vk_rules.specs.AskedNames.{names_view};
-ghost use Rattle.vk_rules.specs.NamedInstances.{setting_of, setting_at, instances_view, is_counted};
+ghost use Rattle.vk_rules.specs.NamedInstances.{instances_view, is_counted};
 ghost use Rattle.vk_rules.specs.NamedInstances.{named_where, named_each, named_in, named_of};
 
 use crate::asked_features::asked_features;

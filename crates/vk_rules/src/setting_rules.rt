@@ -147,7 +147,8 @@ fn push_all(
 ) -> Result<(), Memory>
     requires { marks.now.names ≡ marks_of (setting_view rules.now) (triplet_of (who_view who.now)) }
     ensures { OnOk result (facts_view facts.new ≡ facts_view facts.old
-        ++ asked_each (setting_view rules.now) (who_view who.now) (map dependency_view dependencies.now)) }
+        ++ asked_each (setting_view rules.now) (who_view who.now)
+        (map dependency_view dependencies.now)) }
 {
     for dependency in dependencies {
         push_applicable(rules, who, marks, dependency, facts)?;

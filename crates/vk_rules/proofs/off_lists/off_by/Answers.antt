@@ -1,5 +1,5 @@
 use Rattle.vk_rules.specs.AskedNames.{names_view}
-use Rattle.vk_rules.specs.NamedInstances.{setting_at}
+use Rattle.vk_rules.specs.Roots.{setting_at}
 use Rattle.vk_rules.proofs.NamedLemmas.{off_listing}
 use Rattle.vk_rules.proofs.off_lists.off_by.Goals as goal
 

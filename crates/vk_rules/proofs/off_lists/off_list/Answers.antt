@@ -10,7 +10,7 @@ use Rattle.vk_triplet.specs.Meanings.{meaning_of}
 use Rattle.vk_model.specs.SettingViews.{instance_view}
 use Rattle.vk_model.specs.Views.{manifest_view}
 use Rattle.vk_rules.specs.AskedNames.{names_view}
-use Rattle.vk_rules.specs.NamedInstances.{setting_of}
+use Rattle.vk_rules.specs.RootSettings.{setting_of}
 use Rattle.vk_rules.proofs.NamedLemmas.{listing_lists}
 use Rattle.vk_rules.proofs.off_lists.off_list.Goals as goal
 
