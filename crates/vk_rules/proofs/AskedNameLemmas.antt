@@ -1,17 +1,16 @@
 -- The features that are asked of the root.
-use Rattle.std.proofs.Common.{◌≡◌, ◌<◌, ◌≤◌, ◌⊎◌, ◌+◌, ◌&&◌, ℕ, Bool, true, false, cond, List, [], ◌∷◌, ◌++◌, map, filter, flat_map, take, get_or, length, inl, inr, refl, ap, sym, ◌∙◌, subst, arith, if◌then◌else◌}
+use Rattle.std.proofs.Common.{◌≡◌, ◌<◌, ◌≤◌, ◌+◌, ◌&&◌, ℕ, Bool, true, false, cond, List, [], ◌∷◌, ◌++◌, map, filter, flat_map, take, length, inl, inr, refl, ap, sym, ◌∙◌, subst, arith, if◌then◌else◌}
 use Rattle.std.specs.Prelude.{Some, slice_get, bytes_eq}
 use Rattle.std.specs.List.{Contains}
 use Rattle.std.proofs.lemmas.List.{take_all, take_more, map-append, take-append-le}
 use Rattle.std.proofs.lemmas.List.Elements.{Contains-push_cases}
 use Rattle.std.proofs.lemmas.Option.{get_or_from_slice_get, slice_get_within}
-use Rattle.vk_spec.specs.Conditions.{Condition, holds}
-use Rattle.vk_spec.specs.Lists.{NoRepeats, IsWithin}
+use Rattle.vk_spec.specs.Conditions.{holds}
 use Rattle.vk_spec.specs.Manifests.{default}
 use Rattle.vk_spec.specs.Settings.{Setting}
-use Rattle.vk_spec.proofs.ListLemmas.{contains_nothing, contains_first}
-use Rattle.vk_resolution.specs.Least.{Rules, FollowsFrom, from_one, from_two, IsClosed, IsLeast}
-use Rattle.vk_resolution.specs.Settings.{Marks, root, marks_of, names_of, dependencies_of, asked_of_root_by, first_features_of, root_rules_of}
+use Rattle.vk_spec.proofs.ListLemmas.{contains_nothing}
+use Rattle.vk_resolution.specs.Least.{Rules, FollowsFrom, from_one, from_two, IsLeast}
+use Rattle.vk_resolution.specs.Settings.{Marks, marks_of, names_of, dependencies_of, asked_of_root_by, root_rules_of}
 use Rattle.vk_resolution.proofs.Members.{map_contains}
 use Rattle.vk_base.specs.FeatureViews.{feature_view}
 use Rattle.vk_base.specs.declared.features.FeatureName.{FeatureName}
@@ -20,7 +19,7 @@ use Rattle.vk_model.specs.Views.{use_view, dependency_view}
 use Rattle.vk_model.specs.declared.manifests.FeatureUse as code_use
 use Rattle.vk_model.specs.declared.manifests.Dependency as code_dependency
 use Rattle.vk_rules.specs.Roots.{is_on_root}
-use Rattle.vk_rules.specs.AskedNames.{names_view, name_where, asks_itself, names_where, names_each, Grows, IsAskedSoFar}
+use Rattle.vk_rules.specs.AskedNames.{names_view, name_where, names_each, Grows, IsAskedSoFar}
 use Rattle.vk_rules.proofs.GrowthLemmas.{grows_within}
 
 -- ---- what a feature of the root asks of the root

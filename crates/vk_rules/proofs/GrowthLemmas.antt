@@ -1,12 +1,12 @@
 -- Names that are put behind others.
-use Rattle.std.proofs.Common.{◌≡◌, ◌<◌, ◌⊎◌, ◌+◌, ℕ, Bool, true, false, cond, List, [], ◌∷◌, ◌++◌, map, take, get_or, length, inl, inr, refl, ap, sym, ◌∙◌, subst, arith}
+use Rattle.std.proofs.Common.{◌≡◌, ◌<◌, ◌+◌, ℕ, Bool, true, false, cond, List, [], ◌∷◌, ◌++◌, take, get_or, length, inl, inr, refl, ap, sym, ◌∙◌, subst}
 use Rattle.std.specs.List.{Contains, list_any}
 use Rattle.std.proofs.lemmas.List.{append-nil, append_assoc, map-append, take_more}
-use Rattle.std.proofs.lemmas.List.Elements.{Contains-append_left, Contains-append_right, Contains-append_cases, Contains-push_cases}
+use Rattle.std.proofs.lemmas.List.Elements.{Contains-append_left, Contains-append_right, Contains-append_cases}
 use Rattle.std.proofs.lemmas.Slice.Eq.{bytes_eq-Decides}
 use Rattle.indexmap.specs.IndexSet.{insert_key}
 use Rattle.vk_spec.specs.Lists.{NoRepeats, IsWithin}
-use Rattle.vk_spec.proofs.ListLemmas.{contains_nothing, contains_first, no_repeats_push}
+use Rattle.vk_spec.proofs.ListLemmas.{no_repeats_push}
 use Rattle.vk_resolution.proofs.Members.{any_contains, contains_any, contains_map, map_contains, contains_single, true_false}
 use Rattle.vk_base.specs.FeatureViews.{feature_view}
 use Rattle.vk_base.specs.declared.features.FeatureName.{FeatureName}

@@ -1,6 +1,6 @@
 -- A set of instances has what was put into it.
-use Rattle.std.proofs.Common.{◌≡◌, ◌<◌, ◌||◌, ◌+◌, ℕ, Bool, true, false, cond, List, [], ◌∷◌, ◌++◌, map, length, take, get_or, refl, ap, sym, ◌∙◌}
-use Rattle.std.specs.List.{Contains, list_any}
+use Rattle.std.proofs.Common.{◌≡◌, ◌<◌, ◌||◌, ◌+◌, ℕ, Bool, true, false, cond, List, [], ◌∷◌, ◌++◌, length, take, get_or, refl, ap, sym, ◌∙◌}
+use Rattle.std.specs.List.{list_any}
 use Rattle.std.proofs.lemmas.List.Folds.{list_any-append, list_any_more}
 use Rattle.indexmap.specs.IndexSet.{insert_key}
 use Rattle.indexmap.proofs.CallerLemmas.{Contains-list_any}
@@ -8,7 +8,7 @@ use Rattle.vk_resolution.proofs.Members.{contains_any}
 use Rattle.vk_resolution.proofs.FactLemmas.{same_instance-Decides}
 use Rattle.vk_base.specs.declared.instances.Instance.{Instance}
 use Rattle.vk_model.specs.SettingViews.{instance_view}
-use Rattle.vk_rules.specs.Offs.{is_same, has_instance, AreOff}
+use Rattle.vk_rules.specs.Offs.{is_same, AreOff}
 
 pub same_is : (i j : Instance) → is_same i j ≡ true → i ≡ j
 same_is i j e = ap (λ k. record { port = k.port; triplet = k.triplet }) ((same_instance-Decides (instance_view i) (instance_view j)).0 e)

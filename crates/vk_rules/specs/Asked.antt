@@ -1,15 +1,15 @@
 -- What contracts see of facts in the making: what a dependency adds to them.
-use Rattle.std.specs.Prelude.{ℕ, Bool, List, [], ◌∷◌, ◌++◌, map, filter, flat_map, if◌then◌else◌, Option}
+use Rattle.std.specs.Prelude.{Bool, List, [], ◌∷◌, ◌++◌, map, filter, flat_map, if◌then◌else◌, Option}
 use Rattle.vk_spec.specs.Conditions.{Condition, holds}
 use Rattle.vk_spec.specs.Manifests.{Dependency, FeatureUse, core, default}
-use Rattle.vk_spec.specs.Settings.{Setting, Instance}
+use Rattle.vk_spec.specs.Settings.{Setting}
 use Rattle.vk_spec.specs.Versions.{Ask}
-use Rattle.vk_resolution.specs.Settings.{Marks, Who, root, inst, marks_of, triplet_of, names_of, dependencies_of}
+use Rattle.vk_resolution.specs.Settings.{Marks, Who, root, inst, marks_of, triplet_of, names_of}
 use Rattle.vk_resolution.specs.Asking as plain
 use Rattle.vk_resolution.specs.Asking.{asked_by, floor_of}
 use Rattle.vk_expr.specs.Views.{condition_of}
 use Rattle.vk_base.specs.FeatureViews.{feature_view}
-use Rattle.vk_model.specs.Views.{use_view, dependency_view}
+use Rattle.vk_model.specs.Views.{dependency_view}
 use Rattle.vk_model.specs.FactViews.{fact_view}
 use Rattle.vk_model.specs.declared.facts.Fact.{Fact}
 use Rattle.vk_model.specs.declared.manifests.FeatureUse as code_use

@@ -6,15 +6,14 @@ use Rattle.vk_spec.specs.Lists.{NoRepeats, IsWithin}
 use Rattle.vk_spec.specs.Manifests.{Dependency}
 use Rattle.vk_spec.specs.Settings.{Setting}
 use Rattle.vk_resolution.specs.Least.{Rules, IsClosed}
-use Rattle.vk_resolution.specs.Settings.{Marks, marks_of, names_of}
+use Rattle.vk_resolution.specs.Settings.{Marks, names_of}
 use Rattle.vk_base.specs.FeatureViews.{feature_view}
 use Rattle.vk_base.specs.declared.features.FeatureName.{FeatureName}
 use Rattle.vk_expr.specs.Views.{condition_of}
 use Rattle.vk_model.specs.Views.{use_view, dependency_view}
 use Rattle.vk_model.specs.declared.manifests.FeatureUse as code_use
 use Rattle.vk_model.specs.declared.manifests.Dependency as code_dependency
-use Rattle.vk_rules.specs.declared.roots.Root.{Root}
-use Rattle.vk_rules.specs.Roots.{root_setting, is_on_root}
+use Rattle.vk_rules.specs.Roots.{is_on_root}
 
 abbrev pub names_view : List FeatureName → List (List ℕ)
 names_view = map feature_view

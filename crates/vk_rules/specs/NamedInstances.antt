@@ -1,7 +1,7 @@
 -- What contracts see of the instances that a root names.
 use Rattle.std.specs.Prelude.{◌&&◌, ◌||◌, not, ℕ, Bool, List, [], ◌∷◌, map, filter, flat_map, if◌then◌else◌}
 use Rattle.vk_spec.specs.Conditions.{Condition, holds}
-use Rattle.vk_spec.specs.Manifests.{Manifest, Dependency}
+use Rattle.vk_spec.specs.Manifests.{Dependency}
 use Rattle.vk_spec.specs.Settings.{Setting, Triplet}
 use Rattle.vk_spec.specs.Settings as plain
 use Rattle.vk_resolution.specs.Settings.{Marks, root, applicable_of}
@@ -9,8 +9,7 @@ use Rattle.vk_base.specs.declared.instances.Instance.{Instance}
 use Rattle.vk_model.specs.SettingViews.{instance_view}
 use Rattle.vk_model.specs.Views.{dependency_view}
 use Rattle.vk_model.specs.declared.manifests.Dependency as code
-use Rattle.vk_rules.specs.declared.roots.Root.{Root}
-use Rattle.vk_rules.specs.Roots.{root_setting, at_root, is_on_root}
+use Rattle.vk_rules.specs.Roots.{at_root, is_on_root}
 
 abbrev pub instances_view : List Instance → List plain.Instance
 instances_view = map instance_view

@@ -1,5 +1,5 @@
 -- What contracts see of a root with its triplets: a setting.
-use Rattle.std.specs.Prelude.{ℕ, Bool, false, List, [], map, Option, if◌then◌else◌}
+use Rattle.std.specs.Prelude.{ℕ, Bool, false, List, [], Option, if◌then◌else◌}
 use Rattle.vk_spec.specs.Settings.{Setting, Instance}
 use Rattle.vk_resolution.specs.Settings.{Who, root, triplet_of, instance_of, is_own}
 use Rattle.vk_spec.specs.Conditions.{Condition}

@@ -1,5 +1,4 @@
-use Rattle.std.proofs.Common.{◌≡◌, ◌++◌, ap, ◌∙◌}
-use Rattle.std.proofs.lemmas.List.{take_all}
+use Rattle.std.proofs.Common.{◌++◌, ap, ◌∙◌}
 use Rattle.vk_model.specs.FactViews.{who_view}
 use Rattle.vk_rules.specs.Asked.{facts_view}
 use Rattle.vk_rules.proofs.AskedLemmas.{needs_all}

@@ -1,4 +1,4 @@
-use Rattle.std.proofs.Common.{◌∙◌, sym, ap}
+use Rattle.std.proofs.Common.{◌∙◌, sym}
 use Rattle.vk_spec.proofs.ListLemmas.{any_by}
 use Rattle.vk_resolution.specs.Settings.{same_instance}
 use Rattle.vk_model.specs.SettingViews.{instance_view}
