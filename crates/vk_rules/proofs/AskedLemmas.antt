@@ -55,15 +55,18 @@ pub own_same : (s t : Setting) (who : Who) (j : Instance) → s.root ≡ t.root 
 own_same s t (root triplet) j e = ap (λ m. is_root m.name triplet j) e
 own_same s t (inst i) j e = refl
 
--- what a dependency on another instance asks for, where that instance is known, whether it is off, and the marks
-pub other_is : (s : Setting) (who : Who) (d : plain.Dependency Condition) (j : Instance) (off : Bool) (marks : Marks) (port triplet : List ℕ)
-    → is_own s who (instance_at port triplet) ≡ false → port ≡ d.name → triplet ≡ triplet_for s who d.host → j ≡ instance_at port triplet → off ≡ is_off s j → marks ≡ marks_of s (triplet_of who)
-    → other_asked (inst j) off marks d ≡ asked_by s who d
-other_is s who d j off marks port triplet other named for is told at =
-    let found : instance_at port triplet ≡ instance_of s who d = (λ i. record { port = named i; triplet = for i }) in
-    let whole : j ≡ instance_of s who d = is ∙ found in
+-- what a dependency on another instance asks for, where that instance is known, and whether it is off
+pub at_is : (s : Setting) (d : plain.Dependency Condition) (marks : Marks) (triplet : List ℕ) (j : Instance) (off : Bool) → j ≡ instance_at d.name triplet → off ≡ is_off s j
+    → other_asked (inst j) off marks d ≡ asked_of_other s marks (instance_at d.name triplet) d
+at_is s d marks triplet j off is told =
+    ap (λ k. other_asked (inst k) off marks d) is ∙ ap (λ b. other_asked (inst (instance_at d.name triplet)) b marks d) (told ∙ ap (is_off s) is)
+
+pub other_is : (s : Setting) (who : Who) (d : plain.Dependency Condition) (marks : Marks) (triplet : List ℕ)
+    → is_own s who (instance_at d.name triplet) ≡ false → triplet ≡ triplet_for s who d.host → marks ≡ marks_of s (triplet_of who)
+    → asked_of_other s marks (instance_at d.name triplet) d ≡ asked_by s who d
+other_is s who d marks triplet other for at =
+    let found : instance_at d.name triplet ≡ instance_of s who d = ap (instance_at d.name) for in
     let own : is_own s who (instance_of s who d) ≡ false = ap (is_own s who) (sym found) ∙ other in
-    ap (λ k. other_asked (inst k) off marks d) whole
-    ∙ ap (λ b. other_asked (inst (instance_of s who d)) b marks d) (told ∙ ap (is_off s) whole)
+    ap (λ k. asked_of_other s marks k d) found
     ∙ ap (λ m. asked_of_other s m (instance_of s who d) d) at
     ∙ sym (ap (λ b. cond b (asked_of_own who (marks_of s (triplet_of who)) d) (asked_of_other s (marks_of s (triplet_of who)) (instance_of s who d) d)) own)

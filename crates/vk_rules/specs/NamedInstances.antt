@@ -1,5 +1,5 @@
 -- What contracts see of the instances that a root names.
-use Rattle.std.specs.Prelude.{◌&&◌, ◌||◌, not, ℕ, Bool, List, [], ◌∷◌, map, filter, flat_map, if◌then◌else◌}
+use Rattle.std.specs.Prelude.{◌≡◌, ◌↔◌, ◌&&◌, ◌||◌, not, ℕ, Bool, List, [], ◌∷◌, map, filter, flat_map, if◌then◌else◌}
 use Rattle.vk_spec.specs.Conditions.{Condition, holds}
 use Rattle.vk_spec.specs.Manifests.{Dependency}
 use Rattle.vk_spec.specs.Settings.{Setting, Triplet}
@@ -9,6 +9,10 @@ use Rattle.vk_base.specs.declared.instances.Instance.{Instance}
 use Rattle.vk_model.specs.SettingViews.{instance_view}
 use Rattle.vk_model.specs.Views.{dependency_view}
 use Rattle.vk_model.specs.declared.manifests.Dependency as code
+use Rattle.vk_resolution.specs.Keys.{Ascends}
+use Rattle.vk_resolution.specs.Planning.{instance_key}
+use Rattle.std.specs.List.{Contains}
+use Rattle.vk_rules.specs.Offs.{has_instance}
 use Rattle.vk_rules.specs.Roots.{at_root, is_on_root}
 
 abbrev pub instances_view : List Instance → List plain.Instance
@@ -36,3 +40,10 @@ named_in s only f = map (at_root s) (filter (counts only) (filter (λ d. not (is
 -- the instances that features of the root name
 abbrev pub named_of : Setting → Bool → List (List ℕ) → List plain.Instance
 named_of s only features = flat_map (named_in s only) features
+
+-- those of the named instances that aren't among the keys, in order, each once
+pub record IsOthers (keys : List Instance) (names : List plain.Instance) (others : List Instance) : Type 0 where
+  pub named : List Instance
+  pub all : instances_view named ≡ names
+  pub order : Ascends instance_key (instances_view others)
+  pub each : (i : Instance) → Contains others i ↔ Contains (filter (λ k. not (has_instance keys k)) named) i

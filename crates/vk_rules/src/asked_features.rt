@@ -1,6 +1,7 @@
 //! The features that are asked of the root: those of the words, and what these ask of the root
 //! itself.
-ghost use Rattle.std.specs.Prelude.{◌≡◌, ◌&&◌, ◌++◌, ◌∷◌, [], OnOk, IfOk, map, if◌then◌else◌};
+ghost use Rattle.std.specs.Prelude.{◌≡◌, ◌&&◌, ◌++◌, ◌∷◌, [], ℕ, Bool, List};
+ghost use Rattle.std.specs.Prelude.{OnOk, IfOk, map, if◌then◌else◌};
 ghost use Rattle.indexmap.specs.IndexSet.{insert_key};
 ghost use Rattle.vk_spec.specs.Manifests.{core, default};
 ghost use Rattle.vk_resolution.specs.Least.{IsLeast};
@@ -137,28 +138,43 @@ fn put_all(names: &mut IndexSet<FeatureName>, more: &[FeatureName]) -> Result<()
     Ok(())
 }
 
-// The features of the words, and `core`, and `default` unless the words switch it off.
-fn first_features(
-    alloc: Global,
-    features: &[FeatureName],
-    defaults: bool,
-) -> Result<IndexSet<FeatureName>, Memory>
-    ensures { IfOk result (λ set. Grows [] set.keys
-        (core ∷ names_view features.now ++ (if defaults then default ∷ [] else []))) }
-{
-    let mut names = IndexSet::new(alloc);
-    put(&mut names, &FeatureName::Core)?;
-    put_all(&mut names, features)?;
-    put_default(&mut names, defaults)?;
-    Ok(names)
-}
-
 fn put_default(names: &mut IndexSet<FeatureName>, defaults: bool) -> Result<(), Memory>
     ensures { OnOk result (Grows names.old.keys names.new.keys
         (if defaults then default ∷ [] else [])) }
 {
     if defaults {
         return put(names, &FeatureName::Default);
+    }
+    Ok(())
+}
+
+// Puts `core`, the features of the words, and `default` unless the words switch it off.
+fn put_first(
+    names: &mut IndexSet<FeatureName>,
+    features: &[FeatureName],
+    defaults: bool,
+) -> Result<(), Memory>
+    ensures { OnOk result (Grows names.old.keys names.new.keys
+        (core ∷ names_view features.now ++ (if defaults then default ∷ [] else []))) }
+{
+    put(names, &FeatureName::Core)?;
+    put_all(names, features)?;
+    put_default(names, defaults)
+}
+
+// Puts what these features ask of the root, and what that asks of the root, and so on: each name is
+// taken up once.
+fn follow(alloc: Global, root: Root<'_>, names: &mut IndexSet<FeatureName>) -> Result<(), Memory>
+    ensures { OnOk result ((words : List (List ℕ)) (defaults : Bool)
+        → Grows [] names.old.keys (first_features_of (setting_at root.entry words defaults [] 0))
+        → IsLeast (root_rules_of (setting_at root.entry words defaults [] 0))
+        (names_view names.new.keys)) }
+{
+    let mut n = 0;
+    while n < names.len() {
+        let more = asked_by(alloc, root, &names[n])?;
+        put_all(names, more.as_slice())?;
+        n += 1;
     }
     Ok(())
 }
@@ -175,12 +191,8 @@ pub(crate) fn asked_features(
         (root_rules_of (setting_at root.entry (names_view features.now) defaults [] 0))
         (names_view set.keys)) }
 {
-    let mut names = first_features(alloc, features, defaults)?;
-    let mut n = 0;
-    while n < names.len() {
-        let more = asked_by(alloc, root, &names[n])?;
-        put_all(&mut names, more.as_slice())?;
-        n += 1;
-    }
+    let mut names = IndexSet::new(alloc);
+    put_first(&mut names, features, defaults)?;
+    follow(alloc, root, &mut names)?;
     Ok(names)
 }

@@ -16,7 +16,7 @@ ghost use Rattle.vk_rules.specs.Offs.{AreOff, has_instance};
 ghost use Rattle.vk_rules.specs.RootSettings.{setting_of};
 ghost use Rattle.vk_rules.specs.Roots.{root_setting, setting_at, at_root};
 ghost use Rattle.vk_rules.specs.AskedNames.{names_view};
-ghost use Rattle.vk_rules.specs.NamedInstances.{instances_view, is_counted};
+ghost use Rattle.vk_rules.specs.NamedInstances.{instances_view, is_counted, IsOthers};
 ghost use Rattle.vk_rules.specs.NamedInstances.{named_where, named_each, named_in, named_of};
 
 use crate::asked_features::asked_features;
@@ -173,6 +173,20 @@ fn others_in_order(named: List<Instance>, wanted: &IndexSet<Instance>) -> List<I
     List::from_vec(instances)
 }
 
+// The other instances that features of the root name, but for those in the set, in order.
+fn others_by(
+    alloc: Global,
+    root: Root<'_>,
+    features: &IndexSet<FeatureName>,
+    wanted: &IndexSet<Instance>,
+) -> Result<List<Instance>, Memory>
+    ensures { IfOk result (λ l. IsOthers wanted.now.keys
+        (named_of (root_setting root.entry) false (names_view features.now.keys)) l) }
+{
+    let named = named_by(alloc, root, false, features)?;
+    Ok(others_in_order(named, wanted))
+}
+
 // The instances that are off, where these features are asked of the root.
 fn off_by(
     alloc: Global,
@@ -187,8 +201,7 @@ fn off_by(
         (instances_view l)) }
 {
     let wanted = wanted_by(alloc, root, features)?;
-    let named = named_by(alloc, root, false, features)?;
-    Ok(others_in_order(named, &wanted))
+    others_by(alloc, root, features, &wanted)
 }
 
 /// The instances that are off, by port and then by triplet: those that the asked features of a root

@@ -1,7 +1,7 @@
 //! The rules of a setting.
 ghost use Rattle.std.specs.Prelude.{◌≡◌, ◌++◌, ◌+◌, OnOk, IfOk, map, flat_map};
 ghost use Rattle.vk_resolution.specs.Settings.{marks_of, triplet_of, is_own, is_off};
-ghost use Rattle.vk_resolution.specs.Asking.{asked_by, asked_of};
+ghost use Rattle.vk_resolution.specs.Asking.{asked_by, asked_of, asked_of_other};
 ghost use Rattle.vk_base.specs.FeatureViews.{feature_view};
 ghost use Rattle.vk_model.specs.Views.{manifest_view, dependency_view};
 ghost use Rattle.vk_model.specs.SettingViews.{instance_view, setting_view};
@@ -99,6 +99,23 @@ impl<'a> Rules<'a> {
     }
 }
 
+// What a dependency on another instance, of its port for this triplet, asks for.
+fn push_at(
+    rules: &Rules<'_>,
+    triplet: &TripletName,
+    marks: &Marks,
+    dependency: &Dependency,
+    facts: &mut List<Fact>,
+) -> Result<(), Memory>
+    ensures { OnOk result (facts_view facts.new ≡ facts_view facts.old
+        ++ asked_of_other (setting_view rules.now) marks.now.names
+        (instance_at dependency.now.name triplet.now) (dependency_view dependency.now)) }
+{
+    let other = instance_of(&dependency.name, triplet)?;
+    let off = rules.is_off(&other);
+    push_other(&Who::Inst(other), off, marks, dependency, facts)
+}
+
 // What a dependency asks for.
 fn push_asked(
     rules: &Rules<'_>,
@@ -115,9 +132,7 @@ fn push_asked(
     if rules.is_own(who, &dependency.name, triplet) {
         return push_own(who, marks, dependency, facts);
     }
-    let other = instance_of(&dependency.name, triplet)?;
-    let off = rules.is_off(&other);
-    push_other(&Who::Inst(other), off, marks, dependency, facts)
+    push_at(rules, triplet, marks, dependency, facts)
 }
 
 fn push_applicable(
