@@ -102,14 +102,14 @@ kept_right project (opened.Ready setting start) before after opens = told_after 
 kept_right project (opened.Refused e) before after opens = of_each after.told (λ t. tt)
 
 plan_is : (request : Request) (files : Files) (given : Result Opening _) → opened_of (project_of request) files ≡ given → planned_report_of request files
-    ≡ ((or_early given >>= λ opening. ports_of (project_of request).folder opening.setting.root >>= λ ports.
+    ≡ ((or_early given >>= λ opening. ports_of (project_of request).folder (opening.setting []).root >>= λ ports.
     items_for (project_of request).folder ports (place_in opening.start files) (page_of opening.start files))
     >>= λ items. Ok (planned_report request.triplet items))
 unfolding plan_of
 plan_is request files given e = rw e refl
 
 opened_report : (request : Request) (o : Opened) (files : Files) → Tells (Ok o) (opened_of (project_of request) files) → planned_report_of request files ≡ report_after request.triplet (project_of request).folder o files
-opened_report request (opened.Ready setting start) files tells = plan_is request files (Ok (ready_view setting start)) tells
+opened_report request (opened.Ready setting start) files tells = plan_is request files (Ok (ready_view setting start)) tells.0
 opened_report request (opened.Refused e) files tells = plan_is request files (Err (early_view e)) tells
 
 pub plan_opened : {X : Type 0} {view : X → List ℕ} {report : Result X PlanStop} (request : Request) (o : Opened) (a b c : State) (opens : Opens (project_of request) (Ok o) a b)

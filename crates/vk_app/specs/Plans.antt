@@ -69,5 +69,5 @@ items_for folder ports places pages = or_refused folder places (items_of ports p
 unfoldable pub plan_of : Project → Files → Result (List Item) Refused
 plan_of project files = do
   opening ← or_early (opened_of project files)
-  ports ← ports_of project.folder opening.setting.root
+  ports ← ports_of project.folder (opening.setting []).root
   items_for project.folder ports (place_in opening.start files) (page_of opening.start files)

@@ -1,6 +1,6 @@
 -- What was read of a project is what is answered.
-use Rattle.std.proofs.Common.{◌≡◌, List, [], map, refl, ap, sym, subst, ◌∙◌}
-use Rattle.std.specs.Prelude.{IfSome, Result, Ok, Err}
+use Rattle.std.proofs.Common.{◌≡◌, ℕ, List, [], map, refl, ap, sym, subst, ◌∙◌}
+use Rattle.std.specs.Prelude.{IfSome, IfOk, Result, Ok, Err}
 use Rattle.vk_spec.specs.Files.{Files}
 use Rattle.vk_spec.specs.Lists.{NoRepeats}
 use Rattle.vk_spec.specs.States.{State, OnlyRead}
@@ -14,9 +14,21 @@ use Rattle.vk_model.specs.declared.projects.Project.{Project}
 use Rattle.vk_config.specs.Configs.{Config}
 use Rattle.vk_opening.specs.Openings.{opening_with, opened_of}
 use Rattle.vk_model.specs.EarlyViews.{early_view}
-use Rattle.vk_opening.specs.OpeningViews.{opening_found, opening_view, answer_of}
+use Rattle.vk_opening.specs.OpeningViews.{opening_found, opening_view, answer_of, AreOffIn}
+use Rattle.vk_base.specs.declared.instances.Instance.{Instance}
+use Rattle.vk_base.specs.declared.memory.Memory.{Memory}
 use Rattle.vk_base.specs.Stops.{was_out}
-use Rattle.vk_opening.specs.Opened.{Opens}
+use Rattle.vk_spec.specs.Settings as plain
+use Rattle.vk_resolution.specs.Keys.{IsListing}
+use Rattle.vk_resolution.specs.Planning.{instance_key}
+use Rattle.vk_resolution.specs.Settings.{IsOff}
+use Rattle.vk_resolution.specs.RootLaws.{with_off}
+use Rattle.vk_base.specs.FeatureViews.{feature_view}
+use Rattle.vk_triplet.specs.Meanings.{meaning_of}
+use Rattle.vk_model.specs.Views.{manifest_view}
+use Rattle.vk_model.specs.SettingViews.{setting_view, instance_view}
+use Rattle.vk_rules.specs.RootSettings.{setting_of}
+use Rattle.vk_opening.specs.Opened.{Opens, ListsOwnOff}
 use Rattle.vk_opening.specs.Views.{root_view, triplets_view, overlay_view, opened_files}
 use Rattle.vk_model.specs.declared.settings.Setting.{Setting}
 use Rattle.vk_opening.specs.declared.starts.Start.{Start}
@@ -50,31 +62,46 @@ reads_last {meaning = meaning} {a = a} next_view z same one = record {
   content = of_both a.tree.told one.content one.content (λ t is _ old. is old ∙ ap Ok (sym same));
 }
 
+-- the off list that is made of a setting is its own
+pub lists_own : (setting : Setting) (off : Result (List Instance) Memory)
+    → IfOk off (λ l. (o : List plain.Instance) (most : ℕ) → IsListing instance_key (IsOff (setting_of (manifest_view setting.root) (meaning_of setting.target) (meaning_of setting.host) (map feature_view setting.features) setting.defaults o most)) (map instance_view l))
+    → IfOk off (λ l. ListsOwnOff (with_off (setting_view setting) (map instance_view l)))
+lists_own setting (Ok l) lists = lists (map instance_view l) setting.max_facts
+lists_own setting (Err m) lists = tt
+
 -- the answer that goes with what was read
-pub opens_with : (project : Project) (read : Result Opening (Stop Early)) (files : FileCache) (before after : State) (kept : Kept) → kept ≡ [] → NoRepeats (paths_of (kept_of files))
-    → ReadsAs early_view opening_view read (opened_of project) (record { kept = kept; tree = before }) (record { kept = kept_of files; tree = after }) → Opens project (answer_of read files) before after
-opens_with project (Ok o) files before after kept none distinct r = record {
+pub opens_with : (project : Project) (read : Result Opening (Stop Early)) (off : Result (List Instance) Memory) (files : FileCache) (before after : State) (kept : Kept) → kept ≡ [] → NoRepeats (paths_of (kept_of files))
+    → IfOk off (AreOffIn read)
+    → ReadsAs early_view opening_view read (opened_of project) (record { kept = kept; tree = before }) (record { kept = kept_of files; tree = after }) → Opens project (answer_of read off files) before after
+opens_with project (Ok o) (Ok off) files before after kept none distinct lists r = record {
   read = kept_of files;
   once = rw none at r.once;
   distinct = distinct;
   kept = refl;
-  content = of_both before.told r.content r.content (λ t is _. is (rw none tt));
+  content = of_both before.told r.content r.content (λ t is _. (is (rw none tt), lists));
 }
-opens_with project (Err (stop.Fault early)) files before after kept none distinct r = record {
-  read = kept_of files;
-  once = rw none at r.once;
-  distinct = distinct;
-  kept = tt;
-  content = of_both before.told r.content r.content (λ t is _. is (rw none tt));
-}
-opens_with project (Err stop.Failed) files before after kept none distinct r = record {
+opens_with project (Ok o) (Err m) files before after kept none distinct lists r = record {
   read = kept_of files;
   once = rw none at r.once;
   distinct = distinct;
   kept = tt;
   content = of_both before.told r.content r.content (λ t is _. tt);
 }
-opens_with project (Err (stop.Memory m)) files before after kept none distinct r = record {
+opens_with project (Err (stop.Fault early)) off files before after kept none distinct lists r = record {
+  read = kept_of files;
+  once = rw none at r.once;
+  distinct = distinct;
+  kept = tt;
+  content = of_both before.told r.content r.content (λ t is _. is (rw none tt));
+}
+opens_with project (Err stop.Failed) off files before after kept none distinct lists r = record {
+  read = kept_of files;
+  once = rw none at r.once;
+  distinct = distinct;
+  kept = tt;
+  content = of_both before.told r.content r.content (λ t is _. tt);
+}
+opens_with project (Err (stop.Memory m)) off files before after kept none distinct lists r = record {
   read = kept_of files;
   once = rw none at r.once;
   distinct = distinct;

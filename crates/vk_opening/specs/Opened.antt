@@ -5,6 +5,11 @@ use Rattle.vk_spec.specs.Lists.{NoRepeats}
 use Rattle.vk_files.specs.Kept.{Kept, paths_of, ReadOnce}
 use Rattle.vk_model.specs.declared.projects.Project.{Project}
 use Rattle.vk_spec.specs.Earlies as plain
+use Rattle.vk_spec.specs.Settings as plain_setting
+use Rattle.vk_resolution.specs.Keys.{IsListing}
+use Rattle.vk_resolution.specs.Planning.{instance_key}
+use Rattle.vk_resolution.specs.Settings.{IsOff}
+use Rattle.vk_model.specs.SettingViews.{setting_view}
 use Rattle.vk_opening.specs.Openings.{Opening, opened_of}
 use Rattle.vk_model.specs.EarlyViews.{early_view}
 use Rattle.vk_opening.specs.Views.{ready_view, opened_files}
@@ -13,9 +18,13 @@ use Rattle.vk_opening.specs.declared.opens.Opened.TheVariants as opened
 use Rattle.vk_base.specs.Stops.{was_out}
 use Rattle.vk_base.specs.declared.stops.Outage.{Outage}
 
--- a setting and a start exactly where the files give them, and an early line exactly where they give that
+-- a setting lists the instances whose default features its root turns off, in their order
+abbrev pub ListsOwnOff : plain_setting.Setting → Type 0
+ListsOwnOff s = IsListing instance_key (IsOff s) s.off
+
+-- a setting and a start exactly where the files give them, with what is off in it, and an early line exactly where they give that
 abbrev pub Tells : Result Opened Outage → Result Opening plain.Early → Type 0
-Tells (Ok (opened.Ready setting start)) given = given ≡ Ok (ready_view setting start)
+Tells (Ok (opened.Ready setting start)) given = (given ≡ Ok (ready_view setting start)) × ListsOwnOff (setting_view setting)
 Tells (Ok (opened.Refused early)) given = given ≡ Err (early_view early)
 Tells (Err stopped) given = Unit {0}
 

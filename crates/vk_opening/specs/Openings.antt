@@ -1,10 +1,10 @@
 -- What the early files of a project give: a setting and a start, or the first early line.
-use Rattle.std.specs.Prelude.{List, [], map, Result, Ok}
+use Rattle.std.specs.Prelude.{List, map, Result, Ok}
 use Rattle.vk_spec.specs.Reading.{◌>>=◌}
 use Rattle.vk_spec.specs.Files.{Files}
 use Rattle.vk_base.specs.FeatureViews.{feature_view}
 use Rattle.vk_spec.specs.Manifests.{Manifest}
-use Rattle.vk_spec.specs.Settings.{Setting}
+use Rattle.vk_spec.specs.Settings.{Setting, Instance}
 use Rattle.vk_spec.specs.Conditions.{Condition}
 use Rattle.vk_triplet.specs.Meanings.{meaning_of}
 use Rattle.vk_config.specs.Configs.{Config}
@@ -17,9 +17,9 @@ use Rattle.vk_opening.specs.Configurations.{config_in}
 use Rattle.vk_opening.specs.TripletFiles.{Triplets, triplets_at}
 use Rattle.vk_opening.specs.Overlays.{overlays_at}
 
--- a setting, and what is known besides before any port is looked at
+-- a setting, by the instances that are off in it, and what is known besides before any port is looked at
 pub record Opening : Type 0 where
-  pub setting : Setting
+  pub setting : List Instance → Setting
   pub start : Start
 
 -- the triplets, in the folders that the words name and then in those of the configuration
@@ -30,9 +30,8 @@ triplets_of project config files = triplets_at project.target project.host (fold
 abbrev pub overlays_of : Project → Config → Files → Result (List Overlay) Early
 overlays_of project config files = overlays_at (folders_of project.folder project.overlay_ports config.overlay_ports) files
 
--- no default features are off: which are is known from the root's dependencies
-abbrev pub setting_with : Project → Manifest Condition → Triplets → Setting
-setting_with project root triplets = record { root = root; target = meaning_of triplets.target; host = meaning_of triplets.host; features = map feature_view project.features; defaults = project.defaults; off = []; max_facts = project.max_facts }
+abbrev pub setting_with : Project → Manifest Condition → Triplets → List Instance → Setting
+setting_with project root triplets off = record { root = root; target = meaning_of triplets.target; host = meaning_of triplets.host; features = map feature_view project.features; defaults = project.defaults; off = off; max_facts = project.max_facts }
 
 abbrev pub start_with : Project → Manifest Condition → Config → List Overlay → Start
 start_with project root config overlays = record { folder = project.folder; config = config; overlays = overlays; overrides = root.overrides }

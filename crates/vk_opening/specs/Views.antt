@@ -3,6 +3,7 @@ use Rattle.std.specs.Prelude.{map}
 use Rattle.vk_json.specs.DocumentView.{doc_data}
 use Rattle.vk_model.specs.Views.{manifest_view, override_view}
 use Rattle.vk_model.specs.SettingViews.{setting_view}
+use Rattle.vk_resolution.specs.RootLaws.{with_off}
 use Rattle.vk_config.specs.Views.{config_view}
 use Rattle.vk_files.specs.Kept.{Kept}
 use Rattle.vk_files.specs.Views.{kept_of}
@@ -30,9 +31,9 @@ root_view r = record { manifest = manifest_view r.manifest; document = doc_data 
 abbrev pub triplets_view : Triplets → plain_triplets.Triplets
 triplets_view t = record { target = t.target; host = t.host }
 
--- a setting and a start, together
+-- a setting, whatever is off in it, and a start, together
 abbrev pub ready_view : Setting → Start → plain_opening.Opening
-ready_view setting start = record { setting = setting_view setting; start = start_view start }
+ready_view setting start = record { setting = with_off (setting_view setting); start = start_view start }
 
 -- what opening read, by path
 abbrev pub opened_files : Start → Kept

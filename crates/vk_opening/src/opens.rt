@@ -11,7 +11,11 @@ ghost use Rattle.vk_opening.specs.Openings.{after_root, after_config};
 ghost use Rattle.vk_opening.specs.Opened.{Opens};
 ghost use Rattle.vk_opening.specs.Views.{root_view, triplets_view, overlay_view};
 ghost use Rattle.vk_opening.specs.OpeningViews.{opening_found, opening_rest};
-ghost use Rattle.vk_opening.specs.OpeningViews.{opening_view, ready, answer_of};
+ghost use Rattle.vk_opening.specs.OpeningViews.{opening_view, ready, ready_or_none};
+ghost use Rattle.vk_opening.specs.OpeningViews.{AreOffIn, answer_of};
+ghost use Rattle.vk_opening.specs.Opened.{ListsOwnOff};
+ghost use Rattle.vk_resolution.specs.RootLaws.{with_off};
+ghost use Rattle.vk_model.specs.SettingViews.{setting_view, instance_view};
 
 use crate::configurations::read_configuration;
 use crate::overlays::read_overlays;
@@ -21,10 +25,11 @@ use crate::roots::{Root, RootFile};
 use crate::starts::{Overlay, Start};
 use crate::triplet_files::{Triplets, read_triplets};
 use std::alloc::Global;
-use vk_base::{FeatureName, List, Memory, Outage, Stop, TreePath};
+use vk_base::{FeatureName, Instance, List, Memory, Outage, Stop, TreePath};
 use vk_config::Config;
 use vk_files::FileCache;
 use vk_model::{Early, Override, Project, Setting};
+use vk_rules::off_list;
 use vk_tree::Tree;
 
 /// What the early files of a project give.
@@ -223,11 +228,13 @@ fn read_opening<T: Tree>(
     Ok(put_together(alloc, project, root, rest))
 }
 
-fn ready(opening: Opening, files: FileCache) -> Opened
-    ensures { result ≡ ready opening files }
+fn ready(opening: Opening, off: List<Instance>, files: FileCache) -> Opened
+    ensures { result ≡ ready opening off files }
 {
+    let mut setting = opening.setting;
+    setting.off = off;
     Opened::Ready {
-        setting: opening.setting,
+        setting,
         start: Start {
             folder: opening.folder,
             config: opening.config,
@@ -238,11 +245,53 @@ fn ready(opening: Opening, files: FileCache) -> Opened
     }
 }
 
-fn answer(read: Result<Opening, Stop<Early>>, files: FileCache) -> Result<Opened, Outage>
-    ensures { result ≡ answer_of read files }
+// With what is off in it, unless memory ran out.
+fn ready_or_none(
+    opening: Opening,
+    off: Result<List<Instance>, Memory>,
+    files: FileCache,
+) -> Result<Opened, Outage>
+    ensures { result ≡ ready_or_none opening off files }
+{
+    match off {
+        Ok(off) => Ok(ready(opening, off, files)),
+        Err(memory) => Err(Outage::Memory(memory)),
+    }
+}
+
+fn off_of(alloc: Global, setting: &Setting) -> Result<List<Instance>, Memory>
+    ensures { IfOk result
+        (λ off. ListsOwnOff (with_off (setting_view setting.now) (map instance_view off))) }
+{
+    off_list(
+        alloc,
+        &setting.root,
+        &setting.target,
+        &setting.host,
+        &setting.features,
+        setting.defaults,
+    )
+}
+
+// The instances that are off in what was read.
+fn off_in(alloc: Global, read: &Result<Opening, Stop<Early>>) -> Result<List<Instance>, Memory>
+    ensures { IfOk result (AreOffIn read.now) }
 {
     match read {
-        Ok(opening) => Ok(ready(opening, files)),
+        Ok(opening) => off_of(alloc, &opening.setting),
+        Err(_) => Ok(List::new(alloc)),
+    }
+}
+
+fn answer(
+    read: Result<Opening, Stop<Early>>,
+    off: Result<List<Instance>, Memory>,
+    files: FileCache,
+) -> Result<Opened, Outage>
+    ensures { result ≡ answer_of read off files }
+{
+    match read {
+        Ok(opening) => ready_or_none(opening, off, files),
         Err(Stop::Fault(early)) => Ok(Opened::Refused(early)),
         Err(Stop::Failed) => Err(Outage::Failed),
         Err(Stop::Memory(memory)) => Err(Outage::Memory(memory)),
@@ -250,7 +299,8 @@ fn answer(read: Result<Opening, Stop<Early>>, files: FileCache) -> Result<Opened
 }
 
 /// Opens a project: reads its root manifest, its configuration, its triplets and its overlays, each
-/// path once. `Refused` exactly where they have a fault, with the first in this order; `Failed`
+/// path once; the setting lists the instances whose default features the root turns off. `Refused`
+/// exactly where they have a fault, with the first in this order; `Failed`
 /// exactly where a call of the tree failed.
 pub fn open<T: Tree>(alloc: Global, tree: &mut T, project: &Project) -> Result<Opened, Outage>
     ensures { Opens project.now result (T.state tree.old) (T.state tree.new) }
@@ -258,5 +308,6 @@ pub fn open<T: Tree>(alloc: Global, tree: &mut T, project: &Project) -> Result<O
     let mut files = FileCache::new(alloc);
     let read = read_opening(alloc, &mut files, tree, project);
     files.known();
-    answer(read, files)
+    let off = off_in(alloc, &read);
+    answer(read, off, files)
 }

@@ -54,7 +54,7 @@ EachHasVersion (o ∷ overlays) = HasVersion o × EachHasVersion overlays
 -- the ports among its overlays have versions, and its start has the overrides of the root manifest
 record IsOpened (opening : Opening) : Type 0 where
   pub ports : EachHasVersion opening.start.overlays
-  pub sets : opening.setting.root.overrides ≡ opening.start.overrides
+  pub sets : (opening.setting []).root.overrides ≡ opening.start.overrides
 
 ok_then : {A B F : Type 0} (P : A → Type 0) (Q : B → Type 0) (r : Result A F) (f : A → Result B F) → IfOk r P → ((x : A) → P x → IfOk (f x) Q) → IfOk (r >>= f) Q
 ok_then P Q (Ok x) f is each = each x is
@@ -307,10 +307,10 @@ module _ (overrides : List Override) (port : List ℕ) (files : Files) where
 -- ---- the law
 
 pub is_pinned_where : (project : Project) (files : Files) (opening : Opening) → opened_of project files ≡ Ok opening → (port : List ℕ)
-    → IsTrue (is_pinned_by opening.setting.root.overrides port (page_of opening.start files port).given) ↔ IsPinned opening.start port files
+    → IsTrue (is_pinned_by (opening.setting []).root.overrides port (page_of opening.start files port).given) ↔ IsPinned opening.start port files
 is_pinned_where project files opening e port =
     let opened = opened_is project files opening e in
-    let overrides = opening.setting.root.overrides in
+    let overrides = (opening.setting []).root.overrides in
     let start = opening.start in
     let found = overlay_for start.overlays port files in
     let set = override_for start.overrides port in

@@ -38,6 +38,6 @@ pub fn override_rule()
 pub fn pinned_rule()
     ensures { (project : Project) (files : Files) (opening : Opening) → opened_of project files ≡ Ok
         opening → (port : List ℕ) → IsTrue
-        (is_pinned_by opening.setting.root.overrides port (page_of opening.start files port).given)
+        (is_pinned_by (opening.setting []).root.overrides port (page_of opening.start files port).given)
         ↔ IsPinned opening.start port files }
 {}
