@@ -1,5 +1,5 @@
 //! What the pages of ports keep, where a port comes from, and which ports are pinned.
-ghost use Rattle.std.specs.Prelude.{◌≡◌, ◌↔◌, List, ℕ, IsTrue, Ok, Some, None};
+ghost use Rattle.std.specs.Prelude.{[], ◌≡◌, ◌↔◌, List, ℕ, IsTrue, Ok, Some, None};
 ghost use Rattle.vk_spec.specs.Files.{Files};
 ghost use Rattle.vk_spec.specs.Pages.{override, is_pinned_by};
 ghost use Rattle.vk_spec.specs.Versions as versions;
@@ -37,7 +37,6 @@ pub fn override_rule()
 /// whatever is wrong with its files.
 pub fn pinned_rule()
     ensures { (project : Project) (files : Files) (opening : Opening) → opened_of project files ≡ Ok
-        opening → (port : List ℕ) → IsTrue
-        (is_pinned_by (opening.setting []).root.overrides port (page_of opening.start files port).given)
-        ↔ IsPinned opening.start port files }
+        opening → (port : List ℕ) → IsTrue (is_pinned_by (opening.setting []).root.overrides port
+        (page_of opening.start files port).given) ↔ IsPinned opening.start port files }
 {}
