@@ -63,9 +63,11 @@ fn note(
     ensures calm { has_failed result ≡ false }
 {
     if is_known(lines, fresh, &fact) {
+        drop(fact);
         return Ok(());
     }
     if is_full(lines, fresh, most) {
+        drop(fact);
         return Err(Stop::Fault(CloseFault::Facts(most)));
     }
     put(fresh, fact, cause)
