@@ -8,6 +8,5 @@ pub mod Words
 pub mod DocumentView
 pub mod KeyOrders
 pub mod FaultViews
-pub mod Digits
 pub mod Files
 pub mod Standing

@@ -3,7 +3,6 @@
 //! it.
 #![tactic(auto)]
 
-mod digits;
 mod documents;
 mod faults;
 mod getters;

@@ -4,10 +4,9 @@ ghost use Rattle.std.specs.List.{find};
 ghost use Rattle.std.specs.Str.{bytes_eq};
 ghost use Rattle.vk_json.specs.Words.{HasSmallNumber, name_of, number_in, word_of};
 
-use crate::digits::number;
 use crate::faults::Why;
 use std::alloc::Global;
-use vk_base::{Memory, Text};
+use vk_base::{Memory, Text, read_u32};
 
 // All that tell no number.
 const PLAIN: [Why; 24] = [
@@ -58,7 +57,7 @@ impl Why {
     {
         match text.split_once(':') {
             None => named(text, None),
-            Some((name, digits)) => named(name, Some(number(digits)?)),
+            Some((name, digits)) => named(name, Some(read_u32(digits)?)),
         }
     }
 
