@@ -1,54 +1,13 @@
 -- A list cut at the first element that passes a test.
-use Rattle.std.proofs.Common.{◌≡◌, ◌+◌, ltb, ◌-◌, length-drop, ◌<◌, ◌≤◌, ℕ, Bool, true, false, List}
+use Rattle.std.proofs.Common.{◌≡◌, ◌+◌, ltb, length-drop, ◌<◌, Bool, true, false, List}
 use Rattle.std.proofs.Common.{[], ◌∷◌, length, take, drop, inl, inr, refl, ap, sym, ◌∙◌, suc, arith}
-use Rattle.std.specs.Prelude.{Some, None}
-use Rattle.std.specs.List.{list_any, position, position_or_len, before_first, after_first}
+use Rattle.std.specs.List.{list_any, position_or_len, before_first, after_first}
 use Rattle.std.specs.List.{slice_split}
-use Rattle.std.proofs.lemmas.Bool.{cases_lt, cases_Bool, lt-ltb, le-ltb, ltb-true}
+use Rattle.std.proofs.lemmas.Bool.{cases_lt, cases_Bool, lt-ltb, le-ltb, ltb-true, ltb-false}
 use Rattle.std.proofs.lemmas.Bool.Decides.{nat_tests}
 use Rattle.std.proofs.lemmas.List.{take_all, drop_all}
 use Rattle.std.proofs.lemmas.List.Sums.{fails_before_first}
 use Rattle.std.proofs.lemmas.List.Splits.{slice_split_none, slice_split_first}
-
-pub position-None : {X : Type 0} (p : X → Bool) (xs : List X) → position p xs ≡ None
-    → length xs ≤ position_or_len p xs
-position-None p xs e =
-    elim (cases_lt (position_or_len p xs) (length xs)) [
-      | inl at ↦ (let yes = lt-ltb _ _ at in let e2 = rw yes at e in (cc))
-      | inr past ↦ past
-    ]
-
-pub position-Some : {X : Type 0} (p : X → Bool) (xs : List X) (i : ℕ) → position p xs ≡ Some i
-    → (position_or_len p xs ≡ i) × (i < length xs)
-position-Some p xs i e =
-    elim (cases_lt (position_or_len p xs) (length xs)) [
-      | inl at ↦
-          (let yes =
-          lt-ltb _ _ at in let e2 =
-          rw yes at e in let same : position_or_len p xs ≡ i = cc in (same, rw (← same) at))
-      | inr past ↦ (let no_place = le-ltb _ _ past in let e2 = rw no_place at e in (cc))
-    ]
-
--- nothing passes: the list is the one part
-pub uncut : {X : Type 0} (p : X → Bool) (xs : List X) → position p xs ≡ None
-    → (before_first p xs ≡ xs) × (slice_split p xs ≡ xs ∷ [])
-uncut p xs e =
-    let past = position-None p xs e in (
-      take_all (position_or_len p xs) xs past,
-      slice_split_none p xs (λ k d within. fails_before_first p xs k d (omega arith)),
-    )
-
--- something passes: the first part ends there
-pub cut_at : {X : Type 0} (p : X → Bool) (xs : List X) (i : ℕ) (d : X) → position p xs ≡ Some i
-    → slice_split p xs ≡ take i xs ∷ slice_split p (drop (i + 1) xs)
-cut_at p xs i d e =
-    let at = position-Some p xs i e in
-    let within : position_or_len p xs < length xs = rw at.0 at.1 in
-    rw at.0 at (slice_split_first p xs d within)
-
--- what stands from a place on, as a range
-pub rest_from : {X : Type 0} (n : ℕ) (xs : List X) → take (length xs - n) (drop n xs) ≡ drop n xs
-rest_from n xs = take_all (length xs - n) (drop n xs) (rw length-drop (omega arith))
 
 -- an element passes exactly where there is a first one
 pub any_at : {X : Type 0} (p : X → Bool) (xs : List X)
@@ -105,3 +64,23 @@ later p x xs other =
 pub any_within : {X : Type 0} (p : X → Bool) (xs : List X) → list_any p xs ≡ true
     → position_or_len p xs < length xs
 any_within p xs e = ltb-true _ _ (sym (any_at p xs) ∙ e)
+
+-- nothing passes: the list is the one part
+pub uncut : {X : Type 0} (p : X → Bool) (xs : List X) → list_any p xs ≡ false
+    → slice_split p xs ≡ before_first p xs ∷ []
+uncut p xs none =
+    let whole = nothing_cut p xs none in
+    let past = ltb-false _ _ (sym (any_at p xs) ∙ none) in
+    slice_split_none p xs (λ k d within. fails_before_first p xs k d (omega arith))
+    ∙ ap (λ ys. ys ∷ []) (sym whole.0)
+
+-- something passes: the first part ends there
+pub cut_at : {X : Type 0} (p : X → Bool) (xs : List X) (d : X) → list_any p xs ≡ true
+    → slice_split p xs ≡ before_first p xs ∷ slice_split p (after_first p xs)
+cut_at p xs d some = slice_split_first p xs d (any_within p xs some)
+
+-- and what stands after it is shorter
+pub after_shorter : {X : Type 0} (p : X → Bool) (xs : List X) → list_any p xs ≡ true
+    → length (after_first p xs) < length xs
+after_shorter p xs some =
+    let within = any_within p xs some in rw length-drop (omega arith)

@@ -1,10 +1,9 @@
 -- A version's text is read alike whatever its port-version is.
-use Rattle.std.proofs.Common.{◌≡◌, ℕ, List, refl, sym, ◌∙◌, ap}
+use Rattle.std.proofs.Common.{◌≡◌, ℕ, List, ap}
 use Rattle.std.specs.Prelude.{Option, Some, None, Ok, Err}
 use Rattle.vk_spec.specs.Versions.{Class, Version}
 use Rattle.vk_version.specs.declared.faults.VersionFault.{VersionFault}
-use Rattle.vk_version.specs.Schemes.{Scheme}
-use Rattle.vk_version.specs.Readings.{unless, class_of, fault_under, reads_version, IsVersion}
+use Rattle.vk_version.specs.Readings.{unless, class_of, fault_under, IsVersion}
 use Rattle.vk_version.specs.Parsed.{version_of, Keeps}
 
 unless_with : (wrong : Option VersionFault) (class : Class) (v : Version) (port : ℕ)

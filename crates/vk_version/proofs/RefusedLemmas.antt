@@ -1,13 +1,10 @@
 -- Texts without a reading: numbers with a leading zero.
-use Rattle.std.proofs.Common.{◌≡◌, ◌<◌, ◌^◌, ℕ, true, false, List, [], ◌∷◌, length, get_or, Result}
-use Rattle.std.proofs.Common.{Ok, Err, inl, inr, refl, sym, ◌∙◌, arith}
+use Rattle.std.proofs.Common.{◌≡◌, ℕ, true, false, List, [], ◌∷◌, Result}
+use Rattle.std.proofs.Common.{Ok, Err, refl, sym, ◌∙◌, arith}
 use Rattle.std.specs.List.{Contains, list_all}
-use Rattle.std.specs.Char.{is_ascii_digit}
-use Rattle.std.specs.Fmt.{decimal}
-use Rattle.std.proofs.lemmas.Bool.{cases_lt, and_right}
+use Rattle.std.proofs.lemmas.Bool.{and_right}
 use Rattle.std.proofs.lemmas.Bool.Decides.{nat_tests}
 use Rattle.std.proofs.lemmas.List.Folds.{list_all_at}
-use Rattle.std.proofs.lemmas.Fmt.{digits_decimal, decimal_digit, first_decimal, decimal_nonempty}
 use Rattle.semver.specs.Order.{parts}
 use Rattle.semver.specs.Parse.{Parts, version_parts}
 use Rattle.semver.specs.declared.error.Error.{Error}
@@ -16,7 +13,7 @@ use Rattle.vk_version.specs.Schemes as the
 use Rattle.vk_version.specs.Texts.{IsPadded, is_number, is_dotted, core_of, later_parts, first_part}
 use Rattle.vk_version.specs.Texts.{is_day, is_dated}
 use Rattle.vk_version.specs.Readings.{reads_version}
-use Rattle.vk_version.proofs.DigitLemmas.{own}
+use Rattle.vk_version.proofs.DigitLemmas.{decimal_number}
 use Rattle.vk_version.proofs.TailLemmas.{semver_cut, core_parts}
 
 -- ---- leading zeros
@@ -34,20 +31,6 @@ not_all ps part p has = list_all_at is_number ps has.0 part has.1 (rw has.2 (pad
 pub relaxed_padded : (text part : List ℕ) (port : ℕ) → IsPadded part
     → Contains (parts (core_of text)) part → reads_version the.relaxed text port ≡ Err fault.Shape
 relaxed_padded text part port p has = rw (not_all (parts (core_of text)) part p has) refl
-
-number_from : (ds : List ℕ) → 0 < length ds → 48 < get_or ds 0 0 → list_all is_ascii_digit ds ≡ true
-    → is_number ds ≡ true
-number_from [] some first each = absurd (omega arith)
-number_from (b ∷ rest) some first each = rw each (grind (arith, nat_tests))
-
-decimal_number : (n : ℕ) → n < 2 ^ 64 → is_number (decimal n) ≡ true
-decimal_number n fits =
-    elim (cases_lt n 10) [
-      | inl small ↦ rw (decimal_digit n small) (grind (arith, nat_tests))
-      | inr large ↦
-          number_from (decimal n) (decimal_nonempty n fits) (first_decimal n (omega arith) fits)
-          (digits_decimal own n fits)
-    ]
 
 pub semver_dotted : (text : List ℕ) (p : Parts) → version_parts text ≡ Ok p
     → is_dotted (core_of text) ≡ true

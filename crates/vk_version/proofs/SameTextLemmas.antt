@@ -1,17 +1,16 @@
 -- Two dates with the same day and numbers have the same text.
-use Rattle.std.proofs.Common.{◌≡◌, ◌<◌, ◌≤◌, ◌+◌, ◌*◌, ◌-◌, ◌^◌, ◌==◌, ◌++◌, ◌||◌, ℕ, not, true}
+use Rattle.std.proofs.Common.{◌≡◌, ◌<◌, ◌≤◌, ◌+◌, ◌*◌, ◌-◌, ◌^◌, ◌==◌, ◌++◌, ℕ, true}
 use Rattle.std.proofs.Common.{List, [], ◌∷◌, length, map, take, drop, get_or, Option, Some, None}
 use Rattle.std.proofs.Common.{Ok, inl, inr, refl, ap, sym, ◌∙◌, arith}
 use Rattle.std.specs.Prelude.{slice_range, nat_lt}
 use Rattle.std.specs.Char.{is_ascii_digit, digit_value}
-use Rattle.std.specs.List.{list_all, position}
+use Rattle.std.specs.List.{list_all, list_any}
 use Rattle.std.specs.Fmt.{decimal}
 use Rattle.std.specs.Str.Parse.{digits_value_after}
 use Rattle.std.proofs.Common.{length-drop}
 use Rattle.std.proofs.lemmas.List.{drop_more, drop-drop, take-append-drop, take_all}
 use Rattle.std.proofs.lemmas.Bool.{cases_Bool, and_parts, eqb-true, ltb-true}
 use Rattle.std.proofs.lemmas.Bool.Decides.{nat_tests}
-use Rattle.std.proofs.lemmas.Fmt.{decimal-digits_value}
 use Rattle.semver.specs.Order.{parts}
 use Rattle.semver.specs.OrderLaws.{join_dots, join-parts}
 use Rattle.vk_spec.specs.Versions.{Class, Version}
@@ -23,8 +22,8 @@ use Rattle.vk_version.specs.Texts.{is_number, number_of, all_fit, are_digits, is
 use Rattle.vk_version.specs.Texts.{numbers_of_day, first_part, later_parts, later_numbers, day_of}
 use Rattle.vk_version.specs.Texts.{is_dated, has_day}
 use Rattle.vk_version.specs.Readings.{IsVersion, reads_version, unless, fault_under}
-use Rattle.vk_version.proofs.DigitLemmas.{own}
-use Rattle.vk_version.proofs.CutLemmas.{uncut, cut_at, position-Some}
+use Rattle.vk_version.proofs.DigitLemmas.{number_digits}
+use Rattle.vk_version.proofs.CutLemmas.{uncut, cut_at}
 
 -- ---- numbers
 
@@ -53,19 +52,9 @@ same_digits m n (c ∷ ds) (d ∷ es) p q l e =
 
 pub same_number : (p q : List ℕ) → is_number p ≡ true → is_number q ≡ true
     → nat_lt (number_of p) (2 ^ 64) ≡ true → number_of p ≡ number_of q → p ≡ q
-same_number [] q e f fit same = (cc)
-same_number (b ∷ bs) [] e f fit same = (cc)
-same_number (b ∷ bs) (c ∷ cs) e f fit same =
-    let es = and_parts (not (b == 48) || length bs == 0) (list_all is_ascii_digit (b ∷ bs)) e in
-    let fs = and_parts (not (c == 48) || length cs == 0) (list_all is_ascii_digit (c ∷ cs)) f in
-    let small : number_of (b ∷ bs) < 2 ^ 64 = ltb-true _ _ fit in
-    let one : decimal (number_of (b ∷ bs)) ≡ b ∷ bs =
-    decimal-digits_value own (b ∷ bs) es.1 (omega arith)
-    (λ z. grind (arith, nat_tests)) small in
-    let two : decimal (number_of (c ∷ cs)) ≡ c ∷ cs =
-    decimal-digits_value own (c ∷ cs) fs.1 (omega arith) (λ z. grind (arith, nat_tests))
-    (rw same at small) in
-    sym one ∙ ap decimal same ∙ two
+same_number p q e f fit same =
+    let small : number_of p < 2 ^ 64 = ltb-true _ _ fit in
+    sym (number_digits p e small) ∙ ap decimal same ∙ number_digits q f (rw same at small)
 
 same_numbers : (ps qs : List (List ℕ)) → list_all is_number ps ≡ true → list_all is_number qs ≡ true
     → all_fit (map number_of ps) ≡ true → map number_of ps ≡ map number_of qs → ps ≡ qs
@@ -152,13 +141,12 @@ same_day t u et eu same =
 
 -- ---- texts
 
-parts_cut : (t : List ℕ) (place : Option ℕ) → position (λ b. b == 46) t ≡ place
-    → parts t ≡ first_part t ∷ later_parts t
-parts_cut t None e = let c = uncut (λ b. b == 46) t e in rw (c.1, c.0) refl
-parts_cut t (Some i) e =
-    let c = cut_at (λ b. b == 46) t i 0 e in
-    let at = position-Some (λ b. b == 46) t i e in
-    rw (c, at.0) refl
+parts_cut : (t : List ℕ) → parts t ≡ first_part t ∷ later_parts t
+parts_cut t =
+    elim (cases_Bool (list_any (λ b. b == 46) t)) [
+      | inl dot ↦ rw (cut_at (λ b. b == 46) t 0 dot) refl
+      | inr none ↦ rw (uncut (λ b. b == 46) t none) refl
+    ]
 
 pub same_text : (t u : List ℕ) → is_dated t ≡ true → is_dated u ≡ true
     → all_fit (later_numbers t) ≡ true → day_of t ≡ day_of u → later_numbers t ≡ later_numbers u
@@ -168,8 +156,7 @@ same_text t u dt du fit days later =
     let q = and_parts (is_day (first_part u)) (list_all is_number (later_parts u)) du in
     let front = same_day (first_part t) (first_part u) p.0 q.0 days in
     let back = same_numbers (later_parts t) (later_parts u) p.1 q.1 fit later in
-    let same : parts t ≡ parts u = parts_cut t _ refl ∙ rw (front, back) refl
-    ∙ sym (parts_cut u _ refl) in
+    let same : parts t ≡ parts u = parts_cut t ∙ rw (front, back) refl ∙ sym (parts_cut u) in
     sym (join-parts t) ∙ ap join_dots same ∙ join-parts u
 
 -- ---- versions

@@ -10,10 +10,10 @@ ghost use Rattle.vk_version.specs.AskViews.{ask_view};
 
 use crate::cuts::split;
 use crate::faults::VersionFault;
-use crate::numbers::{is_number, number};
+use crate::numbers::is_number;
 use crate::plains::is_plain;
 use std::alloc::{AllocError, Global};
-use vk_base::{Memory, Text, Unread, token};
+use vk_base::{Memory, Text, Unread, read_u32, token};
 
 /// What a minimum, a baseline entry or an override asks for: a version's text without a scheme, and
 /// a port-version. A port's versions table says which version it means.
@@ -61,16 +61,16 @@ fn read_plain(alloc: Global, text: &str) -> Result<Text, Unread<VersionFault>>
 }
 
 // Reads what stands after a hash.
-fn read_port(digits: &[u8]) -> Result<u32, Unread<VersionFault>>
+fn read_port(digits: &str) -> Result<u32, Unread<VersionFault>>
     ensures { Gives (λ n. n) fault_in result
         (unless (port_fault digits.now) (number_of digits.now)) }
 {
-    if !is_number(digits) {
+    if !is_number(digits.as_bytes()) {
         return Err(Unread::Fault(VersionFault::Shape));
     }
-    match number(digits) {
-        Some(port) if port <= u32::MAX as u64 => Ok(port as u32),
-        _ => Err(Unread::Fault(VersionFault::Number)),
+    match read_u32(digits) {
+        Some(port) => Ok(port),
+        None => Err(Unread::Fault(VersionFault::Number)),
     }
 }
 
@@ -84,7 +84,7 @@ pub fn read_ask(alloc: Global, text: &str) -> Result<Ask, Unread<VersionFault>>
     match port {
         Some(digits) => Ok(Ask {
             text: version,
-            port: read_port(digits.as_bytes())?,
+            port: read_port(digits)?,
         }),
         None => Ok(Ask {
             text: version,

@@ -7,6 +7,7 @@ ghost use Rattle.vk_version.specs.Texts.{are_digits, is_day, number_of, has_day,
 
 use crate::numbers;
 use jiff::civil::Date;
+use std::str;
 
 // Whether a text is so many digits.
 fn are_digits(text: &[u8], count: usize) -> bool
@@ -35,7 +36,7 @@ fn small_number(digits: &[u8]) -> u64
     ensures value { result ≡ number_of digits.now }
     ensures small { result < 10 ^ length digits.now }
 {
-    numbers::number(digits).unwrap()
+    str::from_utf8(digits).unwrap().parse().unwrap()
 }
 
 // Whether the calendar has this year, month and day.

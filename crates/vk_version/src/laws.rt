@@ -3,6 +3,7 @@
 
 ghost use Rattle.std.specs.Prelude.{◌≡◌, ◌≢◌, ◌<◌, ◌≤◌, ◌^◌, pos, ◌↔◌, ◌∷◌, [], ℕ, List, Some, Ok};
 ghost use Rattle.std.specs.Prelude.{Err, IsTrue, false, if◌then◌else◌};
+ghost use Rattle.std.specs.Fmt.{decimal};
 ghost use Rattle.std.specs.List.{Contains, list_any};
 ghost use Rattle.semver.specs.Order.{parts};
 ghost use Rattle.semver.specs.Parse.{Parts, version_parts};
@@ -82,6 +83,15 @@ pub fn padded_numbers_are_refused()
     ensures date { (text part : List ℕ) (port : ℕ) → IsPadded part
         → Contains (later_parts text) part
         → reads_version the.date text port ≡ Err fault.Shape }
+{}
+
+/// A number of a version's text is written in the decimal digits of what it says, as those that
+/// `vk_base::read_u64` reads, and every number of 64 bits is written so.
+pub fn numbers_are_decimal()
+    ensures digits { (text : List ℕ) → IsTrue (is_number text) → number_of text < 2 ^ 64
+        → decimal (number_of text) ≡ text }
+    ensures number { (n : ℕ) → n < 2 ^ 64 → IsTrue (is_number (decimal n)) }
+    ensures value { (n : ℕ) → n < 2 ^ 64 → number_of (decimal n) ≡ n }
 {}
 
 /// Two texts of one number are the same text.

@@ -1,8 +1,9 @@
 //! Numbers without leading zeros, and such numbers joined by dots.
-ghost use Rattle.std.specs.Prelude.{◌≡◌, ◌==◌, ◌∷◌, ◌++◌, ◌<◌, ◌^◌, [], length, map, nat_lt, Some};
-ghost use Rattle.std.specs.Prelude.{None, Ok, OnOk, if◌then◌else◌, IfSome, true, false};
-ghost use Rattle.std.specs.List.{list_all, position};
+ghost use Rattle.std.specs.Prelude.{◌≡◌, ◌==◌, ◌∷◌, ◌++◌, ◌<◌, ◌^◌, [], length, map, nat_lt};
+ghost use Rattle.std.specs.Prelude.{Ok, OnOk, IfSome, true, false};
+ghost use Rattle.std.specs.List.{list_all};
 ghost use Rattle.std.specs.Char.{is_ascii_digit};
+ghost use Rattle.std.specs.Str.{IsUtf8};
 ghost use Rattle.semver.specs.Order.{parts};
 ghost use Rattle.vk_spec.specs.Reading.{Gives};
 ghost use Rattle.vk_version.specs.Steps.{fits_if, parts_in};
@@ -10,9 +11,9 @@ ghost use Rattle.vk_base.specs.Stops.{fault_in};
 ghost use Rattle.vk_version.specs.Texts.{is_number, is_dotted, number_of, numbers_in, all_fit};
 ghost use Rattle.vk_version.specs.Texts.{first_part};
 
+use crate::cuts::split;
 use crate::faults::VersionFault;
-use std::str;
-use vk_base::{List, Unread};
+use vk_base::{List, Unread, read_u64};
 
 // Whether these are digits alone.
 pub(crate) fn are_digits(text: &[u8]) -> bool
@@ -39,56 +40,31 @@ pub(crate) fn is_dotted(text: &[u8]) -> bool
     text.split(|byte| *byte == b'.').all(is_number)
 }
 
-// Where the first dot of a text stands, if it has one.
-fn dot_at(text: &[u8]) -> Option<usize>
-    ensures { result ≡ position (λ b. b == 46) text.now }
-{
-    text.iter().position(|byte| *byte == b'.')
-}
-
 // The part of a text before its first dot, and what stands after that dot, if there is one.
-pub(crate) fn cut(text: &[u8]) -> (&[u8], Option<&[u8]>)
+pub(crate) fn cut(text: &str) -> (&str, Option<&str>)
     ensures front { result.0.now ≡ first_part text.now }
     ensures whole { parts text.now ≡ result.0.now ∷ parts_in result.1 }
     ensures shorter { IfSome result.1 (λ rest. length rest.now < length text.now) }
+    ensures utf8 { IfSome result.1 (λ rest. IsUtf8 rest.now) }
 {
-    match dot_at(text) {
-        None => (text, None),
-        Some(at) => (&text[..at], Some(&text[at + 1..])),
-    }
-}
-
-// The number that digits say; `None` exactly where it is above the type's last value.
-pub(crate) fn number(digits: &[u8]) -> Option<u64>
-    requires some { 0 < length digits.now }
-    requires digits { list_all is_ascii_digit digits.now ≡ true }
-    ensures { result ≡ (if nat_lt (number_of digits.now) (2 ^ 64) then Some
-        (number_of digits.now) else None) }
-{
-    match str::from_utf8(digits) {
-        Ok(text) => text.parse().ok(),
-        Err(_) => None,
-    }
+    split(text, '.')
 }
 
 // Puts the number that digits say at the end of a list.
-pub(crate) fn push_number(
-    numbers: &mut List<u64>,
-    digits: &[u8],
-) -> Result<(), Unread<VersionFault>>
+pub(crate) fn push_number(numbers: &mut List<u64>, digits: &str) -> Result<(), Unread<VersionFault>>
     requires { is_number digits.now ≡ true }
     ensures fits { Gives (λ _. tt) fault_in result
         (fits_if (nat_lt (number_of digits.now) (2 ^ 64))) }
     ensures ok { OnOk result (numbers.new ≡ numbers.old ++ number_of digits.now ∷ []) }
 {
-    match number(digits) {
+    match read_u64(digits) {
         Some(number) => Ok(numbers.push(number)?),
         None => Err(Unread::Fault(VersionFault::Number)),
     }
 }
 
 // Puts the numbers of a dotted text at the end of a list.
-pub(crate) fn push_numbers(numbers: &mut List<u64>, text: &[u8]) -> Result<(), Unread<VersionFault>>
+pub(crate) fn push_numbers(numbers: &mut List<u64>, text: &str) -> Result<(), Unread<VersionFault>>
     requires { is_dotted text.now ≡ true }
     ensures fits { Gives (λ _. tt) fault_in result (fits_if (all_fit (numbers_in text.now))) }
     ensures ok { OnOk result (numbers.new ≡ numbers.old ++ numbers_in text.now) }
@@ -105,11 +81,11 @@ pub(crate) fn push_numbers(numbers: &mut List<u64>, text: &[u8]) -> Result<(), U
 }
 
 // Whether what stands after a first dot, if there is one, is numbers joined by dots.
-pub(crate) fn are_numbers(later: Option<&[u8]>) -> bool
+pub(crate) fn are_numbers(later: Option<&str>) -> bool
     ensures { result ≡ list_all is_number (parts_in later.entry) }
 {
     match later {
-        Some(text) => is_dotted(text),
+        Some(text) => is_dotted(text.as_bytes()),
         None => true,
     }
 }
@@ -117,7 +93,7 @@ pub(crate) fn are_numbers(later: Option<&[u8]>) -> bool
 // Puts the numbers after a first dot, if there is one, at the end of a list.
 pub(crate) fn push_later(
     numbers: &mut List<u64>,
-    later: Option<&[u8]>,
+    later: Option<&str>,
 ) -> Result<(), Unread<VersionFault>>
     requires { list_all is_number (parts_in later) ≡ true }
     ensures fits { Gives (λ _. tt) fault_in result

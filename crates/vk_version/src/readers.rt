@@ -26,7 +26,7 @@ fn read_relaxed(alloc: Global, text: &str, port: u32) -> Result<Version, Unread<
 {
     let (core, pre) = read_form(alloc, text)?;
     let mut numbers = List::new(alloc);
-    push_numbers(&mut numbers, core.as_bytes())?;
+    push_numbers(&mut numbers, core)?;
     with_parts(alloc, Class::Dot, text, port, numbers, pre)
 }
 
@@ -45,11 +45,12 @@ fn read_semver(alloc: Global, text: &str, port: u32) -> Result<Version, Unread<V
 
 // The year, the month and the day that a text begins with, and what stands after its first dot.
 // `Shape` where it isn't a day with numbers after it, then `Day` where the calendar hasn't the day.
-fn cut_date(text: &[u8]) -> Result<([u64; 3], Option<&[u8]>), Unread<VersionFault>>
+fn cut_date(text: &str) -> Result<([u64; 3], Option<&str>), Unread<VersionFault>>
     ensures ok { IfOk result (λ r. IsDate text.now r.0 (parts_in r.1)) }
     ensures err { IfErr result (λ e. fault_in e ≡ date_fault text.now) }
 {
     let (day, later) = cut(text);
+    let day = day.as_bytes();
     if !is_day(day) || !are_numbers(later) {
         return Err(Unread::Fault(VersionFault::Shape));
     }
@@ -63,7 +64,7 @@ fn cut_date(text: &[u8]) -> Result<([u64; 3], Option<&[u8]>), Unread<VersionFaul
 fn read_date(alloc: Global, text: &str, port: u32) -> Result<Version, Unread<VersionFault>>
     ensures { Gives (λ v. v) fault_in result (reads_version the.date text.now port) }
 {
-    let (day, later) = cut_date(text.as_bytes())?;
+    let (day, later) = cut_date(text)?;
     let mut numbers = List::from_slice(alloc, &day)?;
     push_later(&mut numbers, later)?;
     with_parts(alloc, Class::Date, text, port, numbers, Prerelease::empty())

@@ -11,7 +11,7 @@ push_later-requires c = later_numbered _ _ _ c.in_ok-day.ensures.ok
 
 pub with_parts-requires : goal.with_parts-requires
 with_parts-requires c =
-    let date = rw c.as_bytes.ensures.value at c.in_ok-day.ensures.ok in
+    let date = c.in_ok-day.ensures.ok in
     let fit = fits_if-Ok _ c.in_ok-push_later.ensures.fits in
     record {
       version = record { scheme = the.date; reads = date_reads _ _ _ c.args.port date fit };

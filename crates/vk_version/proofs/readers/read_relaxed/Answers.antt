@@ -18,12 +18,12 @@ push_numbers-requires c =
     let both =
     and_parts (is_dotted (core_of c.args.text.now))
     (is_tail (tail_of c.args.text.now)) known.form in
-    ap is_dotted (c.as_bytes.ensures.value ∙ sym known.core) ∙ both.0
+    ap is_dotted (sym known.core) ∙ both.0
 
 pub returns-in_err-push_numbers : goal.returns-in_err-push_numbers
 returns-in_err-push_numbers c =
     let known = form_known c.args.text.now _ _ c.in_ok-core.ensures in
-    let bytes = c.as_bytes.ensures.value ∙ sym known.core in
+    let bytes = sym known.core in
     let fits = rw bytes at c.in_err-push_numbers.ensures.fits in
     let p =
     err_from_is_err_and c.from_residual-in_err-push_numbers.result
@@ -33,7 +33,7 @@ returns-in_err-push_numbers c =
 pub with_parts-requires : goal.with_parts-requires
 with_parts-requires c =
     let known = form_known c.args.text.now _ _ c.in_ok-core.ensures in
-    let bytes = c.as_bytes.ensures.value ∙ sym known.core in
+    let bytes = sym known.core in
     let fit : all_fit (numbers_in (core_of c.args.text.now)) ≡ true =
     rw bytes at (fits_if-Ok _ c.in_ok-push_numbers.ensures.fits) in
     record {
