@@ -1,13 +1,12 @@
 -- In what is read of bytes, the keys of each object ascend.
 use Rattle.std.proofs.Common.{◌≡◌, ℕ, suc, zero, Bool, true, false, List, [], ◌∷◌, Ordering, inl, inr, refl, ap, sym, ◌∙◌, subst}
-use Rattle.std.specs.Prelude.{Option, Some, None, Ok, Err, Result, option_map, option_and_then, slice_get}
+use Rattle.std.specs.Prelude.{Option, Some, None, Ok, option_map, option_and_then, slice_get}
 use Rattle.std.specs.List.{AllByRecursion, Contains}
 use Rattle.std.specs.List.Sorted.{IsStrictlySortedBy}
 use Rattle.std.specs.Str.{is_utf8}
 use Rattle.std.specs.declared.cmp.Ordering.TheVariants.{Less, Equal, Greater}
 use Rattle.std.specs.Ordering.{nat_cmp, match_ordering, ordering_reverse}
 use Rattle.std.specs.Cmp.Lexicographic.{slice_cmp}
-use Rattle.std.specs.FinMap.{slice_cmp-IsAntisymmetric, nat_cmp-IsAntisymmetric}
 use Rattle.std.proofs.lemmas.Cmp.{nat_list_cmp_total}
 use Rattle.json.specs.Lex.{tokens}
 use Rattle.json.specs.Json as json
@@ -17,7 +16,6 @@ use Rattle.serde_json.specs.Read.{of_json, of_items, of_members, max_depth, read
 use Rattle.vk_spec.specs.Reading.{or_fault}
 use Rattle.vk_spec.proofs.ListLemmas.{contains_nothing, contains_cases}
 use Rattle.vk_json.specs.declared.faults.FileFault.{FileFault}
-use Rattle.vk_json.specs.Places.{here}
 use Rattle.vk_json.specs.Documents.{json_of, value_of, without_mark}
 use Rattle.vk_json.specs.Looks.{list_of, names_of}
 use Rattle.vk_json.specs.KeyOrders.{KeysAscend}

@@ -1,4 +1,5 @@
 mod ItemLemmas
+mod NewItemLemmas
 mod DocumentLemmas
 pub mod MovingLemmas
 mod WordLemmas

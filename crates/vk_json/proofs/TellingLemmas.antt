@@ -1,5 +1,5 @@
 -- What every reading gives, and where each fault that it tells stands.
-use Rattle.std.proofs.Common.{◌≡◌, ◌≢◌, ◌+◌, ℕ, zero, suc, List, [], ◌∷◌, ◌++◌, refl, sym, subst, arith, append_assoc}
+use Rattle.std.proofs.Common.{◌≡◌, ◌≢◌, ◌+◌, ℕ, zero, suc, List, [], ◌∷◌, ◌++◌, map, refl, sym, subst, arith, append_assoc}
 use Rattle.std.specs.Prelude.{Option, Some, None, IfSome, IsSome, Result, Ok, Err, MatchResult, slice_get}
 use Rattle.std.specs.List.{All, Contains}
 use Rattle.std.specs.declared.cmp.Ordering.{Ordering}
@@ -19,6 +19,7 @@ use Rattle.vk_json.specs.declared.faults.Why.{Why}
 use Rattle.vk_json.specs.declared.faults.Why.TheVariants as why
 use Rattle.vk_json.specs.Looks.{list_of}
 use Rattle.vk_json.specs.Places.{here, moved, at_member, inside, member_step, item_step}
+use Rattle.vk_json.specs.NewItems.{NewReading, each_new_item}
 use Rattle.vk_json.specs.Readings.{Reading, MemberReading, text_at, bool_at, number_at, members_at, object_at, if_there, wanted, optional, read_or, optional_or, text_or_object, item_at, each_item, pairs_of, member_at, each_member}
 use Rattle.vk_json.specs.Standing.{itself, by_member, by_item, StandsIn, at_value, at_key}
 
@@ -219,10 +220,25 @@ after_says Good f ds earlier n (v ∷ xs) are reads good =
     (says_item (λ y. Good (earlier ++ y ∷ [])) ds n v (f earlier v) (subst (λ m. slice_get (list_of ds) m ≡ Some v) at_n (are 0 v refl)) (reads earlier good v))
     (λ y p. after_says Good f ds (earlier ++ y ∷ []) (n + 1) xs (λ k w e. let at_k : suc k + n ≡ k + (n + 1) = omega arith in subst (λ m. slice_get (list_of ds) m ≡ Some w) at_k (are (suc k) w e)) reads p)
 
--- a list whose items are read so, from the first on
-pub list_after_says : {A : Type 0} (Good : List A → Type 0) (f : List A → Reading A) → ((earlier : List A) → Good earlier → Reads (λ y. Good (earlier ++ y ∷ [])) (f earlier)) → Good []
-    → (ds : Items) → Says Good (json.array ds) (read_after (λ before m v. inside (item_step m) (f before v)) [] 0 (list_of ds))
-list_after_says Good f reads good ds = after_says Good f ds [] 0 (list_of ds) (λ k v e. let at_k : k ≡ k + 0 = omega arith in subst (λ m. slice_get (list_of ds) m ≡ Some v) at_k e) reads good
+-- a list whose items each have a key of their own, from the first on
+pub each_new_item_says : {K A : Type 0} (Good : List A → Type 0) (key : A → K) (f : NewReading K A)
+    → ((earlier : List A) → Good earlier
+    → Reads (λ y. Good (earlier ++ y ∷ [])) (f (map key earlier)))
+    → Good [] → Reads Good (each_new_item key f)
+unfolding each_new_item
+each_new_item_says Good key f reads good json.null = told_here json.null why.List (λ e. (cc))
+each_new_item_says Good key f reads good (json.boolean b) =
+    told_here (json.boolean b) why.List (λ e. (cc))
+each_new_item_says Good key f reads good (json.number n) =
+    told_here (json.number n) why.List (λ e. (cc))
+each_new_item_says Good key f reads good (json.string s) =
+    told_here (json.string s) why.List (λ e. (cc))
+each_new_item_says Good key f reads good (json.object ms) =
+    told_here (json.object ms) why.List (λ e. (cc))
+each_new_item_says Good key f reads good (json.array ds) =
+    after_says Good (λ earlier. f (map key earlier)) ds [] 0 (list_of ds)
+    (λ k v e. let at_k : k ≡ k + 0 = omega arith in
+    subst (λ m. slice_get (list_of ds) m ≡ Some v) at_k e) reads good
 
 -- what is said of the fault that was told, and of the value that was given
 pub told_stands : {A : Type 0} (P : A → Type 0) (d : Data) (r : Result A FileFault) (fault : FileFault) → Says P d r → r ≡ Err fault → StandsIn d fault

@@ -3,6 +3,7 @@ pub mod Places
 pub mod Documents
 pub mod Looks
 pub mod Readings
+pub mod NewItems
 pub mod Words
 -- what functions, laws and examples say besides
 pub mod DocumentView

@@ -6,6 +6,7 @@
 mod documents;
 mod faults;
 mod getters;
+mod new_items;
 mod places;
 mod readers;
 mod words;
@@ -13,6 +14,7 @@ mod words;
 pub use documents::{Doc, document_keys};
 pub use faults::{FileFault, Why};
 pub use getters::{as_bool, as_number, as_text, items, keys, member};
+pub use new_items::{NewItemReader, each_new_item};
 pub use places::{at, in_item, in_member, place_text, under, wrong, wrong_member};
 pub use readers::{
     AnyBoolean, AnyText, ListOf, MemberReader, ObjectOf, Reader, SmallNumber, boolean, each_item,

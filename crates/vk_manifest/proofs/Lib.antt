@@ -1,4 +1,3 @@
-mod OverrideLemmas
 mod KeyLemmas
 mod FeatureOrders
 pub mod TellingLemmas

@@ -19,7 +19,7 @@ use Rattle.vk_json.specs.declared.faults.FileFault.{FileFault}
 use Rattle.vk_json.specs.declared.faults.Why.TheVariants as why
 use Rattle.vk_json.specs.Places.{at_member}
 use Rattle.vk_json.specs.Readings.{bool_at, optional, each_item, each_member}
-use Rattle.vk_json.proofs.TellingLemmas.{Says, Reads, Anything, says_then, says_weaker, told_here, told_at, bool_says, object_says, wanted_says, wanted_there, optional_says, optional_or_says, text_or_object_says, each_item_says, each_member_says, list_after_says}
+use Rattle.vk_json.proofs.TellingLemmas.{Says, Reads, Anything, says_then, says_weaker, told_here, told_at, bool_says, object_says, wanted_says, wanted_there, optional_says, optional_or_says, text_or_object_says, each_item_says, each_member_says, each_new_item_says}
 use Rattle.vk_fields.specs.Wording.{name_word}
 use Rattle.vk_fields.specs.Texts.{port_name_at, feature_name_at, expression_at, ask_at}
 use Rattle.vk_fields.specs.Versions.{key_of, scheme_needed, written_ask_under}
@@ -150,13 +150,7 @@ later_says : (earlier : List Override) → AreNew earlier → Reads (λ o. AreNe
 later_says earlier are d = says_weaker (IsNew (names_of earlier)) (λ o. AreNew (earlier ++ o ∷ [])) d (override_from (names_of earlier) d) (override_says (names_of earlier) d) (λ o is. one_more earlier o are is)
 
 overrides_at_says : Reads AreNew overrides_at
-unfolding overrides_at
-overrides_at_says json.null = told_here json.null why.List (λ e. (cc))
-overrides_at_says (json.boolean b) = told_here (json.boolean b) why.List (λ e. (cc))
-overrides_at_says (json.number n) = told_here (json.number n) why.List (λ e. (cc))
-overrides_at_says (json.string s) = told_here (json.string s) why.List (λ e. (cc))
-overrides_at_says (json.object ms) = told_here (json.object ms) why.List (λ e. (cc))
-overrides_at_says (json.array ds) = list_after_says AreNew (λ earlier. override_from (names_of earlier)) later_says (All-nil IsNamedOverride, tt) ds
+overrides_at_says = each_new_item_says AreNew (λ (o : Override). o.name) override_from later_says (All-nil IsNamedOverride, tt)
 
 overrides_says : Reads AreNew overrides_in
 overrides_says d = optional_or_says AreNew overrides_at overrides_at_says (codes "overrides") d [] (All-nil IsNamedOverride, tt)

@@ -3,7 +3,7 @@ use Rattle.std.specs.Prelude.{ℕ, Bool, true, false, List, [], Option, Some, No
 use Rattle.std.specs.Prelude.{Result, Ok, Err, codes, if◌then◌else◌}
 use Rattle.std.specs.List.{list_any}
 use Rattle.std.specs.Str.{bytes_eq}
-use Rattle.vk_spec.specs.Reading.{◌>>=◌, or_fault, read_after}
+use Rattle.vk_spec.specs.Reading.{◌>>=◌}
 use Rattle.vk_spec.specs.Versions.{Version, Ask}
 use Rattle.vk_spec.specs.Manifests.{FeatureUse, Dependency, Feature, Override, Manifest}
 use Rattle.vk_base.specs.Names.{reads_feature}
@@ -11,8 +11,8 @@ use Rattle.vk_spec.specs.Conditions.{Condition, always}
 use Rattle.vk_json.specs.Documents.{json_of}
 use Rattle.vk_json.specs.declared.faults.FileFault.{FileFault}
 use Rattle.vk_json.specs.declared.faults.Why.TheVariants as why
-use Rattle.vk_json.specs.Looks.{items_of}
-use Rattle.vk_json.specs.Places.{here, at_member, inside, item_step}
+use Rattle.vk_json.specs.NewItems.{each_new_item}
+use Rattle.vk_json.specs.Places.{at_member}
 use Rattle.vk_json.specs.Readings.{Reading, MemberReading, bool_at, object_at}
 use Rattle.vk_json.specs.Readings.{wanted, optional, optional_or, text_or_object, each_item}
 use Rattle.vk_json.specs.Readings.{each_member}
@@ -130,12 +130,9 @@ override_from names d = do
 abbrev pub names_of : List Override → List (List ℕ)
 names_of overrides = map (λ o. o.name) overrides
 
--- an override, after those before it
-abbrev pub override_item : List Override → ℕ → Reading Override
-override_item earlier n d = inside (item_step n) (override_from (names_of earlier) d)
-
-unfoldable pub overrides_at : Reading (List Override)
-overrides_at d = or_fault (here why.List) (items_of d) >>= read_after override_item [] 0
+-- overrides, each with a name of its own
+abbrev pub overrides_at : Reading (List Override)
+overrides_at = each_new_item (λ (o : Override). o.name) override_from
 
 abbrev pub overrides_in : Reading (List Override)
 overrides_in = optional_or [] overrides_at (codes "overrides")

@@ -1,14 +1,13 @@
 //! The versions that a root sets.
-ghost use Rattle.std.specs.Prelude.{◌≡◌, ◌++◌, List, [], ◌∷◌, map, IfOk, OnOk};
+ghost use Rattle.std.specs.Prelude.{◌≡◌, ◌++◌, ℕ, List, [], ◌∷◌, map, IfOk, OnOk};
 ghost use Rattle.serde_json.specs.View.{view};
-ghost use Rattle.vk_spec.specs.Reading.{Gives, read_after};
+ghost use Rattle.vk_spec.specs.Reading.{Gives};
 ghost use Rattle.vk_spec.specs.Manifests as plain;
 ghost use Rattle.vk_base.specs.Stops.{fault_in};
 ghost use Rattle.vk_version.specs.AskViews.{ask_view};
 ghost use Rattle.vk_model.specs.Views.{override_view};
-ghost use Rattle.vk_json.specs.Places.{inside, item_step};
 ghost use Rattle.vk_manifest.specs.Manifests.{new_name, new_name_at, override_ask_at};
-ghost use Rattle.vk_manifest.specs.Manifests.{override_from, override_item};
+ghost use Rattle.vk_manifest.specs.Manifests.{override_from};
 ghost use Rattle.vk_manifest.specs.Manifests.{overrides_at, overrides_in};
 
 use indexmap::IndexSet;
@@ -17,7 +16,7 @@ use std::alloc::Global;
 use vk_base::{List, PortName, Unread};
 use vk_fields::{PortNameText, key, scheme_needed, written_ask_under};
 use vk_json::{
-    FileFault, Reader, Why, in_item, items, object, optional_or, wanted, wrong, wrong_member,
+    FileFault, NewItemReader, Reader, Why, each_new_item, object, optional_or, wanted, wrong_member,
 };
 use vk_model::Override;
 use vk_version::Ask;
@@ -60,56 +59,45 @@ fn read_ask(alloc: Global, value: &Value) -> Result<Ask, Unread<FileFault>>
     written_ask_under(alloc, value, key(scheme))
 }
 
+// Reads an override, whose name no override before has.
+#[derive(Drop)]
+struct NewOverride;
+
 #[tactic(auto, unfolding(crate::specs::Manifests::override_from))]
-fn read_override(
-    alloc: Global,
-    value: &Value,
-    names: &mut IndexSet<PortName>,
-) -> Result<Override, Unread<FileFault>>
-    ensures value { Gives override_view fault_in result
-        (override_from names.old.keys (view value.now)) }
-    ensures noted { IfOk result (λ o. names.new.keys ≡ names.old.keys ++ o.name ∷ []) }
-{
-    object(alloc, value)?;
-    let name = read_name(alloc, value, names)?;
-    let ask = read_ask(alloc, value)?;
-    Ok(Override { name, ask })
-}
+impl NewItemReader for NewOverride {
+    type Out = Override;
 
-fn read_item(
-    alloc: Global,
-    n: usize,
-    value: &Value,
-    names: &mut IndexSet<PortName>,
-) -> Result<Override, Unread<FileFault>>
-    ensures value { Gives override_view fault_in result
-        (inside (item_step n) (override_from names.old.keys (view value.now))) }
-    ensures noted { IfOk result (λ o. names.new.keys ≡ names.old.keys ++ o.name ∷ []) }
-{
-    match read_override(alloc, value, names) {
-        Ok(read) => Ok(read),
-        Err(fault) => Err(in_item(alloc, n, fault)),
-    }
-}
+    type Key = PortName;
 
-fn read_items(alloc: Global, values: &[Value]) -> Result<List<Override>, Unread<FileFault>>
-    ensures { Gives (map override_view) fault_in result
-        (read_after override_item [] 0 (map view values.now)) }
-{
-    let mut read = List::new(alloc);
-    let mut names = IndexSet::new(alloc);
-    for (n, value) in values.iter().enumerate() {
-        let item = read_item(alloc, n, value, &mut names)?;
-        read.push(item)?;
+    ghost Plain = { plain.Override };
+
+    ghost plain = { override_view };
+
+    ghost PlainKey = { List ℕ };
+
+    ghost plain_key = { λ name. name };
+
+    ghost key_of = { λ o. o.name };
+
+    ghost reads = { λ r. override_from };
+
+    fn read(
+        &self,
+        alloc: Global,
+        value: &Value,
+        names: &mut IndexSet<PortName>,
+    ) -> Result<Override, Unread<FileFault>> {
+        object(alloc, value)?;
+        let name = read_name(alloc, value, names)?;
+        let ask = read_ask(alloc, value)?;
+        Ok(Override { name, ask })
     }
-    Ok(read)
 }
 
 // Reads the overrides.
 #[derive(Drop)]
 struct OverrideList;
 
-#[tactic(auto, unfolding(crate::specs::Manifests::overrides_at))]
 impl Reader for OverrideList {
     type Out = List<Override>;
 
@@ -120,10 +108,8 @@ impl Reader for OverrideList {
     ghost reads = { λ r. overrides_at };
 
     fn read(&self, alloc: Global, value: &Value) -> Result<List<Override>, Unread<FileFault>> {
-        match items(value) {
-            Some(values) => read_items(alloc, values),
-            None => Err(wrong(alloc, Why::List)),
-        }
+        let (read, _) = each_new_item(alloc, value, &NewOverride)?;
+        Ok(read)
     }
 }
 

@@ -18,14 +18,13 @@ use Rattle.vk_version.specs.declared.asks.Ask.{Ask}
 use Rattle.vk_json.specs.declared.faults.Why.TheVariants as why
 use Rattle.vk_json.specs.Documents.{json_of}
 use Rattle.vk_json.specs.Looks.{items_of}
+use Rattle.vk_json.specs.NewItems.{each_new_item, new_item_at}
 use Rattle.vk_json.specs.Places.{here, item_step}
 use Rattle.vk_json.specs.Readings.{object_at, wanted}
 use Rattle.vk_fields.specs.Versions.{version_needed_at}
 use Rattle.vk_registry.specs.Folders.{IsBelow, folder_at}
-use Rattle.vk_registry.specs.Tables.{Row, ask_in, asks_of, row_at, new_ask, row_from, row_item}
+use Rattle.vk_registry.specs.Tables.{Row, ask_in, asks_of, row_at, new_ask, row_from}
 use Rattle.vk_registry.specs.Tables.{rows_at, table_at, table_of, IsTable, IsRowAt, HasNoRow}
-use Rattle.vk_registry.specs.TableViews.{row_view}
-use Rattle.vk_registry.specs.declared.tables.Row as declared
 use Rattle.vk_registry.proofs.StepLemmas.{bind_ok, inside_ok, wanted_ok, kept_after}
 use Rattle.vk_registry.proofs.AskLemmas.{any_kept}
 use Rattle.vk_registry.proofs.FolderLemmas.{folder_below}
@@ -56,7 +55,7 @@ new_by asks ask u false is e at = is_new asks ask is at
 
 -- with one row more it still is a table
 one_more : (earlier : List Row) (n : ℕ) (d : Data) (row : Row) → IsTable earlier
-    → row_item earlier n d ≡ Ok row → IsTable (earlier ++ row ∷ [])
+    → new_item_at ask_in row_from earlier n d ≡ Ok row → IsTable (earlier ++ row ∷ [])
 unfolding row_from
 one_more earlier n d row table e =
     let read =
@@ -78,31 +77,23 @@ no_rows : IsTable []
 no_rows = record { distinct = tt; below = All-nil (λ row. IsBelow row.path) }
 
 -- the rows that were read are a table
-pub rows_read : (ds : List Data) (rows : List Row) → read_after row_item [] 0 ds ≡ Ok rows
-    → IsTable rows
-rows_read ds rows e = kept_after IsTable row_item one_more [] 0 ds rows no_rows e
+pub rows_read : (d : Data) (rows : List Row) → rows_at d ≡ Ok rows → IsTable rows
+unfolding each_new_item
+rows_read d rows e =
+    let items =
+    bind_ok (or_fault (here why.List) (items_of d))
+    (read_after (new_item_at ask_in row_from) [] 0) rows e in
+    kept_after IsTable (new_item_at ask_in row_from) one_more [] 0 items.0 rows no_rows items.2
 
 pub table_read : (bytes : List ℕ) (rows : List Row) → table_of bytes ≡ Ok rows → IsTable rows
-unfolding table_at rows_at
+unfolding table_at
 table_read bytes rows e =
     let document = bind_ok (json_of bytes) table_at rows e in
     let object =
     bind_ok (object_at document.0)
     (λ o. wanted rows_at (codes "versions") document.0) rows document.2 in
     let list = wanted_ok rows_at (codes "versions") document.0 rows object.2 in
-    let items =
-    bind_ok (or_fault (here why.List) (items_of list.0))
-    (read_after row_item [] 0) rows list.2 in
-    rows_read items.0 rows items.2
-
--- one more row, and one more ask
-pub asks_grow : (read : List declared.Row) (row : declared.Row) {old new : List plain.Ask}
-    → old ≡ asks_of (map row_view read) → new ≡ old ++ ask_in (row_view row) ∷ []
-    → new ≡ asks_of (map row_view (read ++ row ∷ []))
-asks_grow read row known noted =
-    noted ∙ ap (λ asks. asks ++ ask_in (row_view row) ∷ []) known
-    ∙ sym (ap asks_of (map-append row_view read (row ∷ []))
-    ∙ map-append ask_in (map row_view read) (row_view row ∷ []))
+    rows_read list.0 rows list.2
 
 -- ---- finding rows
 

@@ -4,7 +4,6 @@ use Rattle.std.proofs.Common.{◌∙◌}
 use Rattle.std.specs.Prelude.{Option, Some, None, Ok, Err, codes, if◌then◌else◌}
 use Rattle.std.specs.List.{All, list_any}
 use Rattle.serde_json.specs.Data.{Data}
-use Rattle.serde_json.specs.Data as json
 use Rattle.vk_spec.specs.Paths.{Path}
 use Rattle.vk_spec.specs.Reading.{◌>>=◌}
 use Rattle.vk_spec.specs.Versions.{Ask, same_ask}
@@ -19,7 +18,7 @@ use Rattle.vk_json.specs.declared.faults.FileFault.{FileFault}
 use Rattle.vk_json.specs.declared.faults.Why.TheVariants as why
 use Rattle.vk_json.proofs.TellingLemmas.{Says, Reads, Anything, says_then, or_says, told_here}
 use Rattle.vk_json.proofs.TellingLemmas.{text_says, object_says, wanted_says, each_member_says}
-use Rattle.vk_json.proofs.TellingLemmas.{list_after_says, told_stands}
+use Rattle.vk_json.proofs.TellingLemmas.{each_new_item_says, told_stands}
 use Rattle.vk_fields.specs.Wording.{name_word, path_word}
 use Rattle.vk_fields.proofs.TellingLemmas.{name_there, said_says}
 use Rattle.vk_fields.proofs.TellingLemmas.{version_needed_says, ask_under_says}
@@ -113,15 +112,8 @@ row_from_says asks d =
     says_then Anything Anything d _ _ (new_says d asks (ask_in row)) (λ new any. tt))
 
 rows_says : Reads Anything rows_at
-unfolding rows_at
-rows_says json.null = told_here json.null why.List (λ e. (cc))
-rows_says (json.boolean b) = told_here (json.boolean b) why.List (λ e. (cc))
-rows_says (json.number n) = told_here (json.number n) why.List (λ e. (cc))
-rows_says (json.string s) = told_here (json.string s) why.List (λ e. (cc))
-rows_says (json.object ms) = told_here (json.object ms) why.List (λ e. (cc))
-rows_says (json.array ds) =
-    list_after_says Anything (λ earlier. row_from (asks_of earlier))
-    (λ earlier any. row_from_says (asks_of earlier)) tt ds
+rows_says =
+    each_new_item_says Anything ask_in row_from (λ earlier any. row_from_says (asks_of earlier)) tt
 
 table_says : Reads Anything table_at
 unfolding table_at

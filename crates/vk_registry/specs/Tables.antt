@@ -1,16 +1,16 @@
 -- A versions file: the versions of a port that a registry has, each with the port's folder.
-use Rattle.std.specs.Prelude.{◌≡◌, [], ℕ, List, Some, Result, Ok, Err, codes, map, slice_get}
+use Rattle.std.specs.Prelude.{◌≡◌, ℕ, List, Some, Result, Ok, Err, codes, map, slice_get}
 use Rattle.std.specs.Prelude.{if◌then◌else◌}
 use Rattle.std.specs.List.{All, Contains, list_any}
 use Rattle.vk_spec.specs.Lists.{NoRepeats}
 use Rattle.vk_spec.specs.Paths.{Path}
-use Rattle.vk_spec.specs.Reading.{◌>>=◌, or_fault, read_after}
+use Rattle.vk_spec.specs.Reading.{◌>>=◌}
 use Rattle.vk_spec.specs.Versions.{Version, Ask, ask_of, same_ask}
 use Rattle.vk_json.specs.declared.faults.Why.TheVariants as why
 use Rattle.vk_json.specs.Documents.{json_of}
 use Rattle.vk_json.specs.declared.faults.FileFault.{FileFault}
-use Rattle.vk_json.specs.Looks.{items_of}
-use Rattle.vk_json.specs.Places.{here, inside, item_step}
+use Rattle.vk_json.specs.NewItems.{each_new_item}
+use Rattle.vk_json.specs.Places.{here}
 use Rattle.vk_json.specs.Readings.{Reading, object_at, wanted}
 use Rattle.vk_fields.specs.Versions.{version_needed_at}
 use Rattle.vk_registry.specs.Folders.{IsBelow, folder_at}
@@ -46,12 +46,9 @@ row_from asks d = do
 abbrev pub asks_of : List Row → List Ask
 asks_of rows = map ask_in rows
 
--- a row, after those before it
-abbrev pub row_item : List Row → ℕ → Reading Row
-row_item earlier n d = inside (item_step n) (row_from (asks_of earlier) d)
-
-unfoldable pub rows_at : Reading (List Row)
-rows_at d = or_fault (here why.List) (items_of d) >>= read_after row_item [] 0
+-- rows, each with an ask of its own
+abbrev pub rows_at : Reading (List Row)
+rows_at = each_new_item ask_in row_from
 
 unfoldable pub table_at : Reading (List Row)
 table_at d = object_at d >>= λ object. wanted rows_at (codes "versions") d

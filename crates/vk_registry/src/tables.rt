@@ -2,13 +2,12 @@
 ghost use Rattle.std.specs.Prelude.{◌≡◌, ◌↔◌, ◌++◌, ◌∷◌, [], List, ℕ, Ok, None, map, IfOk, IfSome};
 ghost use Rattle.std.specs.Prelude.{OnOk};
 ghost use Rattle.serde_json.specs.View.{view};
-ghost use Rattle.vk_spec.specs.Reading.{Gives, read_after};
+ghost use Rattle.vk_spec.specs.Reading.{Gives};
 ghost use Rattle.vk_spec.specs.Versions as plain;
 ghost use Rattle.vk_version.specs.AskViews.{ask_view};
 ghost use Rattle.vk_base.specs.Stops.{fault_in};
-ghost use Rattle.vk_json.specs.Places.{inside, item_step};
 ghost use Rattle.vk_registry.specs.Tables as plain_table;
-ghost use Rattle.vk_registry.specs.Tables.{ask_in, row_at, new_ask, row_from, row_item, rows_at};
+ghost use Rattle.vk_registry.specs.Tables.{ask_in, row_at, new_ask, row_from, rows_at};
 ghost use Rattle.vk_registry.specs.Tables.{table_at, table_of, IsTable, IsRowAt, HasNoRow};
 ghost use Rattle.vk_registry.specs.TableViews.{row_view};
 
@@ -19,7 +18,7 @@ use std::alloc::Global;
 use std::marker::Model;
 use vk_base::{List, TreePath, Unread};
 use vk_fields::version_needed;
-use vk_json::{Doc, FileFault, Reader, Why, in_item, items, object, wanted, wrong};
+use vk_json::{Doc, FileFault, NewItemReader, Reader, Why, each_new_item, object, wanted, wrong};
 use vk_version::{Ask, Version};
 
 /// A version of a port, and the port's folder.
@@ -88,56 +87,44 @@ fn note_ask(alloc: Global, asks: &mut IndexSet<Ask>, row: &Row) -> Result<(), Un
     Err(wrong(alloc, Why::Twice))
 }
 
+// Reads a row, whose text and port-version no row before has.
+#[derive(Drop)]
+struct NewRow;
+
 #[tactic(auto, unfolding(crate::specs::Tables::row_from))]
-fn read_new_row(
-    alloc: Global,
-    value: &Value,
-    asks: &mut IndexSet<Ask>,
-) -> Result<Row, Unread<FileFault>>
-    ensures row { Gives row_view fault_in result
-        (row_from (map ask_view asks.old.keys) (view value.now)) }
-    ensures noted { IfOk result (λ row. map ask_view asks.new.keys ≡ map ask_view asks.old.keys
-        ++ ask_in (row_view row) ∷ []) }
-{
-    let row = read_row(alloc, value)?;
-    note_ask(alloc, asks, &row)?;
-    Ok(row)
-}
+impl NewItemReader for NewRow {
+    type Out = Row;
 
-fn read_item(
-    alloc: Global,
-    n: usize,
-    value: &Value,
-    asks: &mut IndexSet<Ask>,
-) -> Result<Row, Unread<FileFault>>
-    ensures row { Gives row_view fault_in result
-        (inside (item_step n) (row_from (map ask_view asks.old.keys) (view value.now))) }
-    ensures noted { IfOk result (λ row. map ask_view asks.new.keys ≡ map ask_view asks.old.keys
-        ++ ask_in (row_view row) ∷ []) }
-{
-    match read_new_row(alloc, value, asks) {
-        Ok(row) => Ok(row),
-        Err(fault) => Err(in_item(alloc, n, fault)),
-    }
-}
+    type Key = Ask;
 
-fn read_rows(alloc: Global, values: &[Value]) -> Result<Table, Unread<FileFault>>
-    ensures { Gives (λ t. t) fault_in result (read_after row_item [] 0 (map view values.now)) }
-{
-    let mut rows = List::new(alloc);
-    let mut asks = IndexSet::new(alloc);
-    for (n, value) in values.iter().enumerate() {
-        let row = read_item(alloc, n, value, &mut asks)?;
-        rows.push(row)?;
+    ghost Plain = { plain_table.Row };
+
+    ghost plain = { row_view };
+
+    ghost PlainKey = { plain.Ask };
+
+    ghost plain_key = { ask_view };
+
+    ghost key_of = { ask_in };
+
+    ghost reads = { λ r. row_from };
+
+    fn read(
+        &self,
+        alloc: Global,
+        value: &Value,
+        asks: &mut IndexSet<Ask>,
+    ) -> Result<Row, Unread<FileFault>> {
+        let row = read_row(alloc, value)?;
+        note_ask(alloc, asks, &row)?;
+        Ok(row)
     }
-    Ok(Table { rows, asks })
 }
 
 // Reads the rows of a versions file.
 #[derive(Drop)]
 struct Rows;
 
-#[tactic(auto, unfolding(crate::specs::Tables::rows_at))]
 impl Reader for Rows {
     type Out = Table;
 
@@ -148,10 +135,8 @@ impl Reader for Rows {
     ghost reads = { λ r. rows_at };
 
     fn read(&self, alloc: Global, value: &Value) -> Result<Table, Unread<FileFault>> {
-        match items(value) {
-            Some(values) => read_rows(alloc, values),
-            None => Err(wrong(alloc, Why::List)),
-        }
+        let (rows, asks) = each_new_item(alloc, value, &NewRow)?;
+        Ok(Table { rows, asks })
     }
 }
 
