@@ -160,8 +160,8 @@ pub fn version_or_none(alloc: Global, version: &Option<Version>) -> Result<Text,
     }
 }
 
-// A line, and the number of the reason that it cites.
-fn cited(alloc: Global, text: &Text, line: u32) -> Result<Text, Memory>
+/// A line, and the number of the reason that it cites.
+pub fn cited(alloc: Global, text: &Text, line: u32) -> Result<Text, Memory>
     ensures { IfOk result (λ t. t ≡ text.now ++ citing_line line) }
 {
     Ok(Text::from_string(format!(in alloc; "{text} {line}")?))
