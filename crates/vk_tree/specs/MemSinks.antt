@@ -1,6 +1,6 @@
 -- A sink in memory: what is known of it, and what its calls do.
 use Rattle.std.specs.Prelude.{◌≡◌, ◌+◌, ℕ, List, [], length, min, true, Option, Some, None, if◌then◌else◌}
-use Rattle.vk_spec.specs.Sinks.{SinkState, count_taken, is_stopped}
+use Rattle.vk_spec.specs.Sinks.{SinkState, count_taken, is_stopped, put_failed}
 use Rattle.vk_base.specs.Schedules.{turn_of, is_calm, with_call, raised}
 use Rattle.vk_tree.specs.declared.mem_sinks.MemSink.{MemSink}
 use Rattle.vk_base.specs.declared.schedules.Schedule.{Schedule}
@@ -42,6 +42,7 @@ pub record MemPuts (piece : List ℕ) (answer : Option ℕ) (before after : MemS
   pub turn : answer ≡ put_answer (turn_of (sink_schedule before)) (left_in before) piece
   pub left : left_in after + count_taken answer ≡ left_in before
   pub faults : (sink_state after).faults ≡ raised (is_stopped piece answer) (sink_state before).faults
+  pub failures : (sink_state after).failures ≡ raised (put_failed answer) (sink_state before).failures
   pub schedule : sink_schedule after ≡ with_call (sink_schedule before)
 
 -- it goes by another schedule, and all else stays
@@ -50,3 +51,4 @@ pub record Rescheduled (schedule : Schedule) (before after : MemSink) : Type 0 w
   pub left : left_in after ≡ left_in before
   pub taken : (sink_state after).taken ≡ (sink_state before).taken
   pub faults : (sink_state after).faults ≡ (sink_state before).faults
+  pub failures : (sink_state after).failures ≡ (sink_state before).failures
