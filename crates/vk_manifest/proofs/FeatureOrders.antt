@@ -1,5 +1,5 @@
 -- Features ascend by name, as the keys of their object do.
-use Rattle.std.proofs.Common.{◌≡◌, ◌+◌, ℕ, List, [], ◌∷◌, ◌++◌, refl, ap, sym, ◌∙◌}
+use Rattle.std.proofs.Common.{◌≡◌, ◌+◌, ℕ, List, [], ◌∷◌, ◌++◌, refl, ap, ◌∙◌}
 use Rattle.std.specs.Prelude.{Option, Some, None, Result, Ok, Err, codes}
 use Rattle.std.specs.List.Sorted.{IsStrictlySortedBy}
 use Rattle.serde_json.specs.Data.{Data, Members, no_members, member}
@@ -15,7 +15,7 @@ use Rattle.vk_json.specs.declared.faults.FileFault.{FileFault}
 use Rattle.vk_json.specs.Looks.{names_of}
 use Rattle.vk_json.specs.KeyOrders.{Ascend, KeysAscend}
 use Rattle.vk_json.specs.Places.{inside, member_step}
-use Rattle.vk_json.specs.Readings.{object_at, read_or, optional_or, member_at, members_by, each_member, pairs_of}
+use Rattle.vk_json.specs.Readings.{object_at, read_or, optional_or, member_at, each_member, pairs_of}
 use Rattle.vk_json.specs.Standing.{Leads, itself, by_member}
 use Rattle.vk_json.proofs.TellingLemmas.{get_has}
 use Rattle.vk_fields.specs.Wording.{name_word}

@@ -7,7 +7,6 @@ use Rattle.std.proofs.lemmas.List.{map-append}
 use Rattle.std.proofs.lemmas.List.Elements.{All-nil, All-push}
 use Rattle.std.proofs.lemmas.Slice.Eq.{bytes_eq-Decides}
 use Rattle.serde_json.specs.Data.{Data}
-use Rattle.serde_json.specs.Data as json
 use Rattle.serde_json.specs.Find.{get}
 use Rattle.vk_spec.specs.Lists.{NoRepeats}
 use Rattle.vk_spec.specs.Manifests.{Feature, Override, Manifest}
@@ -19,7 +18,7 @@ use Rattle.vk_json.specs.declared.faults.FileFault.{FileFault}
 use Rattle.vk_json.specs.declared.faults.Why.TheVariants as why
 use Rattle.vk_json.specs.Places.{at_member}
 use Rattle.vk_json.specs.Readings.{bool_at, optional, each_item, each_member}
-use Rattle.vk_json.proofs.TellingLemmas.{Says, Reads, Anything, says_then, says_weaker, told_here, told_at, bool_says, object_says, wanted_says, wanted_there, optional_says, optional_or_says, text_or_object_says, each_item_says, each_member_says, each_new_item_says}
+use Rattle.vk_json.proofs.TellingLemmas.{Says, Reads, Anything, says_then, says_weaker, told_at, bool_says, object_says, wanted_says, wanted_there, optional_says, optional_or_says, text_or_object_says, each_item_says, each_member_says, each_new_item_says}
 use Rattle.vk_fields.specs.Wording.{name_word}
 use Rattle.vk_fields.specs.Texts.{port_name_at, feature_name_at, expression_at, ask_at}
 use Rattle.vk_fields.specs.Versions.{key_of, scheme_needed, written_ask_under}
