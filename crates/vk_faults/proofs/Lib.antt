@@ -1,0 +1,4 @@
+pub mod NoteLemmas
+pub mod EntryLemmas
+pub mod MetLemmas
+pub mod PrintedLemmas
