@@ -29,6 +29,7 @@ fn note(alloc: Global, notes: &mut Notes, trouble: Trouble, line: u32) -> Result
 {
     let key = trouble.key(alloc)?;
     if notes.contains_key(&key) {
+        drop(trouble);
         return Ok(());
     }
     notes.insert(key, (trouble, line))?;

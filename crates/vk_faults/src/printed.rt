@@ -25,6 +25,7 @@ fn put(alloc: Global, lines: &mut Lines, trouble: Trouble, line: u32) -> Result<
 {
     let printed = trouble.printed(alloc, line)?;
     if lines.contains_key(&printed) {
+        drop(trouble);
         return Ok(());
     }
     lines.insert(printed, (trouble, line))?;
