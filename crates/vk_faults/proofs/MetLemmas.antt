@@ -1,11 +1,11 @@
 -- What asking meets is what is wrong with the files that the facts of reasons need.
-use Rattle.std.proofs.Common.{◌≡◌, ◌⊎◌, ℕ, suc, Bool, true, false, cond, List, [], ◌∷◌, ◌++◌, map, inl, inr, refl, ap, ap₂, sym, ◌∙◌, subst}
+use Rattle.std.proofs.Common.{◌≡◌, ◌⊎◌, ℕ, suc, Bool, true, false, cond, List, [], ◌∷◌, map, inl, inr, refl, ap, ap₂, sym, ◌∙◌, subst}
 use Rattle.std.specs.Prelude.{Option, Some, None, IfSome, option_map, option_to_list, flat_map, Result, Ok, Err}
 use Rattle.std.specs.List.{Contains, list_any}
 use Rattle.vk_spec.specs.Versions.{Ask}
 use Rattle.vk_spec.specs.Settings.{Setting, Instance}
 use Rattle.vk_spec.specs.Conditions.{Condition}
-use Rattle.vk_spec.specs.Pages.{Wrong, Given, overlay, override, baseline, Row, Page, row_in, version_in, manifest_in}
+use Rattle.vk_spec.specs.Pages.{Wrong, Given, overlay, override, baseline, Row, Page, row_in, manifest_in}
 use Rattle.vk_spec.proofs.ListLemmas.{contains_first, contains_later}
 use Rattle.vk_resolution.specs.Keys.{in_order, Ascends}
 use Rattle.vk_resolution.specs.Least.{IsLeast, FollowsFrom, from_one, from_two}
@@ -14,7 +14,7 @@ use Rattle.vk_resolution.specs.Givens.{Pages}
 use Rattle.vk_resolution.specs.Asking.{Fact, need, floor, visit, fact_key, root_facts_of}
 use Rattle.vk_resolution.specs.Consequences.{Inputs, Step, rules_of, steps_from, is_visited_by, is_visited}
 use Rattle.vk_resolution.specs.Reasons.{Reason, first_line, facts_of, IsReasons}
-use Rattle.vk_resolution.specs.Faults.{Fault, Trouble, lacks_version, trouble_key, same_trouble, troubled, manifest_troubles, floor_troubles, troubles_of, first_faults_of}
+use Rattle.vk_resolution.specs.Faults.{Fault, Trouble, trouble_key, same_trouble, troubled, manifest_troubles, floor_troubles, troubles_of, first_faults_of}
 use Rattle.vk_resolution.specs.Planner.{inputs_of}
 use Rattle.vk_resolution.proofs.Members.{contains_map}
 use Rattle.vk_resolution.proofs.FactLemmas.{fact_key-IsKey}

@@ -1,14 +1,14 @@
 -- Notes of what facts meet, one fact after the other, are the faults of all of them.
 use Rattle.std.proofs.Common.{◌≡◌, ◌<◌, ◌+◌, take, get_or, arith, ℕ, zero, suc, Bool, true, false, cond, List, [], ◌∷◌, ◌++◌, length, map, inl, inr, refl, ap, ap₂, sym, ◌∙◌, subst}
-use Rattle.std.specs.Prelude.{Option, Some, None, IfSome, min, option_map, option_to_list, flat_map}
+use Rattle.std.specs.Prelude.{Option, Some, None, IfSome, option_map, option_to_list, flat_map}
 use Rattle.std.specs.List.{Contains, list_any}
-use Rattle.std.proofs.lemmas.List.Elements.{Contains-append_left, Contains-append_right, Contains-append_cases, Contains-push_cases}
+use Rattle.std.proofs.lemmas.List.Elements.{Contains-push_cases}
 use Rattle.vk_spec.proofs.ListLemmas.{contains_nothing, contains_first, contains_later, contains-flat_map, flat_map-contains}
 use Rattle.vk_resolution.specs.Keys.{Ascends, in_order}
 use Rattle.vk_resolution.specs.Asking.{Fact}
 use Rattle.vk_resolution.specs.Reasons.{first_line}
 use Rattle.vk_resolution.specs.Faults.{Trouble, trouble_key, same_trouble, troubled}
-use Rattle.vk_resolution.proofs.Members.{any_contains, contains_any, contains_map, map_contains, contains_single}
+use Rattle.vk_resolution.proofs.Members.{any_contains, contains_any, contains_map, map_contains}
 use Rattle.vk_resolution.proofs.Soundness.{map_some}
 use Rattle.vk_resolution.proofs.LineLemmas.{first_line_is, at_contains}
 use Rattle.vk_resolution.proofs.FactLemmas.{same_trouble-Decides, trouble_key-IsKey}

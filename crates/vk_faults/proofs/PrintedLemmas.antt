@@ -1,19 +1,18 @@
 -- A map of faults by their lines has them in order.
-use Rattle.std.proofs.Common.{◌≡◌, ◌<◌, length, arith, ℕ, Bool, true, false, cond, List, [], ◌∷◌, ◌++◌, map, refl, ap, sym, ◌∙◌, subst}
+use Rattle.std.proofs.Common.{◌≡◌, ◌<◌, length, arith, ℕ, true, false, cond, List, [], ◌∷◌, ◌++◌, map, refl, ap, sym, ◌∙◌, subst}
 use Rattle.std.specs.Prelude.{Option, Some, None, is_some, option_map, Result, Ok, Err, IfOk}
 use Rattle.std.specs.declared.cmp.Ordering.{Ordering}
 use Rattle.std.specs.declared.cmp.Ordering.TheVariants.{Less, Equal, Greater}
-use Rattle.std.specs.Ordering.{is_eq, ordering_then, match_ordering, nat_cmp, eq_by_cmp}
+use Rattle.std.specs.Ordering.{is_eq, ordering_then, match_ordering, nat_cmp}
 use Rattle.std.specs.Cmp.Lexicographic.{slice_cmp}
 use Rattle.std.specs.BTreeMap.{is_at, insert_entry}
-use Rattle.std.specs.Map.{lookup, keys_of}
+use Rattle.std.specs.Map.{lookup}
 use Rattle.std.specs.List.{Contains}
 use Rattle.std.proofs.lemmas.List.{append_assoc, append-nil, map-append}
 use Rattle.std.proofs.lemmas.Map.Made.{lookup-map_values}
 use Rattle.std.proofs.lemmas.Map.Views.{Contains-keys_from_lookup}
-use Rattle.vk_spec.proofs.ListLemmas.{contains_nothing, contains_first, contains_later}
 use Rattle.vk_spec.proofs.FileLemmas.{path_same}
-use Rattle.vk_resolution.specs.Keys.{Key, key_cmp, Ascends, put_by, put_in, in_order}
+use Rattle.vk_resolution.specs.Keys.{Key, key_cmp, Ascends, put_by, put_in}
 use Rattle.vk_resolution.specs.Faults as plain
 use Rattle.vk_resolution.specs.Lines.{fault_line}
 use Rattle.vk_resolution.specs.Outcomes.{lines_of}

@@ -1,5 +1,4 @@
-use Rattle.std.proofs.Common.{◌≡◌, ◌+◌, refl, ap}
-use Rattle.vk_spec.specs.Catalogues.{OnPages, OnlyAsked}
+use Rattle.std.proofs.Common.{◌+◌, refl, ap}
 use Rattle.vk_spec.proofs.AskLemmas.{asked_nothing, asked_then, pages_before}
 use Rattle.vk_model.specs.FactViews.{fact_view}
 use Rattle.vk_faults.specs.Met.{met_on}

@@ -1,4 +1,4 @@
-use Rattle.std.proofs.Common.{◌≡◌, sym, ◌∙◌, subst}
+use Rattle.std.proofs.Common.{sym, ◌∙◌, subst}
 use Rattle.vk_faults.specs.Printed.{fault_at, PutsLine}
 use Rattle.vk_faults.proofs.PrintedLemmas.{line_known, line_new}
 use Rattle.vk_faults.proofs.printed.put.Goals as goal
