@@ -3,6 +3,7 @@ ghost use Rattle.std.specs.Prelude.{◌≡◌, ◌<◌, ◌^◌, ◌∷◌, [], 
 ghost use Rattle.vk_spec.specs.Catalogues.{OnPages, OnlyAsked};
 ghost use Rattle.vk_base.specs.Stops.{was_out};
 ghost use Rattle.vk_resolution.specs.Reasons.{facts_of};
+ghost use Rattle.vk_resolution.specs.Faults.{trouble_key};
 ghost use Rattle.vk_model.specs.FactViews.{fact_view, reasons_view};
 ghost use Rattle.vk_faults.specs.Troubles.{trouble_view};
 ghost use Rattle.vk_faults.specs.Met.{met_on};
@@ -20,6 +21,22 @@ use vk_model::{Fact, Reason};
 /// Troubles with the lines that meet them first, by the troubles' keys.
 pub(crate) type Notes = BTreeMap<Key, (Trouble, u32)>;
 
+// Puts a trouble under its key, unless something stands there.
+fn put(notes: &mut Notes, key: Key, trouble: Trouble, line: u32) -> Result<(), Memory>
+    requires key { key ≡ trouble_key (trouble_view trouble) }
+    requires keyed { AreKeyed notes.old.entries }
+    ensures keyed { OnOk result (AreKeyed notes.new.entries) }
+    ensures noted { OnOk result (IsNoted (trouble_view trouble ∷ []) line
+        (noted notes.old.entries) (noted notes.new.entries)) }
+{
+    if notes.contains_key(&key) {
+        drop(trouble);
+        return Ok(());
+    }
+    notes.insert(key, (trouble, line))?;
+    Ok(())
+}
+
 // Notes a trouble on a line, unless it was noted.
 fn note(alloc: Global, notes: &mut Notes, trouble: Trouble, line: u32) -> Result<(), Memory>
     requires { AreKeyed notes.old.entries }
@@ -28,12 +45,7 @@ fn note(alloc: Global, notes: &mut Notes, trouble: Trouble, line: u32) -> Result
         (noted notes.old.entries) (noted notes.new.entries)) }
 {
     let key = trouble.key(alloc)?;
-    if notes.contains_key(&key) {
-        drop(trouble);
-        return Ok(());
-    }
-    notes.insert(key, (trouble, line))?;
-    Ok(())
+    put(notes, key, trouble, line)
 }
 
 // Notes what the fact of a line meets.

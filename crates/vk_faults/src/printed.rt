@@ -18,18 +18,27 @@ use vk_model::Fault;
 /// Troubles with the lines that they cite, by their printed lines.
 type Lines = BTreeMap<Text, (Trouble, u32)>;
 
+// Puts a trouble under its line, unless one with the same line is there.
+fn put_line(lines: &mut Lines, text: Text, trouble: Trouble, line: u32) -> Result<(), Memory>
+    requires { text ≡ fault_line (troubled (trouble_view trouble) line) }
+    ensures { OnOk result (PutsLine (troubled (trouble_view trouble) line) lines.old.entries
+        lines.new.entries) }
+{
+    if lines.contains_key(&text) {
+        drop(trouble);
+        return Ok(());
+    }
+    lines.insert(text, (trouble, line))?;
+    Ok(())
+}
+
 // Puts a trouble where its line belongs, unless one with the same line is there.
 fn put(alloc: Global, lines: &mut Lines, trouble: Trouble, line: u32) -> Result<(), Memory>
     ensures { OnOk result (PutsLine (troubled (trouble_view trouble) line) lines.old.entries
         lines.new.entries) }
 {
-    let printed = trouble.printed(alloc, line)?;
-    if lines.contains_key(&printed) {
-        drop(trouble);
-        return Ok(());
-    }
-    lines.insert(printed, (trouble, line))?;
-    Ok(())
+    let text = trouble.printed(alloc, line)?;
+    put_line(lines, text, trouble, line)
 }
 
 // The noted troubles by their lines. Of those with one line the last stays, so it comes first.

@@ -1,0 +1,10 @@
+use Rattle.std.proofs.Common.{sym, ◌∙◌, subst}
+use Rattle.vk_faults.specs.Printed.{fault_at, PutsLine}
+use Rattle.vk_faults.proofs.PrintedLemmas.{line_known, line_new}
+use Rattle.vk_faults.proofs.printed.put_line.Goals as goal
+
+pub returns-then-contains_key : goal.returns-then-contains_key
+returns-then-contains_key c = line_known c.args.lines.now.entries c.args.text (c.args.trouble, c.args.line) c.requires (sym c.contains_key.ensures ∙ c.if-contains_key.true)
+
+pub returns : goal.returns
+returns c = subst (PutsLine (fault_at (c.args.trouble, c.args.line)) c.args.lines.now.entries) (sym c.in_ok-insert.ensures.entries) (line_new c.args.lines.now.entries c.args.text (c.args.trouble, c.args.line) c.requires (sym c.contains_key.ensures ∙ c.if-contains_key.false))
