@@ -1,0 +1,35 @@
+-- What is tracked when a fact more was asked about.
+use Rattle.std.proofs.Common.{◌≡◌, Bool, true, false, ◌&&◌, List, [], ◌∷◌, ◌++◌, inl, inr, refl, ap, sym, subst, ◌∙◌}
+use Rattle.std.specs.Prelude.{Option, Some, None, IfSome}
+use Rattle.std.specs.List.{Contains}
+use Rattle.std.proofs.lemmas.List.Elements.{Contains-append_cases}
+use Rattle.vk_resolution.specs.Givens.{Pages}
+use Rattle.vk_resolution.specs.Asking.{Fact}
+use Rattle.vk_resolution.specs.Faults.{troubles_of}
+use Rattle.vk_resolution.specs.Planner.{inputs_of}
+use Rattle.vk_resolution.proofs.Members.{contains_single}
+use Rattle.vk_model.specs.SettingViews.{setting_view}
+use Rattle.vk_close.specs.declared.page_askers.PageAsker.{PageAsker}
+use Rattle.vk_close.specs.Kept.{IsKept, Tracks}
+
+and_left : (a b : Bool) → (a && b) ≡ true → a ≡ true
+and_left true b e = refl
+and_left false b e = (cc)
+
+and_right : (a b : Bool) → (a && b) ≡ true → b ≡ true
+and_right true b e = e
+and_right false b e = (cc)
+
+-- nothing was wrong so far, and nothing is wrong with the fact
+pub tracks_more : (o : Option Pages) (old seen new : PageAsker) (clear : Bool) (x : Fact) (taken more : List Fact) → more ≡ taken ++ x ∷ [] → seen.setting ≡ old.setting → seen.clean ≡ old.clean → new ≡ record seen { clean = seen.clean && clear }
+    → IfSome o (λ pages. Tracks old pages taken) → IfSome o (λ pages. IsKept seen pages) → IfSome o (λ pages. clear ≡ true → troubles_of (inputs_of (setting_view old.setting.now) pages) x ≡ []) → IfSome o (λ pages. Tracks new pages more)
+tracks_more None old seen new clear x taken more next same clean is tracks kept clears = tt
+tracks_more (Some pages) old seen new clear x taken more next same clean is tracks kept clears =
+    subst (λ a. Tracks a pages more) (sym is) (record {
+      kept = record { rules = kept.rules; overrides = kept.overrides; known = kept.known };
+      clean = λ e y h. subst (λ s. troubles_of (inputs_of (setting_view s.now) pages) y ≡ []) (sym same)
+          (elim (Contains-append_cases taken (x ∷ []) y (subst (λ l. Contains l y) next h)) [
+            | inl before ↦ tracks.clean (sym clean ∙ and_left seen.clean clear e) y before
+            | inr last ↦ subst (λ z. troubles_of (inputs_of (setting_view old.setting.now) pages) z ≡ []) (contains_single x y last) (clears (and_right seen.clean clear e))
+          ]);
+    })

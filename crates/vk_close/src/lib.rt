@@ -1,0 +1,17 @@
+//! The closure of a project: its least list of facts in order, each with its cause, and what is
+//! wrong with the files that they need. It promises upwards that the answer is the one that the
+//! pages of the catalogue and the setting give, and that the catalogue is only asked.
+#![tactic(auto)]
+
+mod closures;
+mod floors;
+mod known;
+mod names;
+mod page_askers;
+mod pins;
+mod ports;
+mod roots;
+mod steps;
+
+pub use closures::close;
+pub use vk_worklist::CloseFault;

@@ -1,0 +1,66 @@
+//! What is known of the ports that were asked about: each is asked about once.
+ghost use Rattle.std.specs.Prelude.{◌≡◌, IsSome, Some, OnOk, bytes_eq, map};
+ghost use Rattle.std.specs.Map.{lookup};
+ghost use Rattle.vk_spec.specs.Catalogues.{OnlyAsked, OnPages};
+ghost use Rattle.vk_base.specs.Stops.{was_out};
+ghost use Rattle.vk_model.specs.Views.{override_view};
+ghost use Rattle.vk_close.specs.Known.{AreKnown};
+
+use crate::known::{Known, ask_port};
+use crate::names::copy_of;
+use crate::pins::Overrides;
+use indexmap::IndexMap;
+use vk_base::{Outage, PortName};
+use vk_catalogue::Catalogue;
+
+// Asks about a port of which nothing is known yet.
+fn ask_new<C: Catalogue>(
+    overrides: &Overrides<'_>,
+    ports: &mut IndexMap<PortName, Known>,
+    cat: &mut C,
+    port: &PortName,
+) -> Result<(), Outage>
+    requires known { OnPages
+        (λ pages. AreKnown (map override_view overrides.now) pages ports.old.entries)
+        (C.state cat.old) }
+    ensures asked { OnlyAsked (was_out result) (C.state cat.old) (C.state cat.new) }
+    ensures there { OnOk result (IsSome (lookup (bytes_eq port.now) ports.new.entries)) }
+    ensures known { OnOk result (OnPages
+        (λ pages. AreKnown (map override_view overrides.now) pages ports.new.entries)
+        (C.state cat.old)) }
+{
+    let key = copy_of(port)?;
+    let known = ask_port(overrides, cat, port)?;
+    ports.insert(key, known)?;
+    Ok(())
+}
+
+/// Sees to it that a port is known.
+pub(crate) fn see_to_port<C: Catalogue>(
+    overrides: &Overrides<'_>,
+    ports: &mut IndexMap<PortName, Known>,
+    cat: &mut C,
+    port: &PortName,
+) -> Result<(), Outage>
+    requires known { OnPages
+        (λ pages. AreKnown (map override_view overrides.now) pages ports.old.entries)
+        (C.state cat.old) }
+    ensures asked { OnlyAsked (was_out result) (C.state cat.old) (C.state cat.new) }
+    ensures there { OnOk result (IsSome (lookup (bytes_eq port.now) ports.new.entries)) }
+    ensures known { OnOk result (OnPages
+        (λ pages. AreKnown (map override_view overrides.now) pages ports.new.entries)
+        (C.state cat.old)) }
+{
+    if ports.contains_key(port) {
+        return Ok(());
+    }
+    ask_new(overrides, ports, cat, port)
+}
+
+/// What is known of a port.
+pub(crate) fn known_of<'a>(ports: &'a IndexMap<PortName, Known>, port: &PortName) -> &'a Known
+    requires { IsSome (lookup (bytes_eq port.now) ports.now.entries) }
+    ensures { lookup (bytes_eq port.now) ports.now.entries ≡ Some result.now }
+{
+    ports.get(port).unwrap()
+}
