@@ -1,20 +1,19 @@
 -- What a fact brings up alone on a line, and that a visit that follows is of a visited version.
 use Rattle.std.proofs.Common.{◌≡◌, ℕ, zero, suc, Bool, true, false, cond, List, [], ◌∷◌, ◌++◌, map, inl, inr, refl, ap, sym, subst, ◌∙◌}
-use Rattle.std.specs.Prelude.{◌⊎◌, Option, Some, None, IfSome, Result, Ok, Err, flat_map}
-use Rattle.std.specs.List.{Contains}
-use Rattle.std.proofs.lemmas.List.{map-append, append-nil}
+use Rattle.std.specs.Prelude.{Option, Some, None, IfSome, Result, Ok, Err, flat_map}
+use Rattle.std.proofs.lemmas.List.{map-append}
 use Rattle.vk_spec.specs.Versions.{Ask}
 use Rattle.vk_spec.specs.Pages.{Wrong, Given, overlay, override, baseline, manifest_in, is_pinned_by}
 use Rattle.vk_spec.specs.Settings.{Setting, Instance}
 use Rattle.vk_resolution.specs.Givens.{Pages}
 use Rattle.vk_resolution.specs.Settings.{root, inst}
-use Rattle.vk_resolution.specs.Asking.{Fact, need, floor, visit, asked_of, root_facts_of}
-use Rattle.vk_resolution.specs.Least.{IsReached, FollowsFrom, from_one, from_two}
+use Rattle.vk_resolution.specs.Asking.{Fact, need, floor, visit, asked_of}
+use Rattle.vk_resolution.specs.Least.{IsReached, from_one, from_two}
 use Rattle.vk_resolution.specs.Consequences.{Inputs, Step, by_minimum, given_step, asked_step, asked_in, steps_from, is_visited, rules_of}
 use Rattle.vk_resolution.specs.Reasons.{Reason}
 use Rattle.vk_resolution.specs.Planner.{inputs_of}
 use Rattle.vk_resolution.proofs.Members.{contains_map}
-use Rattle.vk_resolution.proofs.Derivations.{AreVisit, visits_are, is_visit_fact, step_no_visit}
+use Rattle.vk_resolution.proofs.Derivations.{visits_are, is_visit_fact, step_no_visit}
 use Rattle.vk_resolution.specs.Settings.{first_features_of}
 use Rattle.vk_worklist.specs.Alone.{Follows, alone_at, on_line}
 use Rattle.vk_close.specs.Known.{given_in}

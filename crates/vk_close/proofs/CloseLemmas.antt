@@ -1,10 +1,7 @@
 -- The closure of a worklist that is closed.
-use Rattle.std.proofs.Common.{◌≡◌, ℕ, Bool, true, false, List, [], ◌∷◌, ◌++◌, map, refl, ap, sym, subst, ◌∙◌}
+use Rattle.std.proofs.Common.{◌≡◌, Bool, true, List, [], ◌∷◌, refl, ap, sym, subst, ◌∙◌}
 use Rattle.std.specs.Prelude.{Option, Some, None, IfSome, Result, Ok, Err, IfOk, flat_map}
-use Rattle.std.specs.List.{Contains}
-use Rattle.vk_spec.specs.Conditions.{Condition}
 use Rattle.vk_spec.specs.Settings.{Setting}
-use Rattle.vk_spec.specs.Catalogues.{CatalogueState, OnPages}
 use Rattle.vk_spec.proofs.ListLemmas.{contains_first, contains_later}
 use Rattle.vk_base.specs.declared.stops.Outage.{Outage}
 use Rattle.vk_resolution.specs.Givens.{Pages}

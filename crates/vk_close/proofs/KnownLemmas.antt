@@ -7,7 +7,6 @@ use Rattle.vk_spec.specs.Manifests.{Override}
 use Rattle.vk_spec.specs.Pages.{Given, Wrong, is_pinned_by}
 use Rattle.vk_spec.specs.Conditions.{Condition}
 use Rattle.vk_spec.specs.Catalogues.{CatalogueState, OnPages, ArePages}
-use Rattle.vk_spec.proofs.OptionLemmas.{of_each, of_both}
 use Rattle.vk_resolution.specs.Givens.{Pages}
 use Rattle.vk_base.specs.declared.stops.Outage.{Outage}
 use Rattle.vk_model.specs.WrongViews.{given_view}

@@ -1,11 +1,10 @@
 -- Overrides by their names, and the manifests of overlays by the ends of their paths.
 use Rattle.std.proofs.Common.{◌≡◌, ◌+◌, ◌<◌, ◌-◌, ℕ, zero, suc, Bool, true, false, cond, ◌&&◌, ◌||◌, List, [], ◌∷◌, ◌++◌, length, drop, map, take, get_or, refl, sym, ap, subst, ◌∙◌, arith, true≢false}
-use Rattle.std.specs.Prelude.{bytes_eq, None, Option, Some}
-use Rattle.std.specs.List.{list_any, All}
+use Rattle.std.specs.Prelude.{bytes_eq, None}
+use Rattle.std.specs.List.{list_any}
 use Rattle.std.specs.Cmp.Lexicographic.{pointwise}
 use Rattle.std.proofs.Math.Bool.{and-false}
 use Rattle.std.proofs.lemmas.Slice.Eq.{bytes_eq-Decides}
-use Rattle.std.proofs.lemmas.Bool.Decides.{nat_tests}
 use Rattle.std.proofs.lemmas.List.{take_more, map-append}
 use Rattle.std.proofs.lemmas.List.Elements.{All-head}
 use Rattle.vk_model.specs.declared.manifests.Override as code
@@ -13,7 +12,6 @@ use Rattle.vk_model.specs.Views.{override_view}
 use Rattle.vk_spec.specs.Manifests.{Override}
 use Rattle.vk_close.specs.Pins.{AreNames}
 use Rattle.vk_spec.specs.Paths.{Path, anchor, steps_up}
-use Rattle.vk_spec.specs.Pages.{has_override, is_overlay_file}
 use Rattle.vk_base.specs.Names.{port_rule, name_fault, is_name_byte, IsName}
 use Rattle.vk_base.proofs.NameLemmas.{rule_from_no_fault}
 

@@ -1,8 +1,7 @@
 -- The root facts of a setting.
 use Rattle.std.proofs.Common.{◌≡◌, ℕ, Bool, true, false, cond, List, [], ◌∷◌, ◌++◌, map, refl, ap, sym, subst, ◌∙◌}
-use Rattle.std.specs.Prelude.{flat_map, if◌then◌else◌}
-use Rattle.std.specs.List.{Contains}
-use Rattle.std.proofs.lemmas.List.{map-append, append_assoc}
+use Rattle.std.specs.Prelude.{flat_map}
+use Rattle.std.proofs.lemmas.List.{map-append}
 use Rattle.vk_spec.specs.Manifests.{core, default}
 use Rattle.vk_spec.specs.Settings.{Setting}
 use Rattle.vk_resolution.specs.Settings.{root, first_features_of}

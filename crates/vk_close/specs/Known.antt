@@ -1,5 +1,5 @@
 -- What is kept of a port: what its page says of its given version.
-use Rattle.std.specs.Prelude.{◌≡◌, ℕ, Bool, List, map, Option, Some, None, option_map, Result, Ok, Err, IfSome, bytes_eq}
+use Rattle.std.specs.Prelude.{◌≡◌, ℕ, List, Option, Some, None, option_map, Result, Ok, Err, IfSome, bytes_eq}
 use Rattle.std.specs.Map.{lookup}
 use Rattle.vk_spec.specs.Versions.{Version}
 use Rattle.vk_spec.specs.Manifests.{Override}

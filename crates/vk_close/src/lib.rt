@@ -10,6 +10,7 @@ mod names;
 mod page_askers;
 mod pins;
 mod ports;
+pub mod projects;
 mod roots;
 mod steps;
 

@@ -1,8 +1,7 @@
-use Rattle.std.proofs.Common.{map, ◌≡◌, subst, Ok}
+use Rattle.std.proofs.Common.{map, ◌≡◌, subst}
 use Rattle.std.specs.Prelude.{IfSome}
 use Rattle.vk_model.specs.Views.{override_view}
 use Rattle.vk_model.specs.WrongViews.{given_view, given_said}
-use Rattle.vk_spec.specs.Catalogues.{OnPages}
 use Rattle.vk_close.proofs.KnownLemmas.{pinned_known}
 use Rattle.vk_close.proofs.known.ask_port.Goals as goal
 

@@ -1,4 +1,3 @@
-use Rattle.std.proofs.Common.{◌∙◌}
 use Rattle.vk_close.proofs.PinLemmas.{named_next}
 use Rattle.vk_close.proofs.pins.names_of.Goals as goal
 

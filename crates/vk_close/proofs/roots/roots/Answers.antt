@@ -1,4 +1,4 @@
-use Rattle.std.proofs.Common.{ap, refl, map}
+use Rattle.std.proofs.Common.{ap, map}
 use Rattle.vk_base.specs.FeatureViews.{feature_view}
 use Rattle.vk_model.specs.SettingViews.{setting_view}
 use Rattle.vk_worklist.specs.Entries.{reasons_in}
