@@ -20,7 +20,7 @@ use Rattle.vk_close.specs.declared.known.Known.{Known}
 use Rattle.vk_close.specs.declared.page_askers.PageAsker.{PageAsker}
 use Rattle.vk_close.specs.Known.{given_in, base_by, IsKnown, AreKnown}
 use Rattle.vk_close.specs.Kept.{IsKept}
-use Rattle.vk_close.specs.Floors.{not_below, found_by, visited_by, is_clear}
+use Rattle.vk_close.specs.Floors.{not_below, found_by, visited_by, is_clear, is_base}
 
 listed : (o : Option (Row Condition)) → is_some (option_map (λ r. r.version) o) ≡ is_some o
 listed None = refl
@@ -100,6 +100,22 @@ module _ (a : PageAsker) (s : Setting) (port : List ℕ) (ask : Ask) (k : Known)
       let known : IsKnown (map override_view a.overrides) (pages port) port k = here (map override_view a.overrides) pages a.ports.entries port k kept.known e in
       clear_page port (pages port) ask (pages port).given
       (sym (is ∙ ap (is_clear (option_map given_view k.given)) told ∙ ap (λ g. is_clear g (found_by g (version_in (pages port) ask))) known.given) ∙ clear)
+
+base_page : (page : Page Condition) (a : Ask) (r : Result Given Wrong) → is_base (given_in r) a ≡ true → base_by page r ≡ found_by (given_in r) (version_in page a)
+base_page page a (Ok (overlay v)) e = (cc)
+base_page page a (Ok (override b)) e = (cc)
+base_page page a (Ok (baseline b)) e = ap (version_in page) (sym (asks_equal a b e))
+base_page page a (Err wrong) e = (cc)
+
+-- what the table has for the floor that a baseline gives is known
+pub base_here : (a : PageAsker) (port : List ℕ) (ask : Ask) (k : Known) (b : Bool) → lookup (bytes_eq port) a.ports.entries ≡ Some k → b ≡ is_base (option_map given_view k.given) ask → b ≡ true → (o : Option Pages) → IfSome o (λ pages. IsKept a pages)
+    → IfSome o (λ pages. k.base ≡ found_by (option_map given_view k.given) (version_in (pages port) ask))
+base_here a port ask k b e is yes_base None kept = tt
+base_here a port ask k b e is yes_base (Some pages) kept =
+    let known : IsKnown (map override_view a.overrides) (pages port) port k = here (map override_view a.overrides) pages a.ports.entries port k kept.known e in
+    known.base
+    ∙ base_page (pages port) ask (pages port).given (sym (is ∙ ap (λ g. is_base g ask) known.given) ∙ yes_base)
+    ∙ ap (λ g. found_by g (version_in (pages port) ask)) (sym known.given)
 
 some_here : (overrides : List Override) (pages : Pages) (port : List ℕ) (o : Option Known) → IsSome o → IfSome o (IsKnown overrides (pages port) port) → IsPage (pages port)
 some_here overrides pages port None some known = (cc)

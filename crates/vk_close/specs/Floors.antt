@@ -20,6 +20,13 @@ found_by (Some (overlay v)) listed = None
 found_by (Some (override b)) listed = listed
 found_by (Some (baseline b)) listed = listed
 
+-- the floor is that of the version that a baseline gives
+abbrev pub is_base : Option Given → Ask → Bool
+is_base None a = false
+is_base (Some (overlay v)) a = false
+is_base (Some (override b)) a = false
+is_base (Some (baseline b)) a = same_ask a b
+
 -- whether a floor's version is visited, by what is given, by the given version and by its own in the table
 abbrev pub visited_by : Option Given → Option Version → Ask → Option Version → Bool
 visited_by None base a found = false

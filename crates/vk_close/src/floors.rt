@@ -7,7 +7,8 @@ ghost use Rattle.vk_base.specs.Stops.{was_out};
 ghost use Rattle.vk_version.specs.AskViews.{ask_view};
 ghost use Rattle.vk_model.specs.WrongViews.{given_view};
 ghost use Rattle.vk_close.specs.Known.{given_in};
-ghost use Rattle.vk_close.specs.Floors.{found_by, is_below, is_clear, not_below, visited_by};
+ghost use Rattle.vk_close.specs.Floors.{found_by, is_base, is_below, is_clear};
+ghost use Rattle.vk_close.specs.Floors.{not_below, visited_by};
 
 use crate::known::Known;
 use std::cmp::Ordering;
@@ -78,6 +79,16 @@ fn is_same(one: &Ask, other: &Ask) -> bool
     ensures { result ≡ same_ask (ask_view one.now) (ask_view other.now) }
 {
     one == other
+}
+
+/// Whether a floor is that of the version that a baseline gives.
+pub(crate) fn is_base(given: &Option<Given>, ask: &Ask) -> bool
+    ensures { result ≡ is_base (option_map given_view given.now) (ask_view ask.now) }
+{
+    match given {
+        Some(Given::Baseline(base)) => is_same(ask, base),
+        _ => false,
+    }
 }
 
 /// Whether the version of a floor is visited.

@@ -1,6 +1,6 @@
 //! What facts bring up alone, asked of a catalogue.
 ghost use Rattle.std.specs.Prelude.{◌≡◌, ◌+◌, ◌≤◌, ◌++◌, [], true, List, IfOk, IsSome, OnOk};
-ghost use Rattle.std.specs.Prelude.{bytes_eq, flat_map, map};
+ghost use Rattle.std.specs.Prelude.{bytes_eq, flat_map, map, option_map};
 ghost use Rattle.std.specs.Map.{lookup};
 ghost use Rattle.vk_spec.specs.Pages.{manifest_in};
 ghost use Rattle.vk_spec.specs.Catalogues.{OnlyAsked, OnPages, CanAskManifest};
@@ -18,14 +18,16 @@ ghost use Rattle.vk_spec.specs.Pages.{row_in};
 ghost use Rattle.vk_model.specs.Views.{override_view, manifest_view};
 ghost use Rattle.vk_model.specs.SettingViews.{setting_view, instance_view};
 ghost use Rattle.vk_model.specs.FactViews.{fact_view, who_view};
+ghost use Rattle.vk_model.specs.WrongViews.{given_view};
 ghost use Rattle.vk_close.specs.Kept.{IsKept, Tracks};
+ghost use Rattle.vk_close.specs.Floors.{is_clear, visited_by};
 ghost use Rattle.vk_close.specs.Known.{given_in};
 ghost use Rattle.vk_close.specs.Steps.{asked_on, given_on};
 ghost use Rattle.vk_worklist.specs.Alone.{Follows, alone_at, joins};
 ghost use Rattle.vk_worklist.specs.Entries.{reasons_in};
 ghost use Rattle.vk_worklist.specs.Ticks.{tick_of};
 
-use crate::floors::{find, is_clear, is_visited};
+use crate::floors::{find, is_base, is_clear, is_visited};
 use crate::known::Known;
 use crate::pins::Overrides;
 use crate::ports::{known_of, see_to_port};
@@ -37,7 +39,7 @@ use vk_base::{FeatureName, Instance, Memory, Outage, PortName, Steps};
 use vk_catalogue::Catalogue;
 use vk_model::{Cause, Fact, Manifest, Setting, Who};
 use vk_rules::Rules;
-use vk_version::Ask;
+use vk_version::{Ask, Version};
 use vk_worklist::Asker;
 
 /// What is asked of a catalogue for the closure of a setting, the given version of each port once.
@@ -57,6 +59,18 @@ pub(crate) struct PageAsker<'a> {
 struct Seen {
     joined: bool,
     clear: bool,
+}
+
+// What is seen of a floor, by what the table has for it.
+fn seen_floor(known: &Known, ask: &Ask, found: &Option<Version>) -> Seen
+    ensures joined { result.joined ≡ visited_by (option_map given_view known.now.given)
+        known.now.base (ask_view ask.now) found.now }
+    ensures clear { result.clear ≡ is_clear (option_map given_view known.now.given) found.now }
+{
+    Seen {
+        joined: is_visited(known, ask, found),
+        clear: is_clear(&known.given, found),
+    }
 }
 
 impl<'a> PageAsker<'a> {
@@ -176,11 +190,11 @@ impl<'a> PageAsker<'a> {
     {
         self.see_to(cat, port)?;
         let known = known_of(&self.ports, port);
+        if is_base(&known.given, ask) {
+            return Ok(seen_floor(known, ask, &known.base));
+        }
         let found = find(cat, port, &known.given, ask)?;
-        Ok(Seen {
-            joined: is_visited(known, ask, &found),
-            clear: is_clear(&known.given, &found),
-        })
+        Ok(seen_floor(known, ask, &found))
     }
 
     // Adds what a feature of an instance asks for, by a manifest that was found.
