@@ -15,6 +15,9 @@ const STOCK: &str = "set(VCPKG_TARGET_ARCHITECTURE x64)\nset(VCPKG_CRT_LINKAGE d
 // How many facts there may be, where no row says.
 const MOST: u32 = 1000;
 
+// As many bytes as a row's file may have.
+const MOST_BYTES: usize = 1_000_000;
+
 /// What is asked of a root without a name, which asks for nothing.
 pub fn empty_root(alloc: Global) -> Manifest {
     Manifest {
@@ -35,6 +38,9 @@ fn stock(alloc: Global) -> Result<Triplet, Unread<NoRow>> {
 // The triplet of a name and its file's bytes.
 fn triplet_with(alloc: Global, name: &str, bytes: &[u8]) -> Result<Triplet, Unread<NoRow>> {
     let name = named(TripletName::read(alloc, name))?;
+    if bytes.len() > MOST_BYTES {
+        return Err(Unread::Fault(NoRow));
+    }
     named(read(alloc, &name, bytes))
 }
 
@@ -77,6 +83,10 @@ fn triplet_of(row: &str, reply: &mut Reply) -> Option<Triplet> {
 /// The manifest of a row, a root's or a port's.
 pub fn manifest_of(row: &str, root: bool, reply: &mut Reply) -> Option<Manifest> {
     let bytes = reply.bytes(row);
+    if bytes.len() > MOST_BYTES {
+        reply.refuse();
+        return None;
+    }
     let manifest = read_manifest(reply.alloc(), bytes.as_slice(), root);
     reply.needed(manifest)
 }
