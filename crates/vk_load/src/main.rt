@@ -6,24 +6,41 @@
 mod chains;
 mod runs;
 
-use runs::{closed, load_of};
+use runs::{Load, closed, load_of};
 use std::alloc::Global;
 use std::io::{self, Eprint};
 use std::rt::Clock;
 use std::time::Instant;
 
+// How many facts a load has, and how many microseconds it took to close it.
+#[derive(Clone, Copy, Drop)]
+struct Timed {
+    facts: usize,
+    micros: u128,
+}
+
+fn measure<R: Clock>(rt: &R, alloc: Global, load: &mut Load) -> io::Result<Option<Timed>> {
+    let start = Instant::now(rt)?;
+    let Some(facts) = closed(alloc, load) else {
+        return Ok(None);
+    };
+    let micros = Instant::now(rt)?.duration_since(start).as_micros();
+    Ok(Some(Timed { facts, micros }))
+}
+
+fn measure_at<R: Clock>(rt: &R, alloc: Global, size: u32) -> io::Result<Option<Timed>> {
+    match load_of(alloc, size) {
+        Ok(mut load) => measure(rt, alloc, &mut load),
+        Err(_) => Ok(None),
+    }
+}
+
 fn tell<R: Print + Eprint + Clock>(rt: &R, alloc: Global, size: u32) -> io::Result<()> {
-    let Ok(mut load) = load_of(alloc, size) else {
+    let Some(timed) = measure_at(rt, alloc, size)? else {
         return println!(rt; "{size} ports: stopped");
     };
-    let start = Instant::now(rt)?;
-    let facts = closed(alloc, &mut load);
-    let spent = Instant::now(rt)?.duration_since(start);
-    eprintln!(rt; "{size} ports: {} us", spent.as_micros())?;
-    match facts {
-        Ok(facts) => println!(rt; "{size} ports, {facts} facts"),
-        Err(_) => println!(rt; "{size} ports: stopped"),
-    }
+    eprintln!(rt; "{size} ports: {} us", timed.micros)?;
+    println!(rt; "{size} ports, {} facts", timed.facts)
 }
 
 fn main(rt: HostRuntime) -> io::Result<()> {

@@ -67,7 +67,7 @@ fn closed_by<L: Ledger>(
     Ok(closure.reasons.len())
 }
 
-/// How many facts a load has.
-pub fn closed(alloc: Global, load: &mut Load) -> Result<usize, Stop<CloseFault>> {
-    closed_by::<Brand>(alloc, load, Blank::new(1))
+/// How many facts a load has, or nothing where the closing stops.
+pub fn closed(alloc: Global, load: &mut Load) -> Option<usize> {
+    closed_by::<Brand>(alloc, load, Blank::new(1)).ok()
 }
