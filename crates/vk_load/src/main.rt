@@ -11,6 +11,7 @@ use std::alloc::Global;
 use std::io::{self, Eprint};
 use std::rt::Clock;
 use std::time::Instant;
+use vk_model::Closure;
 
 // How many facts a load has, and how many microseconds it took to close it.
 #[derive(Clone, Copy, Drop)]
@@ -19,13 +20,21 @@ struct Timed {
     micros: u128,
 }
 
+fn facts_of(closure: Option<Closure>) -> Option<usize> {
+    Some(closure?.reasons.len())
+}
+
+// Times the call alone: the closure is dropped when the time was taken.
 fn measure<R: Clock>(rt: &R, alloc: Global, load: &mut Load) -> io::Result<Option<Timed>> {
     let start = Instant::now(rt)?;
-    let Some(facts) = closed(alloc, load) else {
-        return Ok(None);
-    };
-    let micros = Instant::now(rt)?.duration_since(start).as_micros();
-    Ok(Some(Timed { facts, micros }))
+    let closure = closed(alloc, load);
+    let end = Instant::now(rt);
+    let facts = facts_of(closure);
+    let micros = end?.duration_since(start).as_micros();
+    match facts {
+        Some(facts) => Ok(Some(Timed { facts, micros })),
+        None => Ok(None),
+    }
 }
 
 fn measure_at<R: Clock>(rt: &R, alloc: Global, size: u32) -> io::Result<Option<Timed>> {

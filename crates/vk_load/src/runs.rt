@@ -8,7 +8,7 @@ use std::sync::ledger::{Blank, Ledger};
 use vk_base::{List, Steps, Stop, TripletName, Unread};
 use vk_catalogue::MemCatalogue;
 use vk_close::{CloseFault, close};
-use vk_model::{Manifest, Setting};
+use vk_model::{Closure, Manifest, Setting};
 use vk_triplet::{Triplet, read};
 
 // How many facts there may be.
@@ -57,17 +57,16 @@ fn closed_by<L: Ledger>(
     alloc: Global,
     load: &mut Load,
     blank: Blank,
-) -> Result<usize, Stop<CloseFault>>
+) -> Result<Closure, Stop<CloseFault>>
     requires name { blank.name ≡ L.name }
     requires parts { blank.parts ≡ L.parts }
     requires some { 0 < blank.parts }
 {
     let mut steps = Steps::<L>::new(blank);
-    let closure = close(alloc, &mut load.pages, &load.setting, &mut steps)?;
-    Ok(closure.reasons.len())
+    close(alloc, &mut load.pages, &load.setting, &mut steps)
 }
 
-/// How many facts a load has, or nothing where the closing stops.
-pub fn closed(alloc: Global, load: &mut Load) -> Option<usize> {
+/// The closure of a load, or nothing where the closing stops.
+pub fn closed(alloc: Global, load: &mut Load) -> Option<Closure> {
     closed_by::<Brand>(alloc, load, Blank::new(1)).ok()
 }
