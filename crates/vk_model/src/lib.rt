@@ -21,7 +21,7 @@ pub use earlies::Early;
 pub use facts::{Fact, Who};
 pub use faults::Fault;
 pub use manifests::{Dependency, Feature, FeatureUse, Manifest, Override};
-pub use plans::{Item, Outcome, Plan};
+pub use plans::{Item, Outcome, Plan, PlanSet};
 pub use projects::{Project, Store};
 pub use reasons::{Cause, Closure, Reason};
 pub use settings::Setting;

@@ -19,6 +19,12 @@ pub struct Item {
     pub needs: List<u32>,
 }
 
+/// What is built, in the order of instances. Needs are places in this list.
+#[derive(Drop)]
+pub struct PlanSet {
+    pub items: List<Item>,
+}
+
 /// What is built, each item behind all that it depends on.
 #[derive(Drop)]
 pub struct Plan {

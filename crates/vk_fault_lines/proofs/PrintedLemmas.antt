@@ -20,12 +20,7 @@ use Rattle.vk_resolution.proofs.Members.{contains_map}
 use Rattle.vk_resolution.proofs.Orders.{before_both, in_order-ascends}
 use Rattle.vk_model.specs.declared.faults.Fault.{Fault}
 use Rattle.vk_model.specs.FaultViews.{fault_view, faults_view}
-use Rattle.vk_faults.specs.declared.troubles.Trouble.{Trouble}
-use Rattle.vk_faults.specs.Notes.{Entry, note_of, noted, fault_of}
-use Rattle.vk_faults.specs.Printed.{fault_at, seen, printed, PutsLine}
-
-abbrev Told : Type 0
-Told = Trouble × ℕ
+use Rattle.vk_fault_lines.specs.Printed.{seen, printed, PutsLine}
 
 abbrev bytes_cmp : List ℕ → List ℕ → Ordering
 bytes_cmp = slice_cmp nat_cmp
@@ -88,40 +83,40 @@ put_new x (y ∷ ys) h =
 
 -- ---- entries as they are seen
 
-seen_by : (o : Ordering) (a b c : List (List ℕ × Told)) → seen (match_ordering o a b c) ≡ match_ordering o (seen a) (seen b) (seen c)
+seen_by : (o : Ordering) (a b c : List (List ℕ × Fault)) → seen (match_ordering o a b c) ≡ match_ordering o (seen a) (seen b) (seen c)
 seen_by Less a b c = refl
 seen_by Equal a b c = refl
 seen_by Greater a b c = refl
 
-seen_put : (es : List (List ℕ × Told)) (k : List ℕ) (v : Told) → seen (insert_entry bytes_cmp es k v) ≡ insert_entry bytes_cmp (seen es) k (fault_at v)
+seen_put : (es : List (List ℕ × Fault)) (k : List ℕ) (v : Fault) → seen (insert_entry bytes_cmp es k v) ≡ insert_entry bytes_cmp (seen es) k (fault_view v)
 seen_put [] k v = refl
 seen_put (e ∷ es) k v =
     seen_by (bytes_cmp k e.0) ((k, v) ∷ e ∷ es) ((e.0, v) ∷ es) (e ∷ insert_entry bytes_cmp es k v)
-    ∙ ap (λ l. match_ordering (bytes_cmp k e.0) ((k, fault_at v) ∷ seen (e ∷ es)) ((e.0, fault_at v) ∷ seen es) ((e.0, fault_at e.1) ∷ l)) (seen_put es k v)
+    ∙ ap (λ l. match_ordering (bytes_cmp k e.0) ((k, fault_view v) ∷ seen (e ∷ es)) ((e.0, fault_view v) ∷ seen es) ((e.0, fault_view e.1) ∷ l)) (seen_put es k v)
 
 some_of : {X Y : Type 0} (f : X → Y) (o : Option X) → is_some (option_map f o) ≡ is_some o
 some_of f None = refl
 some_of f (Some x) = refl
 
-found_seen : (es : List (List ℕ × Told)) (k : List ℕ) (ys : List plain.Fault) → seen es ≡ printed ys → is_some (lookup (is_at (bytes_cmp k)) (printed ys)) ≡ is_some (lookup (is_at (bytes_cmp k)) es)
+found_seen : (es : List (List ℕ × Fault)) (k : List ℕ) (ys : List plain.Fault) → seen es ≡ printed ys → is_some (lookup (is_at (bytes_cmp k)) (printed ys)) ≡ is_some (lookup (is_at (bytes_cmp k)) es)
 found_seen es k ys e =
     ap (λ l. is_some (lookup (is_at (bytes_cmp k)) l)) (sym e)
-    ∙ ap is_some (lookup-map_values fault_at (is_at (bytes_cmp k)) es)
-    ∙ some_of fault_at (lookup (is_at (bytes_cmp k)) es)
+    ∙ ap is_some (lookup-map_values fault_view (is_at (bytes_cmp k)) es)
+    ∙ some_of fault_view (lookup (is_at (bytes_cmp k)) es)
 
-module _ (es : List (List ℕ × Told)) (k : List ℕ) (v : Told) (is : k ≡ fault_line (fault_at v)) where
-  pub line_known : is_some (lookup (is_at (bytes_cmp k)) es) ≡ true → PutsLine (fault_at v) es es
+module _ (es : List (List ℕ × Fault)) (k : List ℕ) (v : Fault) (is : k ≡ fault_line (fault_view v)) where
+  pub line_known : is_some (lookup (is_at (bytes_cmp k)) es) ≡ true → PutsLine (fault_view v) es es
   line_known h = record {
     puts = λ faults e.
-        e ∙ ap printed (sym (put_known (fault_at v) (lines_of fault_line faults) (in_order-ascends line_key faults)
+        e ∙ ap printed (sym (put_known (fault_view v) (lines_of fault_line faults) (in_order-ascends line_key faults)
         (subst (λ l. is_some (lookup (is_at (bytes_cmp l)) (printed (lines_of fault_line faults))) ≡ true) is (found_seen es k (lines_of fault_line faults) e ∙ h))));
   }
 
-  pub line_new : is_some (lookup (is_at (bytes_cmp k)) es) ≡ false → PutsLine (fault_at v) es (insert_entry bytes_cmp es k v)
+  pub line_new : is_some (lookup (is_at (bytes_cmp k)) es) ≡ false → PutsLine (fault_view v) es (insert_entry bytes_cmp es k v)
   line_new h = record {
     puts = λ faults e.
-        seen_put es k v ∙ ap (λ l. insert_entry bytes_cmp l k (fault_at v)) e ∙ ap (λ l. insert_entry bytes_cmp (printed (lines_of fault_line faults)) l (fault_at v)) is
-        ∙ put_new (fault_at v) (lines_of fault_line faults) (subst (λ l. is_some (lookup (is_at (bytes_cmp l)) (printed (lines_of fault_line faults))) ≡ false) is (found_seen es k (lines_of fault_line faults) e ∙ h));
+        seen_put es k v ∙ ap (λ l. insert_entry bytes_cmp l k (fault_view v)) e ∙ ap (λ l. insert_entry bytes_cmp (printed (lines_of fault_line faults)) l (fault_view v)) is
+        ∙ put_new (fault_view v) (lines_of fault_line faults) (subst (λ l. is_some (lookup (is_at (bytes_cmp l)) (printed (lines_of fault_line faults))) ≡ false) is (found_seen es k (lines_of fault_line faults) e ∙ h));
   }
 
 -- the faults of the lines
@@ -135,16 +130,16 @@ pub none_left : {X : Type 0} (xs : List X) → (0 < length xs → ⊥) → xs �
 none_left [] none = refl
 none_left (x ∷ xs) none = absurd (none (omega arith))
 
-pub one_less : (es rest : List Entry) (e : Entry) (done all : List plain.Fault) → es ≡ rest ++ e ∷ [] → map fault_of (noted es) ++ done ≡ all → map fault_of (noted rest) ++ (fault_of (note_of e) ∷ done) ≡ all
-one_less es rest e done all is h =
-    sym (append_assoc (map fault_of (noted rest)) (fault_of (note_of e) ∷ []) done)
-    ∙ ap (λ l. l ++ done) (sym (ap (map fault_of) (map-append note_of rest (e ∷ [])) ∙ map-append fault_of (noted rest) (note_of e ∷ [])))
-    ∙ ap (λ l. map fault_of (noted l) ++ done) (sym is) ∙ h
+pub one_less : (fs rest : List Fault) (f : Fault) (done all : List plain.Fault) → fs ≡ rest ++ f ∷ [] → map fault_view fs ++ done ≡ all → map fault_view rest ++ (fault_view f ∷ done) ≡ all
+one_less fs rest f done all is h =
+    sym (append_assoc (map fault_view rest) (fault_view f ∷ []) done)
+    ∙ ap (λ l. l ++ done) (sym (map-append fault_view rest (f ∷ [])))
+    ∙ ap (λ l. map fault_view l ++ done) (sym is) ∙ h
 
-abbrev pub faults_seen : List (List ℕ × Told) → List plain.Fault
+abbrev pub faults_seen : List (List ℕ × Fault) → List plain.Fault
 faults_seen es = map (λ e. e.1) (seen es)
 
-pub one_more : (fs gs : List Fault) (f : Fault) (es rest : List (List ℕ × Told)) (e : List ℕ × Told) (total : List plain.Fault) → gs ≡ fs ++ f ∷ [] → fault_view f ≡ fault_at e.1 → es ≡ e ∷ rest
+pub one_more : (fs gs : List Fault) (f : Fault) (es rest : List (List ℕ × Fault)) (e : List ℕ × Fault) (total : List plain.Fault) → gs ≡ fs ++ f ∷ [] → fault_view f ≡ fault_view e.1 → es ≡ e ∷ rest
     → faults_view fs ++ faults_seen es ≡ total → faults_view gs ++ faults_seen rest ≡ total
 one_more fs gs f es rest e total more same is h =
     ap (λ l. faults_view l ++ faults_seen rest) more
@@ -153,10 +148,10 @@ one_more fs gs f es rest e total more same is h =
     ∙ ap (λ x. faults_view fs ++ x ∷ faults_seen rest) same
     ∙ ap (λ l. faults_view fs ++ faults_seen l) (sym is) ∙ h
 
-pub all_taken : (fs : List Fault) (es : List (List ℕ × Told)) (total : List plain.Fault) → es ≡ [] → faults_view fs ++ faults_seen es ≡ total → faults_view fs ≡ total
+pub all_taken : (fs : List Fault) (es : List (List ℕ × Fault)) (total : List plain.Fault) → es ≡ [] → faults_view fs ++ faults_seen es ≡ total → faults_view fs ≡ total
 all_taken fs es total none h = sym (append-nil (faults_view fs)) ∙ ap (λ l. faults_view fs ++ faults_seen l) (sym none) ∙ h
 
 -- the faults of lines in order
-pub in_order_are : {E : Type 0} (answer : Result (List Fault) E) (es : List (List ℕ × Told)) (faults : List plain.Fault) → IfOk answer (λ l. faults_view l ≡ faults_seen es) → seen es ≡ printed faults → IfOk answer (λ l. faults_view l ≡ faults)
+pub in_order_are : {E : Type 0} (answer : Result (List Fault) E) (es : List (List ℕ × Fault)) (faults : List plain.Fault) → IfOk answer (λ l. faults_view l ≡ faults_seen es) → seen es ≡ printed faults → IfOk answer (λ l. faults_view l ≡ faults)
 in_order_are (Ok l) es faults is e = is ∙ ap (map (λ x. x.1)) e ∙ printed_faults faults
 in_order_are (Err e) es faults is same = tt

@@ -1,0 +1,2 @@
+-- what functions, laws and examples say besides
+pub mod Printed
