@@ -1,5 +1,6 @@
 -- what is promised
 pub mod RootSettings
+pub mod Flaws
 -- what functions, laws and examples say besides
 pub mod Roots
 pub mod Offs

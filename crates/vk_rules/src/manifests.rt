@@ -15,7 +15,7 @@ fn is_named(feature: &Feature, name: &str) -> bool
 }
 
 // The first feature of this name.
-fn feature_of<'a>(manifest: &'a Manifest, name: &str) -> Option<&'a Feature>
+pub(crate) fn feature_of<'a>(manifest: &'a Manifest, name: &str) -> Option<&'a Feature>
     ensures { option_map (λ f. f.now) result
         ≡ find (λ f. bytes_eq (feature_view f.name) name.now) manifest.now.features }
 {

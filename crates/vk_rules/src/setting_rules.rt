@@ -1,15 +1,19 @@
 //! The rules of a setting.
-ghost use Rattle.std.specs.Prelude.{◌≡◌, ◌++◌, ◌+◌, OnOk, IfOk, map, flat_map};
+ghost use Rattle.std.specs.Prelude.{◌≡◌, ◌++◌, ◌+◌, ℕ, Option, OnOk, IfOk, map, flat_map};
+ghost use Rattle.vk_spec.specs.Versions.{Version};
 ghost use Rattle.vk_resolution.specs.Settings.{marks_of, triplet_of, is_own, is_off};
 ghost use Rattle.vk_resolution.specs.Asking.{asked_by, asked_of, asked_of_other};
+ghost use Rattle.vk_resolution.specs.Faults.{judged};
 ghost use Rattle.vk_base.specs.FeatureViews.{feature_view};
 ghost use Rattle.vk_model.specs.Views.{manifest_view, dependency_view};
 ghost use Rattle.vk_model.specs.SettingViews.{instance_view, setting_view};
 ghost use Rattle.vk_model.specs.FactViews.{fact_view, who_view};
 ghost use Rattle.vk_rules.specs.Roots.{instance_at, triplet_for, root_setting};
 ghost use Rattle.vk_rules.specs.Asked.{facts_view, asked_where, asked_each};
+ghost use Rattle.vk_rules.specs.Flaws.{flaw_faults};
 
 use crate::asking::{push_other, push_own, push_uses};
+use crate::flaws::{Flaw, flaw_under};
 use crate::instance_sets::set_of;
 use crate::manifests::{defaults_of, dependencies_of};
 use crate::roots::{Root, triplet_of};
@@ -213,6 +217,17 @@ impl<'a> Rules<'a> {
     {
         steps.tick();
         asked_of(alloc, self, who, feature, manifest)
+    }
+
+    /// What is wrong with a feature of a manifest that is needed of someone: `core` isn't supported
+    /// where the manifest isn't; a named feature isn't there, or isn't supported; with `default`
+    /// nothing is. Takes no memory.
+    pub fn flaw(&self, who: &Who, feature: &FeatureName, manifest: &Manifest) -> Option<Flaw>
+        ensures { (v : Option Version) (n : ℕ) → judged (setting_view self.now) (who_view who.now)
+            (feature_view feature.now) v (manifest_view manifest.now) n
+            ≡ flaw_faults (who_view who.now) (feature_view feature.now) v n result }
+    {
+        flaw_under(self.root().marks(triplet_of(who)), feature, manifest)
     }
 }
 
