@@ -1,4 +1,3 @@
 pub mod NoteLemmas
 pub mod EntryLemmas
 pub mod MetLemmas
-pub mod PrintedLemmas

@@ -2,4 +2,3 @@
 pub mod Troubles
 pub mod Met
 pub mod Notes
-pub mod Printed

@@ -10,11 +10,11 @@ ghost use Rattle.vk_resolution.specs.Planner.{inputs_of};
 ghost use Rattle.vk_model.specs.FactViews.{reasons_view};
 ghost use Rattle.vk_model.specs.FaultViews.{faults_view};
 
-use crate::notes::notes_of;
-use crate::printed::sorted;
+use crate::notes::{faults_of, notes_of};
 use std::alloc::Global;
 use vk_base::{List, Outage};
 use vk_catalogue::Catalogue;
+use vk_fault_lines::sorted;
 use vk_model::{Fault, Reason};
 
 /// The lines of the first phase for these reasons: what is wrong with the files that their facts
@@ -33,5 +33,6 @@ pub fn first_faults<C: Catalogue>(
         (facts_of (reasons_view reasons.now)))) (C.state cat.old)) }
 {
     let notes = notes_of(alloc, cat, reasons)?;
-    Ok(sorted(alloc, notes)?)
+    let faults = faults_of(alloc, notes)?;
+    Ok(sorted(alloc, faults)?)
 }

@@ -7,7 +7,6 @@ mod asks;
 mod firsts;
 mod keys;
 mod notes;
-mod printed;
 mod troubles;
 
 pub use firsts::first_faults;

@@ -7,7 +7,8 @@ ghost use Rattle.vk_resolution.specs.Faults.{trouble_key};
 ghost use Rattle.vk_model.specs.FactViews.{fact_view, reasons_view};
 ghost use Rattle.vk_faults.specs.Troubles.{trouble_view};
 ghost use Rattle.vk_faults.specs.Met.{met_on};
-ghost use Rattle.vk_faults.specs.Notes.{AreKeyed, HaveFirstLines, IsNoted, noted};
+ghost use Rattle.vk_model.specs.FaultViews.{fault_view};
+ghost use Rattle.vk_faults.specs.Notes.{AreKeyed, HaveFirstLines, IsNoted, fault_of, noted};
 
 use crate::asks::fact_trouble;
 use crate::keys::Key;
@@ -16,7 +17,7 @@ use std::alloc::Global;
 use std::collections::BTreeMap;
 use vk_base::{Memory, Outage};
 use vk_catalogue::Catalogue;
-use vk_model::{Fact, Reason};
+use vk_model::{Fact, Fault, Reason};
 
 /// Troubles with the lines that meet them first, by the troubles' keys.
 pub(crate) type Notes = BTreeMap<Key, (Trouble, u32)>;
@@ -87,4 +88,17 @@ pub(crate) fn notes_of<C: Catalogue>(
         note_fact(alloc, cat, &mut notes, &reason.fact, line)?;
     }
     Ok(notes)
+}
+
+/// The faults of the noted troubles, by their keys.
+pub(crate) fn faults_of(alloc: Global, mut notes: Notes) -> Result<Vec<Fault>, Memory>
+    ensures { IfOk result (λ faults. map fault_view faults.items
+        ≡ map fault_of (noted notes.entries)) }
+{
+    let mut faults = Vec::new(alloc);
+    while let Some((_, note)) = notes.pop_first() {
+        let (trouble, line) = note;
+        faults.push(trouble.on_line(line))?;
+    }
+    Ok(faults)
 }

@@ -4,7 +4,6 @@ ghost use Rattle.vk_json.specs.Words.{word_of};
 ghost use Rattle.vk_version.specs.AskViews.{ask_view};
 ghost use Rattle.vk_resolution.specs.Faults.{trouble_key, wrong_of, field_number, troubled};
 ghost use Rattle.vk_resolution.specs.Faults as plain;
-ghost use Rattle.vk_resolution.specs.Lines.{fault_line, trouble_text};
 ghost use Rattle.vk_model.specs.WrongViews.{field_view, wrong_view};
 ghost use Rattle.vk_model.specs.FaultViews.{fault_view};
 ghost use Rattle.vk_faults.specs.Troubles.{trouble_view};
@@ -13,7 +12,6 @@ use crate::keys::{Key, key_of_kind, push_number, push_path, push_text};
 use std::alloc::Global;
 use vk_base::{Memory, PortName, Text, TreePath};
 use vk_json::Why;
-use vk_model::lines::{cited, no_version_line, wrong_line};
 use vk_model::{Fault, Field, Wrong};
 use vk_version::Ask;
 
@@ -135,24 +133,6 @@ impl Trouble {
             Trouble::Wrong { port, wrong } => wrong_key(alloc, port, wrong),
             Trouble::NoVersion { port, ask } => version_key(alloc, port, ask),
         }
-    }
-
-    // What is printed of it before the line that it cites.
-    fn text(&self, alloc: Global) -> Result<Text, Memory>
-        ensures { IfOk result (λ t. t ≡ trouble_text (trouble_view self.now)) }
-    {
-        match self {
-            Trouble::Wrong { port, wrong } => wrong_line(alloc, port, wrong),
-            Trouble::NoVersion { port, ask } => no_version_line(alloc, port, ask),
-        }
-    }
-
-    /// The line of the fault that cites this line.
-    pub(crate) fn printed(&self, alloc: Global, line: u32) -> Result<Text, Memory>
-        ensures { IfOk result (λ t. t ≡ fault_line (troubled (trouble_view self.now) line)) }
-    {
-        let text = self.text(alloc)?;
-        cited(alloc, &text, line)
     }
 
     /// The fault that cites this line.
