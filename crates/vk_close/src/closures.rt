@@ -171,6 +171,7 @@ pub fn close<C: Catalogue, L: Ledger>(
         (λ pages. IsClosure (inputs_of (setting_view setting.now) pages) fault_line
         (closure_view c)) (C.state cat.old)) }
     ensures few { IfOk result (λ c. length c.reasons ≤ setting.now.max_facts) }
+    ensures small { IfOk result (λ c. length c.reasons < 2 ^ 32) }
     ensures facts { OnFault result setting.now.max_facts (OnPages
         (λ pages. HasTooManyFacts (inputs_of (setting_view setting.now) pages))
         (C.state cat.old)) }
