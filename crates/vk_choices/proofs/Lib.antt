@@ -1,0 +1,6 @@
+mod RowLemmas
+mod FloorLemmas
+mod TopLemmas
+mod ConflictLemmas
+mod SettleLemmas
+mod ClearLemmas
