@@ -1,0 +1,8 @@
+-- what is promised
+pub mod Graphs
+-- what functions, laws and examples say besides
+pub mod Needs
+pub mod Bases
+pub mod Links
+pub mod Manifests
+pub mod Followed
