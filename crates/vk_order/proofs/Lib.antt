@@ -1,0 +1,10 @@
+pub mod NumberLemmas
+pub mod UserLemmas
+pub mod PeelingLemmas
+pub mod WayLemmas
+pub mod WalkLemmas
+pub mod MoveLemmas
+pub mod HeightOrderLemmas
+pub mod EdgeLemmas
+pub mod OrderedLemmas
+pub mod ArrangingLemmas

@@ -1,0 +1,8 @@
+-- what is promised
+pub mod Sets
+-- what functions, laws and examples say besides
+pub mod Needs
+pub mod Peeling
+pub mod Ways
+pub mod Moves
+pub mod Arranging
