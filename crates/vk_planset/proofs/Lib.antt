@@ -1,0 +1,9 @@
+pub mod MemberLemmas
+pub mod OrderLemmas
+pub mod SeatLemmas
+pub mod ListingLemmas
+pub mod JudgingLemmas
+pub mod LinkLemmas
+pub mod PlaceLemmas
+pub mod ItemLemmas
+pub mod SetLemmas

@@ -1,0 +1,173 @@
+//! The planned set of choices.
+ghost use Rattle.std.specs.Prelude.{◌≡◌, ◌+◌, ◌<◌, ◌≤◌, ◌^◌, [], false, List};
+ghost use Rattle.std.specs.Prelude.{IfOk, OnOk, length, map};
+ghost use Rattle.vk_spec.specs.Catalogues.{OnlyAsked, OnPages};
+ghost use Rattle.vk_base.specs.Stops.{has_failed, was_out};
+ghost use Rattle.vk_resolution.specs.Asking as plain;
+ghost use Rattle.vk_resolution.specs.Faults.{third_faults_of};
+ghost use Rattle.vk_resolution.specs.Planner.{inputs_of};
+ghost use Rattle.vk_resolution.specs.Planning.{IsPlanned};
+ghost use Rattle.vk_resolution.specs.Reasons.{facts_of};
+ghost use Rattle.vk_resolution.specs.Selections.{IsChoices};
+ghost use Rattle.vk_model.specs.FactViews.{fact_view, reasons_view};
+ghost use Rattle.vk_model.specs.FaultViews.{fault_view, item_view};
+ghost use Rattle.vk_model.specs.SettingViews.{setting_view};
+ghost use Rattle.vk_worklist.specs.Ticks.{ticks};
+ghost use Rattle.vk_choices.specs.ChoiceViews.{choices_view};
+ghost use Rattle.vk_choices.specs.Clear.{IsClear};
+ghost use Rattle.vk_order.specs.Sets.{AreItems};
+ghost use Rattle.vk_planset.specs.Assembled.{AreAssembled, IsPlannedGraph, IsTold};
+ghost use Rattle.vk_planset.specs.Sets.{AreThird, IsSet, OnFaults};
+
+use crate::items::items_of;
+use crate::judging::third_faults;
+use crate::orders::order_of;
+use crate::seats::seats_of;
+use std::alloc::Global;
+use std::sync::ledger::Ledger;
+use vk_base::{List, Memory, Outage, Steps, Stop};
+use vk_catalogue::Catalogue;
+use vk_choices::Choices;
+use vk_fault_lines::sorted;
+use vk_model::{Fault, PlanSet, Reason, Setting};
+use vk_planned::{Planned, plan_needs};
+
+/// Why there is no planned set.
+#[derive(Drop)]
+pub enum PlanSetFault {
+    /// The features that are needed and that the chosen versions lack, and what isn't supported,
+    /// in the order in which the lines are printed.
+    Faults(List<Fault>),
+}
+
+// The items of the planned needs. Those are among the facts of the reasons, so where the pages are
+// told there are no more of them than reasons.
+fn assembled(
+    alloc: Global,
+    choices: &Choices,
+    planned: &Planned,
+    most: usize,
+) -> Result<PlanSet, Memory>
+    ensures set { IfOk result (λ s. AreAssembled choices.now.ports.entries
+        (map fact_view planned.now.needs.keys) planned.now.edges.items (map item_view s.items)) }
+    ensures few { IfOk result (λ _. length planned.now.needs.keys ≤ most) }
+{
+    let needs = planned.needs.as_slice();
+    if needs.len() > most {
+        return Err(Memory::without_allocation());
+    }
+    let order = order_of(alloc, choices, needs)?;
+    let seats = seats_of(alloc, &order, needs, planned.edges.as_slice())?;
+    Ok(PlanSet {
+        items: items_of(alloc, choices, &order, &seats)?,
+    })
+}
+
+// The faults of the third phase, if any may be there.
+fn faults_of<C: Catalogue>(
+    alloc: Global,
+    cat: &mut C,
+    setting: &Setting,
+    reasons: &[Reason],
+    choices: &Choices,
+    planned: &Planned,
+) -> Result<Vec<Fault>, Outage>
+    requires small { length reasons.now < 2 ^ 32 }
+    requires clear { OnPages (λ pages. IsClear (inputs_of (setting_view setting.now) pages)
+        (reasons_view reasons.now)) (C.state cat.old) }
+    requires choices { OnPages (λ pages. IsChoices (inputs_of (setting_view setting.now) pages)
+        (facts_of (reasons_view reasons.now)) (choices_view choices.now)) (C.state cat.old) }
+    requires planned { OnPages (λ pages. IsPlannedGraph
+        (inputs_of (setting_view setting.now) pages) (facts_of (reasons_view reasons.now))
+        (map fact_view planned.now.needs.keys) planned.now.edges.items planned.now.clean)
+        (C.state cat.old) }
+    ensures asked { OnlyAsked (was_out result) (C.state cat.old) (C.state cat.new) }
+    ensures faults { IfOk result (λ faults. OnPages (λ pages. map fault_view faults.items
+        ≡ third_faults_of (inputs_of (setting_view setting.now) pages)
+        (facts_of (reasons_view reasons.now)) (map fact_view planned.now.needs.keys))
+        (C.state cat.old)) }
+{
+    if planned.clean {
+        return Ok(Vec::new(alloc));
+    }
+    third_faults(alloc, cat, setting, reasons, choices, &planned.needs)
+}
+
+// Tells the faults, if there are any.
+fn tell(alloc: Global, faults: Vec<Fault>) -> Result<(), Stop<PlanSetFault>>
+    ensures clear { OnOk result (map fault_view faults.items ≡ []) }
+    ensures faults { OnFaults result (λ lines. IsTold (map fault_view faults.items) lines) }
+    ensures calm { has_failed result ≡ false }
+{
+    if faults.is_empty() {
+        return Ok(());
+    }
+    Err(Stop::Fault(PlanSetFault::Faults(sorted(alloc, faults)?)))
+}
+
+// That the plan can serve all that is needed.
+fn check<C: Catalogue>(
+    alloc: Global,
+    cat: &mut C,
+    setting: &Setting,
+    reasons: &[Reason],
+    choices: &Choices,
+    planned: &Planned,
+) -> Result<(), Stop<PlanSetFault>>
+    requires small { length reasons.now < 2 ^ 32 }
+    requires clear { OnPages (λ pages. IsClear (inputs_of (setting_view setting.now) pages)
+        (reasons_view reasons.now)) (C.state cat.old) }
+    requires choices { OnPages (λ pages. IsChoices (inputs_of (setting_view setting.now) pages)
+        (facts_of (reasons_view reasons.now)) (choices_view choices.now)) (C.state cat.old) }
+    requires planned { OnPages (λ pages. IsPlannedGraph
+        (inputs_of (setting_view setting.now) pages) (facts_of (reasons_view reasons.now))
+        (map fact_view planned.now.needs.keys) planned.now.edges.items planned.now.clean)
+        (C.state cat.old) }
+    ensures clear { OnOk result (OnPages (λ pages. third_faults_of
+        (inputs_of (setting_view setting.now) pages) (facts_of (reasons_view reasons.now))
+        (map fact_view planned.now.needs.keys) ≡ []) (C.state cat.old)) }
+    ensures faults { OnFaults result (λ lines. OnPages (λ pages. AreThird
+        (inputs_of (setting_view setting.now) pages) (facts_of (reasons_view reasons.now))
+        lines) (C.state cat.old)) }
+    ensures asked { OnlyAsked (has_failed result) (C.state cat.old) (C.state cat.new) }
+{
+    let faults = faults_of(alloc, cat, setting, reasons, choices, planned)?;
+    tell(alloc, faults)
+}
+
+/// An item for each planned instance, in the order of instances: its version, the line of its
+/// floor, its features, and the places of what it depends on. `Faults` comes exactly where a
+/// needed feature isn't there or isn't supported. The reasons are those of a closure without
+/// faults, and the choices are made of them. It takes at most one step for each visit and each
+/// need of the root that is planned.
+pub fn plan_set<C: Catalogue, L: Ledger>(
+    alloc: Global,
+    cat: &mut C,
+    setting: &Setting,
+    reasons: &[Reason],
+    choices: &Choices,
+    steps: &mut Steps<L>,
+) -> Result<PlanSet, Stop<PlanSetFault>>
+    requires small { length reasons.now < 2 ^ 32 }
+    requires clear { OnPages (λ pages. IsClear (inputs_of (setting_view setting.now) pages)
+        (reasons_view reasons.now)) (C.state cat.old) }
+    requires choices { OnPages (λ pages. IsChoices (inputs_of (setting_view setting.now) pages)
+        (facts_of (reasons_view reasons.now)) (choices_view choices.now)) (C.state cat.old) }
+    ensures set { IfOk result (λ s. OnPages (λ pages. IsSet
+        (inputs_of (setting_view setting.now) pages) (facts_of (reasons_view reasons.now))
+        (map item_view s.items)) (C.state cat.old)) }
+    ensures items { IfOk result (λ s. AreItems (map item_view s.items)) }
+    ensures few { IfOk result (λ s. length s.items < 2 ^ 32) }
+    ensures faults { OnFaults result (λ lines. OnPages (λ pages. AreThird
+        (inputs_of (setting_view setting.now) pages) (facts_of (reasons_view reasons.now))
+        lines) (C.state cat.old)) }
+    ensures ticks { OnPages (λ pages. (planned : List plain.Fact)
+        → IsPlanned (inputs_of (setting_view setting.now) pages)
+        (facts_of (reasons_view reasons.now)) planned → steps.new ≤ steps.old + ticks planned)
+        (C.state cat.old) }
+    ensures asked { OnlyAsked (has_failed result) (C.state cat.old) (C.state cat.new) }
+{
+    let planned = plan_needs(alloc, cat, setting, reasons, choices, steps)?;
+    check(alloc, cat, setting, reasons, choices, &planned)?;
+    Ok(assembled(alloc, choices, &planned, reasons.len())?)
+}
