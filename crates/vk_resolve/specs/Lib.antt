@@ -1,0 +1,4 @@
+-- what is promised
+pub mod Resolved
+-- what functions, laws and examples say besides
+pub mod Decided
