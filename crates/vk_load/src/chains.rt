@@ -59,7 +59,8 @@ fn at_higher(alloc: Global, number: u64) -> Result<Dependency, Unmade> {
     Ok(dependency(alloc, name, Some(minimum)))
 }
 
-fn on(alloc: Global, number: u64) -> Result<Dependency, Unmade> {
+/// A dependency on a port.
+pub fn on(alloc: Global, number: u64) -> Result<Dependency, Unmade> {
     let name = port_of(alloc, number)?;
     Ok(dependency(alloc, name, None))
 }
@@ -87,7 +88,8 @@ fn lower_asks(alloc: Global, number: u64, size: u64) -> Result<List<Dependency>,
     Ok(asked)
 }
 
-fn manifest_of(
+/// A manifest without features.
+pub fn manifest_of(
     alloc: Global,
     name: Option<PortName>,
     version: Option<Version>,
@@ -104,7 +106,8 @@ fn manifest_of(
     }
 }
 
-fn row_of(
+/// A version of a port, with what its manifest asks for.
+pub fn row_of(
     alloc: Global,
     number: u64,
     text: &str,
@@ -127,18 +130,25 @@ fn rows_of(alloc: Global, number: u64, size: u64) -> Result<List<PageRow>, Unmad
     Ok(rows)
 }
 
-fn page_of(alloc: Global, number: u64, size: u64) -> Result<Page, Unmade> {
-    let rows = rows_of(alloc, number, size)?;
+/// The page of a port with these versions, whose baseline is the lower one.
+pub fn page_with(alloc: Global, number: u64, rows: List<PageRow>) -> Result<Page, Unmade> {
     let port = port_of(alloc, number)?;
     let given = Ok(Given::Baseline(ask_of(alloc, "1.0")?));
     Ok(Page { port, given, rows })
 }
 
-fn put(pages: &mut MemCatalogue, page: Page) -> Result<(), Unmade> {
-    if !pages.fits(&page)? {
-        return Err(Unread::Fault(NoLoad));
+fn page_of(alloc: Global, number: u64, size: u64) -> Result<Page, Unmade> {
+    let rows = rows_of(alloc, number, size)?;
+    page_with(alloc, number, rows)
+}
+
+/// Puts a page into a catalogue.
+pub fn put(pages: &mut MemCatalogue, page: Page) -> Result<(), Unmade> {
+    match pages.fits(&page) {
+        Ok(true) => pages.put(page).map_err(Unread::Memory),
+        Ok(false) => Err(Unread::Fault(NoLoad)),
+        Err(memory) => Err(Unread::Memory(memory)),
     }
-    Ok(pages.put(page)?)
 }
 
 /// The catalogue of a chain of so many ports.
@@ -154,7 +164,7 @@ pub fn chain(alloc: Global, size: u32) -> Result<MemCatalogue, Unmade> {
 }
 
 /// A root that asks for the first port of a chain at its higher version.
-pub fn root_of(alloc: Global) -> Result<Manifest, Unmade> {
+pub fn chain_root(alloc: Global) -> Result<Manifest, Unmade> {
     let mut asked = List::new(alloc);
     asked.push(at_higher(alloc, 0)?)?;
     Ok(manifest_of(alloc, None, None, asked))

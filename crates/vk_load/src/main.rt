@@ -1,22 +1,24 @@
-//! Closes long chains of ports over catalogues in memory: reads a number of ports a line, and tells
-//! how many facts there are. How long the closing took goes to standard error, so that what the
-//! program prints is always the same.
+//! Plans large projects over catalogues in memory: reads a shape and a number of ports a line, as
+//! `chain 20` or `side 20`, and tells how many facts and how many items there are. How long the
+//! closing took, and how long the whole plan, goes to standard error, in microseconds, so that what
+//! the program prints is always the same.
 #![tactic(auto)]
 
 mod chains;
 mod runs;
+mod sides;
 
-use runs::{Load, closed, load_of};
+use runs::{Load, Shape, closed, load_of, planned};
 use std::alloc::Global;
 use std::io::{self, Eprint};
 use std::rt::Clock;
 use std::time::Instant;
-use vk_model::Closure;
+use vk_model::{Closure, Outcome};
 
-// How many facts a load has, and how many microseconds it took to close it.
+// How many there are of what was made, and how many microseconds it took.
 #[derive(Clone, Copy, Drop)]
 struct Timed {
-    facts: usize,
+    count: usize,
     micros: u128,
 }
 
@@ -24,41 +26,115 @@ fn facts_of(closure: Option<Closure>) -> Option<usize> {
     Some(closure?.reasons.len())
 }
 
-// Times the call alone: the closure is dropped when the time was taken.
-fn measure<R: Clock>(rt: &R, alloc: Global, load: &mut Load) -> io::Result<Option<Timed>> {
+fn items_of(outcome: Option<Outcome>) -> Option<usize> {
+    match outcome? {
+        Outcome::Planned(plan, _) => Some(plan.items.len()),
+        _ => None,
+    }
+}
+
+// Times the call alone: the answer is dropped when the time was taken.
+fn measure_closing<R: Clock>(rt: &R, alloc: Global, load: &mut Load) -> io::Result<Option<Timed>> {
     let start = Instant::now(rt)?;
     let closure = closed(alloc, load);
     let end = Instant::now(rt);
     let facts = facts_of(closure);
     let micros = end?.duration_since(start).as_micros();
     match facts {
-        Some(facts) => Ok(Some(Timed { facts, micros })),
+        Some(count) => Ok(Some(Timed { count, micros })),
         None => Ok(None),
     }
 }
 
-fn measure_at<R: Clock>(rt: &R, alloc: Global, size: u32) -> io::Result<Option<Timed>> {
-    match load_of(alloc, size) {
-        Ok(mut load) => measure(rt, alloc, &mut load),
+fn measure_planning<R: Clock>(rt: &R, alloc: Global, load: &mut Load) -> io::Result<Option<Timed>> {
+    let start = Instant::now(rt)?;
+    let outcome = planned(alloc, load);
+    let end = Instant::now(rt);
+    let items = items_of(outcome);
+    let micros = end?.duration_since(start).as_micros();
+    match items {
+        Some(count) => Ok(Some(Timed { count, micros })),
+        None => Ok(None),
+    }
+}
+
+// A closing and a plan of one load.
+#[derive(Clone, Copy, Drop)]
+struct Both {
+    closing: Timed,
+    planning: Timed,
+}
+
+fn measure<R: Clock>(rt: &R, alloc: Global, load: &mut Load) -> io::Result<Option<Both>> {
+    let Some(closing) = measure_closing(rt, alloc, load)? else {
+        return Ok(None);
+    };
+    match measure_planning(rt, alloc, load)? {
+        Some(planning) => Ok(Some(Both { closing, planning })),
+        None => Ok(None),
+    }
+}
+
+fn measure_made<R: Clock>(rt: &R, alloc: Global, mut load: Load) -> io::Result<Option<Both>> {
+    measure(rt, alloc, &mut load)
+}
+
+fn measure_at<R: Clock>(
+    rt: &R,
+    alloc: Global,
+    shape: Shape,
+    size: u32,
+) -> io::Result<Option<Both>> {
+    match load_of(alloc, shape, size) {
+        Ok(load) => measure_made(rt, alloc, load),
         Err(_) => Ok(None),
     }
 }
 
-fn tell<R: Print + Eprint + Clock>(rt: &R, alloc: Global, size: u32) -> io::Result<()> {
-    let Some(timed) = measure_at(rt, alloc, size)? else {
-        return println!(rt; "{size} ports: stopped");
+fn tell<R: Print + Eprint + Clock>(
+    rt: &R,
+    alloc: Global,
+    row: &str,
+    shape: Shape,
+    size: u32,
+) -> io::Result<()> {
+    let Some(both) = measure_at(rt, alloc, shape, size)? else {
+        return println!(rt; "{row}: stopped");
     };
-    eprintln!(rt; "{size} ports: {} us", timed.micros)?;
-    println!(rt; "{size} ports, {} facts", timed.facts)
+    let (closing, planning) = (both.closing, both.planning);
+    eprintln!(rt;
+        "{row}: closed {} us, planned {} us",
+        closing.micros, planning.micros
+    )?;
+    println!(rt; "{row}: {} facts, {} items", closing.count, planning.count)
+}
+
+fn shape_of(word: &str) -> Option<Shape> {
+    match word {
+        "chain" => Some(Shape::Chain),
+        "side" => Some(Shape::Side),
+        _ => None,
+    }
+}
+
+fn size_of(word: &str) -> Option<u32> {
+    word.parse::<u32>().ok()
+}
+
+fn answer<R: Print + Eprint + Clock>(rt: &R, alloc: Global, row: &str) -> io::Result<()> {
+    let Some((shape, size)) = row.split_once(' ') else {
+        return println!(rt; "no row");
+    };
+    match (shape_of(shape), size_of(size)) {
+        (Some(shape), Some(size)) => tell(rt, alloc, row, shape, size),
+        _ => println!(rt; "no row"),
+    }
 }
 
 fn main(rt: HostRuntime) -> io::Result<()> {
     for line in rt.lines(rt.alloc()) {
         let line = line?;
-        match line.as_str().parse::<u32>() {
-            Ok(size) => tell(&rt, rt.alloc(), size)?,
-            Err(_) => println!(rt; "no number")?,
-        }
+        answer(&rt, rt.alloc(), line.as_str())?;
     }
     Ok(())
 }

@@ -1,18 +1,29 @@
-//! One closing of a chain, with a count of steps of its own.
+//! One run over a load, with a count of steps of its own: closing it, or planning it whole.
 ghost use Rattle.std.specs.Prelude.{◌≡◌, ◌<◌};
 
-use crate::chains::{NoLoad, Unmade, chain, root_of};
+use crate::chains::{NoLoad, Unmade, chain, chain_root};
+use crate::sides::{side_by_side, side_root};
 use std::alloc::Global;
 use std::marker::Brand;
 use std::sync::ledger::{Blank, Ledger};
 use vk_base::{List, Steps, Stop, TripletName, Unread};
 use vk_catalogue::MemCatalogue;
 use vk_close::{CloseFault, close};
-use vk_model::{Closure, Manifest, Setting};
+use vk_model::{Closure, Manifest, Outcome, Setting};
+use vk_resolve::resolve;
 use vk_triplet::{Triplet, read};
 
 // How many facts there may be.
 const MOST: u32 = 1_000_000;
+
+/// How ports depend on each other.
+#[derive(Clone, Copy, Debug, PartialEq, Eq)]
+pub enum Shape {
+    /// Each on the next.
+    Chain,
+    /// None on another.
+    Side,
+}
 
 /// A catalogue, and what a plan is made under.
 #[derive(Drop)]
@@ -44,13 +55,32 @@ fn setting_of(alloc: Global, root: Manifest, target: Triplet, host: Triplet) -> 
     }
 }
 
-/// The load of so many ports.
-pub fn load_of(alloc: Global, size: u32) -> Result<Load, Unmade> {
+fn root_of(alloc: Global, shape: Shape, size: u32) -> Result<Manifest, Unmade> {
+    match shape {
+        Shape::Chain => chain_root(alloc),
+        Shape::Side => side_root(alloc, size),
+    }
+}
+
+fn pages_of(alloc: Global, shape: Shape, size: u32) -> Result<MemCatalogue, Unmade> {
+    match shape {
+        Shape::Chain => chain(alloc, size),
+        Shape::Side => side_by_side(alloc, size),
+    }
+}
+
+fn load_with(alloc: Global, root: Manifest, pages: MemCatalogue) -> Result<Load, Unmade> {
     let target = triplet(alloc)?;
     let host = target.clone()?;
-    let setting = setting_of(alloc, root_of(alloc)?, target, host);
-    let pages = chain(alloc, size)?;
+    let setting = setting_of(alloc, root, target, host);
     Ok(Load { pages, setting })
+}
+
+/// The load of so many ports.
+pub fn load_of(alloc: Global, shape: Shape, size: u32) -> Result<Load, Unmade> {
+    let root = root_of(alloc, shape, size)?;
+    let pages = pages_of(alloc, shape, size)?;
+    load_with(alloc, root, pages)
 }
 
 fn closed_by<L: Ledger>(
@@ -69,4 +99,22 @@ fn closed_by<L: Ledger>(
 /// The closure of a load, or nothing where the closing stops.
 pub fn closed(alloc: Global, load: &mut Load) -> Option<Closure> {
     closed_by::<Brand>(alloc, load, Blank::new(1)).ok()
+}
+
+fn planned_by<L: Ledger>(
+    alloc: Global,
+    load: &mut Load,
+    blank: Blank,
+) -> Result<Outcome, Stop<CloseFault>>
+    requires name { blank.name ≡ L.name }
+    requires parts { blank.parts ≡ L.parts }
+    requires some { 0 < blank.parts }
+{
+    let mut steps = Steps::<L>::new(blank);
+    resolve(alloc, &mut load.pages, &load.setting, &mut steps)
+}
+
+/// The outcome of a load, or nothing where the planning stops.
+pub fn planned(alloc: Global, load: &mut Load) -> Option<Outcome> {
+    planned_by::<Brand>(alloc, load, Blank::new(1)).ok()
 }

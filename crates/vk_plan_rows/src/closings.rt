@@ -35,7 +35,8 @@ fn closed(
     closed_by::<Brand>(alloc, pages, setting, Blank::new(1))
 }
 
-fn tell_faults(faults: &List<Fault>, reply: &mut Reply) {
+/// How many fault lines there are, and each on a line.
+pub fn tell_faults(faults: &List<Fault>, reply: &mut Reply) {
     reply.push("faults ");
     reply.push_number(faults.len() as u64);
     for fault in faults.iter() {

@@ -1,8 +1,10 @@
-//! Answers rows about projects over catalogues in memory: which instances are off by default, and
-//! what a project requires, with its reasons, or what is wrong with the files that it needs.
+//! Answers rows about projects over catalogues in memory: which instances are off by default, what
+//! a project requires, with its reasons, or what is wrong with the files that it needs, and what it
+//! comes to: its plan, or the faults that stand.
 #![tactic(auto)]
 
 mod closings;
+mod outcomes;
 mod pages;
 mod sessions;
 mod settings;

@@ -4,9 +4,10 @@
 //!   what a plan is made under; the triplets are the stock ones where no row says;
 //! - `port NAME GIVEN`: a page; `at FILE`, `bad VERSION WRONG`: a version more of that page;
 //! - `fails N ..`: the catalogue fails at these calls, counted from 1;
-//! - `off`, `close`: what is off, and what is required.
+//! - `off`, `close`, `plan`: what is off, what is required, and what that comes to.
 
 use crate::closings::{off_of, tell_closure, tell_off};
+use crate::outcomes::tell_plan;
 use crate::pages::{page_of, push_row, put_page};
 use crate::settings::{set, stock_setting};
 use std::alloc::Global;
@@ -94,6 +95,7 @@ impl Session {
         }
         match question {
             "off" => tell_off(&self.setting.off, reply),
+            "plan" => tell_plan(&mut self.pages, &self.setting, reply),
             _ => tell_closure(&mut self.pages, &self.setting, reply),
         }
     }
@@ -107,7 +109,7 @@ impl Answering for Session {
             "fails" => done(reply, fail_at(reply.alloc(), &mut self.pages, rest)),
             "port" => self.begin(rest, reply),
             "at" | "bad" => self.add(question, rest, reply),
-            "off" | "close" => self.ask(question, reply),
+            "off" | "close" | "plan" => self.ask(question, reply),
             _ => set(&mut self.setting, question, rest, reply),
         }
     }
