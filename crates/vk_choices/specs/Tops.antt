@@ -1,5 +1,5 @@
 -- Which floors of a port are above others, and which comes first.
-use Rattle.std.specs.Prelude.{◌≡◌, ◌&&◌, ℕ, Bool, true, false, not, List, [], ◌∷◌, Option, Some, None, option_map, slice_get}
+use Rattle.std.specs.Prelude.{◌≡◌, ◌<◌, ◌&&◌, ℕ, Bool, true, false, not, List, [], ◌∷◌, Option, Some, None, option_map, slice_get, length}
 use Rattle.std.specs.List.{Contains, list_any}
 use Rattle.std.specs.Ordering.{is_lt}
 use Rattle.vk_spec.specs.Versions.{Version, Ask, ask_of, same_version}
@@ -25,6 +25,11 @@ pub record IsHighest (floors : List Floor) (n : ℕ) : Type 0 where
   pub floor : Floor
   pub at : slice_get floors n ≡ Some floor
   pub highest : (f : Floor) → Contains floors f → IsAboveAll floors f.version → at_most f.version floor.version ≡ true
+
+-- the place of a floor, where one of all floors is above the version, or none where none of these is
+abbrev pub LeadsUp : List Floor → List Floor → Version → Option ℕ → Type 0
+LeadsUp floors these v None = list_any (λ f. is_below v f.version) these ≡ false
+LeadsUp floors these v (Some n) = (n < length floors) × (list_any (λ f. is_below v f.version) floors ≡ true)
 
 -- no floor is above it
 abbrev pub is_top : List Floor → Version → Bool

@@ -43,8 +43,7 @@ fn unless_conflicts(alloc: Global, settled: Settled) -> Result<Choices, Stop<Cho
 /// A version for each port that has a floor: of a port with an overlay or an override the one that
 /// is given, of any other the floor at or above all its floors. `Conflicts` comes exactly where a
 /// port has no such floor, with the first two of those that no other is above. The reasons are
-/// those of a closure without faults. The catalogue is only asked, for the version of each floor
-/// once.
+/// those of a closure without faults. The catalogue is only asked.
 pub fn choose<C: Catalogue>(
     alloc: Global,
     cat: &mut C,

@@ -1,8 +1,9 @@
 //! Which floors of a port are above others.
-ghost use Rattle.std.specs.Prelude.{◌≡◌, ◌<◌, ◌&&◌, length, option_map};
+ghost use Rattle.std.specs.Prelude.{◌≡◌, ◌<◌, ◌+◌, ◌&&◌, length, option_map, take};
 ghost use Rattle.std.specs.List.{list_all, list_any};
 ghost use Rattle.vk_version.specs.Orders.{at_most};
-ghost use Rattle.vk_choices.specs.Tops.{AreFirstTwo, IsFirst, IsGreatest, IsHighest, is_after};
+ghost use Rattle.vk_choices.specs.Tops.{AreFirstTwo, IsFirst, IsGreatest, IsHighest, LeadsUp};
+ghost use Rattle.vk_choices.specs.Tops.{is_after};
 ghost use Rattle.vk_choices.specs.Tops.{is_ahead, is_below, is_later_top, is_sooner};
 
 use crate::floors::Floor;
@@ -61,11 +62,50 @@ pub(crate) fn greatest(floors: &[Floor]) -> Option<usize>
     }
 }
 
-// Whether a floor is above a version.
-fn has_above(floors: &[Floor], version: &Version) -> bool
-    ensures { result ≡ list_any (λ f. is_below version.now f.version) floors.now }
+// The same with the floor at one place more.
+fn climb_on(floors: &[Floor], version: &Version, top: Option<usize>, place: usize) -> Option<usize>
+    requires within { place < length floors.now }
+    requires so_far { LeadsUp floors.now (take place floors.now) version.now top }
+    ensures { LeadsUp floors.now (take (place + 1) floors.now) version.now result }
 {
-    floors.iter().any(|floor| is_below(version, &floor.version))
+    let lower = match top {
+        Some(top) => &floors[top].version,
+        None => version,
+    };
+    if is_below(lower, &floors[place].version) {
+        Some(place)
+    } else {
+        top
+    }
+}
+
+// The place of a floor to which a climb from a version leads, from each floor to one above it, if
+// any floor is above the version.
+fn climbed(floors: &[Floor], version: &Version) -> Option<usize>
+    ensures { LeadsUp floors.now floors.now version.now result }
+{
+    let mut top = None;
+    for place in 0..floors.len() {
+        top = climb_on(floors, version, top, place);
+    }
+    top
+}
+
+// Whether a floor is above a version. The floor at a known place is looked at first: it is the one
+// to which the last climb led, so most versions that are no tops are below it.
+fn has_above(floors: &[Floor], known: &mut usize, version: &Version) -> bool
+    requires { known.old < length floors.now }
+    ensures known { known.new < length floors.now }
+    ensures above { result ≡ list_any (λ f. is_below version.now f.version) floors.now }
+{
+    if is_below(version, &floors[*known].version) {
+        return true;
+    }
+    let Some(top) = climbed(floors, version) else {
+        return false;
+    };
+    *known = top;
+    true
 }
 
 // Whether a version is told before another.
@@ -95,11 +135,21 @@ fn is_ahead(first: Option<&Floor>, floor: &Floor) -> bool
 }
 
 // Whether a floor is a top behind a version, and comes before the first such so far.
-fn is_next(floors: &[Floor], after: Option<&Version>, first: Option<&Floor>, floor: &Floor) -> bool
-    ensures { result ≡ (is_ahead (option_map (λ f. f.now) first.entry) floor.now
+fn is_next(
+    floors: &[Floor],
+    known: &mut usize,
+    after: Option<&Version>,
+    first: Option<&Floor>,
+    floor: &Floor,
+) -> bool
+    requires { known.old < length floors.now }
+    ensures known { known.new < length floors.now }
+    ensures next { result ≡ (is_ahead (option_map (λ f. f.now) first.entry) floor.now
         && is_later_top floors.now (option_map (λ v. v.now) after.entry) floor.now) }
 {
-    is_ahead(first, floor) && is_after(after, &floor.version) && !has_above(floors, &floor.version)
+    is_ahead(first, floor)
+        && is_after(after, &floor.version)
+        && !has_above(floors, known, &floor.version)
 }
 
 // The first top behind a version, if there is one.
@@ -108,8 +158,9 @@ fn first_top<'a>(floors: &'a [Floor], after: Option<&Version>) -> Option<&'a Flo
         (option_map (λ f. f.now) result) }
 {
     let mut first = None;
+    let mut known = 0;
     for floor in floors {
-        if is_next(floors, after, first, floor) {
+        if is_next(floors, &mut known, after, first, floor) {
             first = Some(floor);
         }
     }
