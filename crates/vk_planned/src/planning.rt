@@ -37,7 +37,7 @@ pub struct Planned {
     pub needs: IndexSet<Fact>,
     /// Which need asks for which, by their places among the needs, counted from 0.
     pub edges: Vec<(usize, usize)>,
-    /// Whether each feature that is needed is there, and supported.
+    /// If so, each feature that is needed is there, and supported; if not, one may not be.
     pub clean: bool,
 }
 
@@ -125,9 +125,8 @@ fn plan_from<C: Catalogue, L: Ledger>(
 }
 
 /// The needs of the root, and all that the manifests of the chosen versions need in turn. It takes
-/// a step for each manifest's feature that is looked at, and asks for the version and the manifest
-/// of each once. The reasons are those of a closure without faults, and the choices are made of
-/// them.
+/// at most a step for each manifest's feature that is looked at. The reasons are those of a closure
+/// without faults, and the choices are made of them. The catalogue is only asked.
 pub fn plan_needs<C: Catalogue, L: Ledger>(
     alloc: Global,
     cat: &mut C,

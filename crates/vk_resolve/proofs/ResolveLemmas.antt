@@ -1,6 +1,6 @@
 -- From the parts of a resolution to its outcome.
 use Rattle.std.proofs.Common.{◌≡◌, ◌≤◌, List, [], ◌∷◌, map, length, refl, ap, sym, ◌∙◌, subst}
-use Rattle.std.specs.Prelude.{Option, Some, None, IfSome, Result, Ok, Err, IfOk}
+use Rattle.std.specs.Prelude.{Option, Some, None, IfSome, Result, Ok, IfOk}
 use Rattle.vk_base.specs.Stops.{stop_fault_in, is_failure, was_out}
 use Rattle.vk_base.specs.declared.stops.Stop.{Stop}
 use Rattle.vk_base.specs.declared.stops.Stop.TheVariants as stop
@@ -11,11 +11,9 @@ use Rattle.std.proofs.lemmas.List.{length-map}
 use Rattle.vk_spec.specs.Settings.{Setting}
 use Rattle.vk_resolution.specs.Keys.{Key, key_cmp, put_by, put_in, in_order}
 use Rattle.vk_resolution.specs.Givens.{Pages}
-use Rattle.vk_resolution.specs.Consequences.{Inputs}
 use Rattle.vk_resolution.specs.Reasons as plain_reason
 use Rattle.vk_resolution.specs.Reasons.{facts_of}
 use Rattle.vk_resolution.specs.Planning.{Item}
-use Rattle.vk_resolution.specs.Faults as plain_fault
 use Rattle.vk_resolution.specs.Faults.{first_faults_of}
 use Rattle.vk_resolution.specs.Lines.{fault_line}
 use Rattle.vk_resolution.specs.Outcomes as plain

@@ -91,7 +91,7 @@ pub record CatalogueState (C : Type 0) : Type 0 where
 abbrev pub OnPage : {C : Type 0} → List ℕ → (Page C → Type 0) → CatalogueState C → Type 0
 OnPage port P s = IfSome s.pages (λ pages. P (pages port))
 
--- the pages and the origin are as they were; nothing failed, or one call did, the last; a catalogue that is sure has none that fails
+-- the pages and the origin are as they were; nothing failed, or at least one call did; a catalogue that is sure has none that fails
 pub record OnlyAsked {C : Type 0} (failed : Bool) (before after : CatalogueState C) : Type 0 where
   pub pages : after.pages ≡ before.pages
   pub origin : after.origin ≡ before.origin

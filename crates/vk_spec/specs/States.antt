@@ -26,7 +26,7 @@ abbrev pub with_asked : List Path → Option Told → Option Told
 with_asked asked None = None
 with_asked asked (Some t) = Some (record { files = t.files; log = t.log ++ asked })
 
--- nothing failed, or one call did, the last; a tree that is sure has none that fails
+-- nothing failed, or at least one call did; a tree that is sure has none that fails
 pub record Ends (failed : Bool) (before after : State) : Type 0 where
   pub faults : Counted failed before.faults after.faults
   pub sure : after.sure ≡ before.sure
