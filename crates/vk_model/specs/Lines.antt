@@ -1,5 +1,6 @@
 -- The lines that are printed of early files and of ports. What is wrong with a port is printed as a fault is, without the reason that it cites.
-use Rattle.std.specs.Prelude.{◌++◌, ℕ, List, codes}
+use Rattle.std.specs.Prelude.{◌++◌, ◌∷◌, ℕ, List, map, flat_map, codes}
+use Rattle.std.specs.List.{join_with_byte}
 use Rattle.vk_spec.specs.Paths.{Path}
 use Rattle.vk_spec.specs.Versions.{Ask}
 use Rattle.vk_spec.specs.Earlies as the_early
@@ -23,3 +24,11 @@ no_version_line p ask = trouble_text (lacks_version p ask)
 
 abbrev pub disagrees_line : Path → Field → List ℕ → List ℕ → List ℕ
 disagrees_line path field table manifest = trouble_text (differs path field table manifest)
+
+-- features with commas between
+abbrev pub features_text : List (List ℕ) → List ℕ
+features_text features = join_with_byte 44 (map token_of features)
+
+-- features, each behind a comma
+abbrev pub more_features_text : List (List ℕ) → List ℕ
+more_features_text features = flat_map (λ f. 44 ∷ token_of f) features

@@ -1,5 +1,5 @@
 //! The lines that are printed of early files, of ports and of faults.
-ghost use Rattle.std.specs.Prelude.{◌≡◌, ◌++◌, codes, map, flat_map, IfOk};
+ghost use Rattle.std.specs.Prelude.{◌≡◌, ◌++◌, codes, map, flat_map, IfOk, Some};
 ghost use Rattle.vk_base.specs.Tokens.{token_of};
 ghost use Rattle.vk_base.specs.Printed.{path_text, field_word};
 ghost use Rattle.vk_json.specs.Places.{file_line};
@@ -24,6 +24,7 @@ use crate::facts::Who;
 use crate::faults::Fault;
 use crate::wrongs::{Field, Wrong};
 use std::alloc::Global;
+use std::fmt;
 use vk_base::{FeatureName, Instance, Memory, PortName, Text, TokenOf, TreePath, token};
 use vk_json::{Why, place_text};
 use vk_version::{Ask, Version};
@@ -131,22 +132,28 @@ pub fn no_version_line(alloc: Global, port: &PortName, ask: &Ask) -> Result<Text
     Ok(Text::from_string(format!(in alloc; "no-version {port} {version}")?))
 }
 
-/// An instance as it is printed: its port and its triplet.
-pub fn instance_text(alloc: Global, instance: &Instance) -> Result<Text, Memory>
-    ensures { IfOk result (λ t. t ≡ who_text (inst (instance_view instance.now))) }
-{
-    let port = TokenOf(instance.port.as_str().as_bytes());
-    let triplet = TokenOf(instance.triplet.as_str().as_bytes());
-    Ok(Text::from_string(format!(in alloc; "{port} {triplet}")?))
+/// An instance that is printed as the tokens of its port and its triplet.
+#[derive(Clone, Copy)]
+pub struct InstanceTokens<'a>(pub &'a Instance);
+
+impl fmt::Display for InstanceTokens<'_> {
+    ghost output = { λ i. Some (who_text (inst (instance_view i.0.now))) };
+
+    fn fmt<W: fmt::Write>(&self, f: &mut fmt::Formatter<W>) -> fmt::Result {
+        let port = TokenOf(self.0.port.as_str().as_bytes());
+        let triplet = TokenOf(self.0.triplet.as_str().as_bytes());
+        write!(f, "{port} {triplet}")
+    }
 }
 
-/// Who has a requirement, as it is printed: an instance, or `.` and a triplet for the root.
-pub fn who_text(alloc: Global, who: &Who) -> Result<Text, Memory>
-    ensures { IfOk result (λ t. t ≡ who_text (who_view who.now)) }
-{
-    match who {
-        Who::Root(triplet) => word_and(alloc, ". ", triplet.as_str().as_bytes()),
-        Who::Inst(instance) => instance_text(alloc, instance),
+impl fmt::Display for Who {
+    ghost output = { λ who. Some (who_text (who_view who)) };
+
+    fn fmt<W: fmt::Write>(&self, f: &mut fmt::Formatter<W>) -> fmt::Result {
+        match self {
+            Who::Root(triplet) => write!(f, ". {}", TokenOf(triplet.as_str().as_bytes())),
+            Who::Inst(instance) => InstanceTokens(instance).fmt(f),
+        }
     }
 }
 
@@ -217,8 +224,8 @@ fn cited_version(alloc: Global, version: &Version, line: u32) -> Result<Text, Me
     ensures { IfOk result
         (λ t. t ≡ version_text (ask_of version.now) ++ citing_line line) }
 {
-    let text = version.ask().printed(alloc)?;
-    cited(alloc, &text, line)
+    let ask = version.ask();
+    Ok(Text::from_string(format!(in alloc; "{ask} {line}")?))
 }
 
 fn conflict_fault(
@@ -251,7 +258,6 @@ fn judged_fault(
         ++ judged_text (who_view who.now) (feature_view feature.now) version.now
         ++ citing_line line) }
 {
-    let who = who_text(alloc, who)?;
     let feature = TokenOf(feature.as_str().as_bytes());
     let version = version_or_none(alloc, version)?;
     Ok(Text::from_string(format!(in alloc; "{word}{who} {feature} {version} {line}")?))
@@ -262,8 +268,8 @@ fn cycle_fault(alloc: Global, walk: &[Instance]) -> Result<Text, Memory>
 {
     let mut line = Text::from_str(alloc, "cycle")?;
     for instance in walk {
-        line.push_str(" ")?;
-        line.push_str(instance_text(alloc, instance)?.as_str())?;
+        let instance = InstanceTokens(instance);
+        line.push_str(format!(in alloc; " {instance}")?.as_str())?;
     }
     Ok(line)
 }

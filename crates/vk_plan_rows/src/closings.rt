@@ -7,8 +7,7 @@ use std::sync::ledger::{Blank, Ledger};
 use vk_base::{Instance, List, Memory, Steps, Stop};
 use vk_catalogue::MemCatalogue;
 use vk_close::{CloseFault, close};
-use vk_model::lines::{fault_line, instance_text};
-use vk_model::reason_lines::reason_text;
+use vk_model::lines::{InstanceTokens, fault_line};
 use vk_model::{Closure, Fault, Reason, Setting};
 use vk_row_text::Reply;
 use vk_rules::off_list;
@@ -53,8 +52,7 @@ fn tell_reasons(reasons: &List<Reason>, reply: &mut Reply) {
         reply.push("\n");
         reply.push_number(n as u64 + 1);
         reply.push(" ");
-        let text = reason_text(reply.alloc(), reason);
-        reply.push_made(text);
+        reply.push_printed(reason);
     }
 }
 
@@ -93,8 +91,7 @@ pub fn tell_off(off: &List<Instance>, reply: &mut Reply) {
         if !reply.is_empty() {
             reply.push("\n");
         }
-        let text = instance_text(reply.alloc(), instance);
-        reply.push_made(text);
+        reply.push_printed(&InstanceTokens(instance));
     }
     if reply.is_empty() {
         reply.push("none");

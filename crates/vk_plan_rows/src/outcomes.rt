@@ -5,10 +5,9 @@ use crate::closings::tell_faults;
 use std::alloc::Global;
 use std::marker::Brand;
 use std::sync::ledger::{Blank, Ledger};
-use vk_base::{FeatureName, List, Steps, Stop};
+use vk_base::{List, Steps, Stop};
 use vk_catalogue::MemCatalogue;
 use vk_close::CloseFault;
-use vk_model::lines::instance_text;
 use vk_model::{Item, Outcome, Plan, Setting};
 use vk_resolve::resolve;
 use vk_row_text::Reply;
@@ -35,13 +34,6 @@ fn resolved(
     resolved_by::<Brand>(alloc, pages, setting, Blank::new(1))
 }
 
-fn tell_features(features: &List<FeatureName>, reply: &mut Reply) {
-    for (n, feature) in features.iter().enumerate() {
-        reply.push(if n == 0 { " " } else { "," });
-        reply.push(feature.as_str());
-    }
-}
-
 fn tell_needs(needs: &List<u32>, reply: &mut Reply) {
     if needs.is_empty() {
         return;
@@ -54,14 +46,7 @@ fn tell_needs(needs: &List<u32>, reply: &mut Reply) {
 }
 
 fn tell_item(item: &Item, reply: &mut Reply) {
-    let text = instance_text(reply.alloc(), &item.inst);
-    reply.push_made(text);
-    reply.push(" ");
-    let version = item.version.ask().printed(reply.alloc());
-    reply.push_made(version);
-    reply.push(" ");
-    reply.push_number(u64::from(item.line));
-    tell_features(&item.features, reply);
+    reply.push_printed(item);
     tell_needs(&item.needs, reply);
 }
 

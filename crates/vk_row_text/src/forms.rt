@@ -16,8 +16,7 @@ impl Reply {
 
     /// Puts an ask at the end: the token of its text, and the port-version behind `#`.
     pub fn push_ask(&mut self, ask: &Ask) {
-        let printed = ask.printed(self.alloc());
-        self.push_made(printed);
+        self.push_printed(ask);
     }
 
     /// Puts a version at the end: its class, and the ask that means it.

@@ -3,6 +3,7 @@
 
 use crate::wording::{bytes_of, number_of, path_of, text_of, texts_of};
 use std::alloc::{AllocError, Global};
+use std::fmt;
 use std::str::FromStr;
 use vk_base::{List, Memory, Text, TreePath, Unread, token};
 
@@ -71,12 +72,17 @@ impl Reply {
         self.push_made(made);
     }
 
-    /// Puts a number at the end.
-    pub fn push_number(&mut self, number: u64) {
-        match format!(in self.alloc; "{number}") {
-            Ok(digits) => self.push(digits.as_str()),
+    /// Puts a value at the end as it is printed.
+    pub fn push_printed<D: fmt::Display>(&mut self, value: &D) {
+        match format!(in self.alloc; "{value}") {
+            Ok(text) => self.push(text.as_str()),
             Err(lack) => self.stop = Some(Unread::from(lack)),
         }
+    }
+
+    /// Puts a number at the end.
+    pub fn push_number(&mut self, number: u64) {
+        self.push_printed(&number);
     }
 
     /// Puts `yes` or `no` at the end.

@@ -13,10 +13,12 @@ use crate::faults::VersionFault;
 use crate::numbers::is_number;
 use crate::plains::is_plain;
 use std::alloc::{AllocError, Global};
-use vk_base::{Memory, Text, Unread, read_u32, token};
+use std::fmt;
+use vk_base::{Memory, Text, TokenOf, Unread, read_u32};
 
 /// What a minimum, a baseline entry or an override asks for: a version's text without a scheme, and
-/// a port-version. A port's versions table says which version it means.
+/// a port-version. A port's versions table says which version it means. It is printed as its text's
+/// token, `#` and the port-version.
 #[derive(PartialEq, Eq, PartialOrd, Ord, Hash, Drop)]
 pub struct Ask {
     /// The version's text.
@@ -26,14 +28,21 @@ pub struct Ask {
 }
 
 impl Ask {
-    /// The ask as it is printed, and so a version that has its text and port-version: its text's
-    /// token, `#` and the port-version.
+    /// The ask as it is printed, and so a version that has its text and port-version.
     pub fn printed(&self, alloc: Global) -> Result<Text, Memory>
         ensures { IfOk result (λ t. t ≡ version_text (ask_view self.now)) }
     {
-        let text = token(alloc, self.text.as_bytes())?;
-        let port = self.port;
-        Ok(Text::from_string(format!(in alloc; "{text}#{port}")?))
+        Ok(Text::from_string(format!(in alloc; "{self}")?))
+    }
+}
+
+impl fmt::Display for Ask {
+    ghost use Rattle.std.specs.Prelude.{Some};
+
+    ghost output = { λ a. Some (version_text (ask_view a)) };
+
+    fn fmt<W: fmt::Write>(&self, f: &mut fmt::Formatter<W>) -> fmt::Result {
+        write!(f, "{}#{}", TokenOf(self.text.as_bytes()), self.port)
     }
 }
 
