@@ -4,6 +4,8 @@
 //! They promise upwards what their views say: plain data, nothing hidden.
 #![tactic(auto)]
 
+mod builders;
+mod cuts;
 mod earlies;
 mod fact_orders;
 mod facts;
@@ -14,9 +16,12 @@ mod plans;
 mod projects;
 pub mod reason_lines;
 mod reasons;
+mod retold;
 mod settings;
 mod wrongs;
 
+pub use builders::{Builder, BuilderFault, BuilderText};
+pub use cuts::cut;
 pub use earlies::Early;
 pub use facts::{Fact, Who};
 pub use faults::Fault;
@@ -24,5 +29,6 @@ pub use manifests::{Dependency, Feature, FeatureUse, Manifest, Override};
 pub use plans::{Item, Outcome, Plan, PlanSet};
 pub use projects::{Project, Store};
 pub use reasons::{Cause, Closure, Reason};
+pub use retold::told_as;
 pub use settings::Setting;
 pub use wrongs::{Field, Given, Wrong};
