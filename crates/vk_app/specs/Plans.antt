@@ -8,6 +8,7 @@ use Rattle.vk_spec.specs.Manifests.{Manifest}
 use Rattle.vk_spec.specs.Catalogues.{Pages, Places}
 use Rattle.vk_spec.specs.Earlies.{Early}
 use Rattle.vk_spec.specs.Conditions.{Condition}
+use Rattle.vk_model.specs.Builders.{recorded}
 use Rattle.vk_model.specs.declared.projects.Project.{Project}
 use Rattle.vk_opening.specs.Projects.{manifest_path}
 use Rattle.vk_opening.specs.Openings.{opened_of}
@@ -33,6 +34,7 @@ project_of request = record {
   overlay_triplets = request.overlay ∷ [];
   max_facts = 1000000;
   max_bytes = 536870912;
+  builder = recorded;
 }
 
 abbrev pub or_early : {A : Type 0} → Result A Early → Result A Refused

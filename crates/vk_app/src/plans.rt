@@ -32,7 +32,7 @@ use crate::requests::Request;
 use crate::troubles::{PortStop, Trouble};
 use std::alloc::{AllocError, Global};
 use vk_base::{List, Memory, Outage, PortName, Text, TreePath, TripletName};
-use vk_model::{Manifest, Project};
+use vk_model::{Builder, Manifest, Project};
 use vk_opening::{Opened, Start, manifest_path};
 use vk_tree::Tree;
 use vk_world::World;
@@ -60,6 +60,7 @@ fn project_of(alloc: Global, request: &Request) -> Result<Project, Memory>
         overlay_triplets,
         max_facts: 1_000_000,
         max_bytes: 536_870_912,
+        builder: Builder::recorded(alloc)?,
     })
 }
 

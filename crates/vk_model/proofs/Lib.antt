@@ -1,1 +1,2 @@
+mod BuilderLemmas
 pub mod FeatureLines

@@ -4,6 +4,8 @@
 //! They promise upwards what their views say: plain data, nothing hidden.
 #![tactic(auto)]
 
+mod builders;
+mod cuts;
 mod earlies;
 mod fact_orders;
 mod facts;
@@ -15,9 +17,12 @@ mod plans;
 mod projects;
 mod reason_lines;
 mod reasons;
+mod retold;
 mod settings;
 mod wrongs;
 
+pub use builders::{Builder, BuilderFault, BuilderText};
+pub use cuts::cut;
 pub use earlies::Early;
 pub use facts::{Fact, Who};
 pub use faults::Fault;
@@ -25,5 +30,6 @@ pub use manifests::{Dependency, Feature, FeatureUse, Manifest, Override};
 pub use plans::{Item, Outcome, Plan, PlanSet};
 pub use projects::{Project, Store};
 pub use reasons::{Cause, Closure, Reason};
+pub use retold::told_as;
 pub use settings::Setting;
 pub use wrongs::{Field, Given, Wrong};

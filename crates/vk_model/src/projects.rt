@@ -1,3 +1,4 @@
+use crate::builders::Builder;
 use vk_base::{FeatureName, List, Text, TreePath, TripletName};
 
 /// What the words say of a project.
@@ -17,10 +18,12 @@ pub struct Project {
     pub overlay_ports: List<TreePath>,
     /// Folders of triplet files.
     pub overlay_triplets: List<TreePath>,
-    /// How many requirements may be made, 1 to 1,000,000.
+    /// How many requirements may be made, 1 to 2,000,000.
     pub max_facts: u32,
     /// How many bytes a port's folder, and all packages together, may have, 1 to 536,870,912.
     pub max_bytes: u64,
+    /// Who builds.
+    pub builder: Builder,
 }
 
 /// Where packages are installed and kept.

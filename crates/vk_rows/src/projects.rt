@@ -2,7 +2,7 @@
 
 use std::alloc::Global;
 use vk_base::{List, PortName, TreePath, TripletName, Unread};
-use vk_model::Project;
+use vk_model::{Builder, Project};
 use vk_row_text::{NoRow, Reply, cut, path_of};
 use vk_version::{Ask, Class, Scheme, Version, read, read_ask};
 
@@ -76,7 +76,13 @@ fn push_paths(alloc: Global, paths: &mut List<TreePath>, word: &str) -> Result<(
 }
 
 // A project without folders of ports and of triplets.
-fn project_in(alloc: Global, folder: TreePath, target: TripletName, host: TripletName) -> Project {
+fn project_in(
+    alloc: Global,
+    folder: TreePath,
+    target: TripletName,
+    host: TripletName,
+    builder: Builder,
+) -> Project {
     Project {
         folder,
         target,
@@ -87,14 +93,26 @@ fn project_in(alloc: Global, folder: TreePath, target: TripletName, host: Triple
         overlay_triplets: List::new(alloc),
         max_facts: MOST,
         max_bytes: u64::from(MOST),
+        builder,
+    }
+}
+
+fn recorded(reply: &mut Reply) -> Option<Builder> {
+    match Builder::recorded(reply.alloc()) {
+        Ok(builder) => Some(builder),
+        Err(memory) => {
+            reply.lack(memory);
+            None
+        }
     }
 }
 
 fn plain_project(folder: &str, target: &str, host: &str, reply: &mut Reply) -> Option<Project> {
     let target = triplet_of(target, reply)?;
     let host = triplet_of(host, reply)?;
+    let builder = recorded(reply)?;
     let folder = reply.path(folder);
-    Some(project_in(reply.alloc(), folder, target, host))
+    Some(project_in(reply.alloc(), folder, target, host, builder))
 }
 
 fn push_folders(
