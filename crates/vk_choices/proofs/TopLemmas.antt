@@ -1,10 +1,12 @@
 -- The greatest floor and the first tops, as floors come.
-use Rattle.std.proofs.Common.{◌≡◌, ◌<◌, ◌≤◌, ◌+◌, take, get_or, arith, ℕ, zero, suc, Bool, true, false, List, [], ◌∷◌, ◌++◌, length, inl, inr, refl, ap, sym, ◌∙◌, subst}
+use Rattle.std.proofs.Common.{◌≡◌, ◌<◌, ◌≤◌, ◌+◌, take, get_or, arith, ℕ, zero, suc, Bool, true, false, not, List, [], ◌∷◌, ◌++◌, length, inl, inr, refl, ap, sym, ◌∙◌, subst}
 use Rattle.std.specs.Prelude.{Option, Some, None, slice_get, ◌&&◌}
 use Rattle.std.specs.declared.cmp.Ordering.{Ordering}
 use Rattle.std.specs.declared.cmp.Ordering.TheVariants.{Less, Equal, Greater}
 use Rattle.std.specs.Ordering.{is_lt}
-use Rattle.std.specs.List.{Contains, list_all}
+use Rattle.std.specs.List.{Contains, list_all, list_any}
+use Rattle.std.specs.List.Sorted.{IsPermutation}
+use Rattle.std.proofs.lemmas.List.Sorted.{Contains-permutation, IsPermutation-sym}
 use Rattle.std.proofs.lemmas.List.{take_more}
 use Rattle.std.proofs.lemmas.List.Elements.{Contains-push, Contains-push_cases, Contains-append_left}
 use Rattle.vk_spec.specs.Versions.{Version, ask_of}
@@ -14,9 +16,11 @@ use Rattle.vk_version.proofs.TestLemmas.{at_most-IsOrder}
 use Rattle.vk_spec.proofs.FileLemmas.{path_total}
 use Rattle.vk_resolution.specs.Keys.{Key, key_cmp}
 use Rattle.vk_resolution.proofs.Orders.{before_itself}
-use Rattle.vk_resolution.proofs.Members.{true_false, both_true, and_true, no_is_false, contains_single, all_contains, not_all}
+use Rattle.vk_resolution.proofs.Members.{true_false, both_true, and_true, no_is_false, contains_single, all_contains, not_all, true_or_false, any_contains, contains_any}
 use Rattle.vk_choices.specs.declared.floors.Floor.{Floor}
-use Rattle.vk_choices.specs.Tops.{IsAboveAll, IsGreatest, IsHighest, is_sooner, is_ahead, IsFirst, ask_key}
+use Rattle.vk_resolution.specs.Faults as plain
+use Rattle.vk_choices.specs.Settling.{TellsTwo}
+use Rattle.vk_choices.specs.Tops.{IsAboveAll, IsGreatest, IsHighest, is_below, is_sooner, is_after, is_ahead, is_later_top, IsFirst, AreFirstTwo, floor_version, ask_key}
 use Rattle.vk_choices.proofs.FloorLemmas.{length_take}
 
 -- ---- places
@@ -176,3 +180,40 @@ module _ (test : Floor → Bool) (floors : List Floor) (i : ℕ) (x : Floor) (be
 
   pub same_first : (is_ahead best x && test x) ≡ false → IsFirst test (take (i + 1) floors) best
   same_first other = subst (λ (l : List Floor). IsFirst test l best) (sym one_longer) (same_by test (take i floors) x best other is)
+
+-- ---- the first two, in another order
+
+any_moved : (p : Floor → Bool) (xs ys : List Floor) → ((f : Floor) → Contains xs f → Contains ys f) → list_any p xs ≡ true → list_any p ys ≡ true
+any_moved p xs ys to e = let r = any_contains p xs e in contains_any p ys r.0 (to r.0 r.1) r.2
+
+any_same : (p : Floor → Bool) (xs ys : List Floor) → ((f : Floor) → Contains xs f → Contains ys f) → ((f : Floor) → Contains ys f → Contains xs f) → list_any p xs ≡ list_any p ys
+any_same p xs ys to from = elim (true_or_false (list_any p xs)) [
+  | inl e ↦ e ∙ sym (any_moved p xs ys to e)
+  | inr e ↦ e ∙ sym (no_is_false (list_any p ys) (λ h. true_false (list_any p xs) (any_moved p ys xs from h) e))
+]
+
+first_moved : (one other : Floor → Bool) (xs ys : List Floor) → ((f : Floor) → one f ≡ other f) → ((f : Floor) → Contains xs f → Contains ys f) → ((f : Floor) → Contains ys f → Contains xs f) → (o : Option Floor) → IsFirst one xs o → IsFirst other ys o
+first_moved one other xs ys same to from None is = λ f h. sym (same f) ∙ is f (from f h)
+first_moved one other xs ys same to from (Some g) is = (to g is.0, sym (same g) ∙ is.1, λ f h ok. is.2 f (from f h) (same f ∙ ok))
+
+module _ (floors sorted : List Floor) (moved : IsPermutation floors sorted) where
+  goes : (f : Floor) → Contains sorted f → Contains floors f
+  goes f h = Contains-permutation sorted floors f (IsPermutation-sym floors sorted moved) h
+
+  comes : (f : Floor) → Contains floors f → Contains sorted f
+  comes f h = Contains-permutation floors sorted f moved h
+
+  tops_same : (after : Option Version) (f : Floor) → is_later_top sorted after f ≡ is_later_top floors after f
+  tops_same after f = ap (λ b. is_after after f.version && not b) (any_same (λ g. is_below f.version g.version) sorted floors goes comes)
+
+  pub two_moved : (two : Option (Floor × Floor)) → AreFirstTwo sorted two → AreFirstTwo floors two
+  two_moved two are = record {
+    first = are.first;
+    is_first = first_moved (is_later_top sorted None) (is_later_top floors None) sorted floors (tops_same None) goes comes are.first are.is_first;
+    second = are.second;
+    is_second = first_moved (is_later_top sorted (floor_version are.first)) (is_later_top floors (floor_version are.first)) sorted floors (tops_same (floor_version are.first)) goes comes are.second are.is_second;
+    told = are.told;
+  }
+
+  pub tells_moved : (p : List ℕ) (old new : List plain.Fault) → TellsTwo p sorted old new → TellsTwo p floors old new
+  tells_moved p old new is = record { two = is.two; are = two_moved is.two is.are; told = is.told }

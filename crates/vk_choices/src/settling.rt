@@ -1,6 +1,7 @@
 //! What the floors of ports come to.
 ghost use Rattle.std.specs.Prelude.{◌≡◌, ◌++◌, ◌∷◌, [], None, IfOk, OnOk, bytes_eq, map};
 ghost use Rattle.std.specs.List.{Contains};
+ghost use Rattle.std.specs.List.Sorted.{IsPermutation};
 ghost use Rattle.std.specs.Map.{lookup};
 ghost use Rattle.vk_resolution.specs.Faults as plain;
 ghost use Rattle.vk_model.specs.FaultViews.{fault_view};
@@ -61,6 +62,16 @@ fn put_conflict(conflicts: &mut Vec<Fault>, port: PortName, floors: &[Floor]) ->
     }
 }
 
+// The floors in the order in which they are told: then few are looked at before the first two that
+// no other is above.
+fn by_ask(floors: List<Floor>) -> Vec<Floor>
+    ensures { IsPermutation floors result.items }
+{
+    let mut floors = floors.into_vec();
+    floors.sort_unstable_by(|a, b| a.version.ask().cmp(b.version.ask()));
+    floors
+}
+
 impl Settled {
     // Settles one port more.
     fn settle_port(&mut self, port: PortName, floors: List<Floor>) -> Result<(), Memory>
@@ -75,7 +86,7 @@ impl Settled {
                     floors.into_vec().swap_remove(place),
                 )
             }
-            None => put_conflict(&mut self.conflicts, port, floors.as_slice()),
+            None => put_conflict(&mut self.conflicts, port, &by_ask(floors)),
         }
     }
 }

@@ -23,8 +23,9 @@ use Rattle.vk_resolution.proofs.HeightLemmas.{height_is_one_more}
 use Rattle.vk_resolution.proofs.WalkLemmas.{heights_have_no_cycle, no_cycle_gives_heights, targets_are_lower}
 use Rattle.vk_order.specs.Sets.{AreItems}
 use Rattle.vk_order.specs.Needs.{listed_at, known_at}
+use Rattle.vk_order.specs.Components.{AreComponents, StandsAbove, component_at}
 use Rattle.vk_order.specs.Peeling.{AreRight, AreHeights}
-use Rattle.vk_order.specs.Ways.{AreLengths, IsNearer, IsClosest, HaveNoWay, GoesOn, IsOnNone, AreOnNone, IsFoundWalk}
+use Rattle.vk_order.specs.Ways.{AreLengths, IsNearer, IsClosest, HaveNoWay, GoesOn, IsOnNone, by_ways, by_components, AreOnNone, IsFoundWalk}
 use Rattle.vk_order.specs.Arranging.{nobody, name_at}
 use Rattle.vk_order.proofs.NumberLemmas.{some_none, some_same, known_within}
 
@@ -256,17 +257,42 @@ module _ (items : List Item) (are : AreItems items) where
         let l = known_by cycle.0 n.0 (need_within first n.0 n.1) (subst (λ i. has_way targets cycle.0 i (name first) ≡ true) (sym n.2) j.2) in
         some_none (known_at lengths n.0) l.0 l.1 (none n.0 n.1)
 
-  pub on_none : (k : ℕ) → IsOnNone (needs_in items) k → IsOnCycle targets (name k) → ⊥
-  on_none k is cycle = no_cycle k is.lengths is.are is.none cycle
+  -- ---- components
+
+  module _ (components : List (Option ℕ)) (rising : AreComponents (needs_in items) components) where
+    -- no way leads to a higher component
+    never_higher : (m k end : ℕ) → k < length items → end < length items → has_way targets m (name k) (name end) ≡ true → component_at components end ≤ component_at components k
+    never_higher zero k end within inside way =
+        let same : k ≡ end = one_place k end within inside ((same_instance-Decides (name k) (name end)).0 way) in
+        let one : component_at components k ≡ component_at components end = ap (component_at components) same in
+        omega arith
+    never_higher (suc m) k end within inside way =
+        let j = any_contains (λ l. has_way targets m l (name end)) (targets (name k)) way in
+        let n = edge_from k j.0 within j.1 in
+        let low : component_at components n.0 ≤ component_at components k = rising.rise k n.0 n.1 in
+        let rest : component_at components end ≤ component_at components n.0 = never_higher m n.0 end (need_within k n.0 n.1) inside (subst (λ i. has_way targets m i (name end) ≡ true) (sym n.2) j.2) in
+        omega arith
+
+    pub above_none : (k : ℕ) → k < length items → StandsAbove (needs_in items) components k → IsOnCycle targets (name k) → ⊥
+    above_none k within higher cycle =
+        let j = any_contains (λ l. has_way targets cycle.0 l (name k)) (targets (name k)) cycle.1 in
+        let n = edge_from k j.0 within j.1 in
+        let back : component_at components k ≤ component_at components n.0 = never_higher cycle.0 n.0 k (need_within k n.0 n.1) within (subst (λ i. has_way targets cycle.0 i (name k) ≡ true) (sym n.2) j.2) in
+        let low : component_at components n.0 < component_at components k = higher n.0 n.1 in
+        omega arith
+
+  pub on_none : (k : ℕ) → k < length items → IsOnNone (needs_in items) k → IsOnCycle targets (name k) → ⊥
+  on_none k within (by_ways is) cycle = no_cycle k is.lengths is.are is.none cycle
+  on_none k within (by_components components rising higher) cycle = above_none components rising k within higher cycle
 
   -- ---- what is answered
 
   module _ (heights : List (Option ℕ)) (all : AreHeights (needs_in items) heights) where
-    off_cycle : (k : ℕ) → (known_at heights k ≡ None → IsOnNone (needs_in items) k) → IsOnCycle targets (name k) → ⊥
-    off_cycle k none cycle = by (known_at heights k) refl
+    off_cycle : (k : ℕ) → k < length items → (known_at heights k ≡ None → IsOnNone (needs_in items) k) → IsOnCycle targets (name k) → ⊥
+    off_cycle k within none cycle = by (known_at heights k) refl
       where
         by : (o : Option ℕ) → known_at heights k ≡ o → ⊥
-        by None e = on_none k (none e) cycle
+        by None e = on_none k within (none e) cycle
         by (Some h) e = heights_have_no_cycle targets h (name k) (height_of heights all.right k h e) cycle
 
     -- where nothing is on a cycle, all heights are known
@@ -274,7 +300,7 @@ module _ (items : List Item) (are : AreItems items) where
     all_known none k within = by (known_at heights k) refl
       where
         no_cycles : (i : Instance) → Contains (order_of items) i → IsOnCycle targets i → ⊥
-        no_cycles i h cycle = let p = place_of i h in off_cycle p.0 (none p.0 (subst (λ n. p.0 < n) (sym needs_long) p.1)) (subst (IsOnCycle targets) (sym p.2) cycle)
+        no_cycles i h cycle = let p = place_of i h in off_cycle p.0 p.1 (none p.0 (subst (λ n. p.0 < n) (sym needs_long) p.1)) (subst (IsOnCycle targets) (sym p.2) cycle)
 
         height_there : (p : ℕ) → p < length items → (n : ℕ) × HasHeight targets n (name p)
         height_there p inside = no_cycle_gives_heights targets (order_of items) stay no_cycles (name p) (listed_name p inside)
@@ -309,7 +335,7 @@ module _ (items : List Item) (are : AreItems items) where
             let p = place_of i h in
             let there : key_cmp (instance_key (name first)) (instance_key (name p.0)) ≡ Greater = subst (λ j. key_cmp (instance_key (name first)) (instance_key j) ≡ Greater) (sym p.2) e in
             elim (cases_lt p.0 first) [
-              | inl before ↦ off_cycle p.0 (found.before p.0 before) (subst (IsOnCycle targets) (sym p.2) cycle)
+              | inl before ↦ off_cycle p.0 p.1 (found.before p.0 before) (subst (IsOnCycle targets) (sym p.2) cycle)
               | inr not_before ↦ elim (cases_lt first p.0) [
                 | inl later ↦ (let clash : Less ≡ Greater = sym (named_less first p.0 later p.1) ∙ there in (cc))
                 | inr not_later ↦ (let same : p.0 ≡ first = omega arith in not_after_itself (instance_key (name first)) (subst (λ n. key_cmp (instance_key (name first)) (instance_key (name n)) ≡ Greater) same there))

@@ -1,5 +1,6 @@
 pub mod NumberLemmas
 pub mod UserLemmas
+pub mod ComponentLemmas
 pub mod PeelingLemmas
 pub mod WayLemmas
 pub mod WalkLemmas

@@ -7,6 +7,7 @@ use Rattle.std.specs.declared.cmp.Ordering.{Ordering}
 use Rattle.std.specs.declared.cmp.Ordering.TheVariants.{Less, Equal, Greater}
 use Rattle.std.specs.List.{Contains}
 use Rattle.std.proofs.lemmas.List.Elements.{Contains-append_left, Contains-push, Contains-push_cases}
+use Rattle.std.proofs.lemmas.Bool.{cases_lt}
 use Rattle.std.proofs.lemmas.List.{take_more}
 use Rattle.vk_order.specs.Needs.{listed_at, known_at}
 use Rattle.vk_order.specs.Ways.{AreLengths, IsNearer, IsClosest, HaveNoWay, IsClosestOf, GoesOn, LeadsTo, IsNextOf, IsWalkTo, IsOnNone, IsWalkBack, IsFoundWalk, nearer_of}
@@ -148,3 +149,10 @@ walk_found needs heights i (k ∷ ks) within before is =
       are = subst (λ n. AreLengths needs n is.lengths) (sym same) is.are;
       walk = subst (λ n. GoesOn needs is.lengths n n ks) (sym same) is.walk_is.1;
     }
+
+-- one place more is on no cycle
+pub none_more : (needs : List (List ℕ)) (heights : List (Option ℕ)) (i : ℕ) → ((k : ℕ) → k < i → known_at heights k ≡ None → IsOnNone needs k) → IsOnNone needs i → (k : ℕ) → k < i + 1 → known_at heights k ≡ None → IsOnNone needs k
+none_more needs heights i before is k below unknown = elim (cases_lt k i) [
+  | inl earlier ↦ before k earlier unknown
+  | inr later ↦ (let same : i ≡ k = omega arith in subst (IsOnNone needs) same is)
+]

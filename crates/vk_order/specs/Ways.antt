@@ -4,6 +4,7 @@ use Rattle.std.specs.Prelude.{if◌then◌else◌}
 use Rattle.std.specs.Ordering.{is_le, ordering_then, nat_cmp}
 use Rattle.std.specs.List.{Contains}
 use Rattle.vk_order.specs.Needs.{listed_at, known_at, known_in}
+use Rattle.vk_order.specs.Components.{AreComponents, StandsAbove}
 
 -- the lengths of the shortest ways to a place
 pub record AreLengths (needs : List (List ℕ)) (first : ℕ) (lengths : List (Option ℕ)) : Type 0 where
@@ -76,10 +77,15 @@ IsWalkTo needs lengths first js None = GoesOn needs lengths first first js
 IsWalkTo needs lengths first js (Some j) = (j ≢ first) × ((m : ℕ) × (known_at lengths j ≡ Some m)) × LeadsTo needs lengths first first js j
 
 -- no way from what a place needs leads back to it
-pub record IsOnNone (needs : List (List ℕ)) (k : ℕ) : Type 0 where
+pub record HasNoWayBack (needs : List (List ℕ)) (k : ℕ) : Type 0 where
   pub lengths : List (Option ℕ)
   pub are : AreLengths needs k lengths
   pub none : HaveNoWay (listed_at needs k) lengths
+
+-- a place is on no cycle: no way leads back to it, or all that it needs is in lower components
+pub data IsOnNone (needs : List (List ℕ)) (k : ℕ) : Type 0 where
+  by_ways : HasNoWayBack needs k → IsOnNone needs k
+  by_components : (components : List (Option ℕ)) → AreComponents needs components → StandsAbove needs components k → IsOnNone needs k
 
 -- the walk from the least place from which a way leads back
 pub record IsFirstWalk (needs : List (List ℕ)) (heights : List (Option ℕ)) (first : ℕ) (rest : List ℕ) : Type 0 where

@@ -1,10 +1,12 @@
 //! The cycle that is told.
-ghost use Rattle.std.specs.Prelude.{◌≡◌, ◌<◌, ◌^◌, IfOk, MatchOption, length};
+ghost use Rattle.std.specs.Prelude.{◌≡◌, ◌<◌, ◌^◌, ℕ, true, None, IfOk, MatchOption, length};
 ghost use Rattle.std.specs.List.{All};
-ghost use Rattle.vk_order.specs.Needs.{ArePlaces, AreUsers, listed_at, needs_of};
+ghost use Rattle.vk_order.specs.Needs.{ArePlaces, AreUsers, known_at, listed_at, needs_of};
+ghost use Rattle.vk_order.specs.Components.{AreComponents};
 ghost use Rattle.vk_order.specs.Ways.{AreLengths, AreOnNone, HaveNoWay, IsClosest, IsFoundWalk};
 ghost use Rattle.vk_order.specs.Ways.{IsNextOf, IsOnNone, IsWalkBack, IsWalkFrom, nearer_of};
 
+use crate::components::{components_of, stands_above};
 use crate::users::needs_at;
 use crate::ways::lengths_to;
 use std::alloc::{AllocError, Global};
@@ -69,20 +71,26 @@ fn walk_from(
     Ok(walk)
 }
 
-// The walk from a place back to it, where there is a way.
+// The walk from a place back to it, where there is a way. There is none to what stands above all
+// that it needs.
 fn walk_at(
     alloc: Global,
     items: &[Item],
     users: &[List<u32>],
+    components: &[Option<u32>],
     first: u32,
 ) -> Result<Option<Vec<u32>>, AllocError>
     requires small { length items.now < 2 ^ 32 }
     requires within { first < length items.now }
     requires places { ArePlaces (needs_of items.now) }
     requires users { AreUsers (needs_of items.now) users.now }
+    requires components { AreComponents (needs_of items.now) components.now }
     ensures { IfOk result (λ found. MatchOption found (IsOnNone (needs_of items.now) first)
         (λ walk. IsWalkBack (needs_of items.now) first walk.items)) }
 {
+    if stands_above(items, components, first) {
+        return Ok(None);
+    }
     let lengths = lengths_to(alloc, items, users, first)?;
     if closest(needs_at(items, first as usize), &lengths).is_none() {
         return Ok(None);
@@ -90,7 +98,20 @@ fn walk_at(
     Ok(Some(walk_from(alloc, items, &lengths, first)?))
 }
 
-/// The walk from the least place on a cycle. What has a height is on none.
+// Whether all heights are known.
+fn are_known(heights: &[Option<u32>]) -> bool
+    ensures { result ≡ true → (k : ℕ) → k < length heights.now → known_at heights.now k ≡ None → ⊥ }
+{
+    for height in heights {
+        if height.is_none() {
+            return false;
+        }
+    }
+    true
+}
+
+/// The walk from the least place on a cycle. What has a height is on none, and neither is what
+/// stands above all that it needs.
 pub(crate) fn first_walk(
     alloc: Global,
     items: &[Item],
@@ -104,11 +125,13 @@ pub(crate) fn first_walk(
     ensures { IfOk result (λ found. MatchOption found (AreOnNone (needs_of items.now) heights.now)
         (λ walk. IsFoundWalk (needs_of items.now) heights.now walk.items)) }
 {
-    for (place, height) in heights.iter().enumerate() {
-        if height.is_none() {
-            if let Some(walk) = walk_at(alloc, items, users, place as u32)? {
-                return Ok(Some(walk));
-            }
+    if are_known(heights) {
+        return Ok(None);
+    }
+    let components = components_of(alloc, items, users)?;
+    for place in 0..items.len() {
+        if let Some(walk) = walk_at(alloc, items, users, &components, place as u32)? {
+            return Ok(Some(walk));
         }
     }
     Ok(None)

@@ -3,6 +3,7 @@
 //! where no order is.
 #![tactic(auto)]
 
+mod components;
 mod cycles;
 mod moves;
 mod orders;

@@ -9,8 +9,8 @@ use std::alloc::{AllocError, Global};
 use vk_base::List;
 use vk_model::Item;
 
-// Notes this length for a place that has none, and puts it behind the others.
-fn reach_one(
+/// Notes this length for a place that has none, and puts it behind the others.
+pub(crate) fn reach_one(
     place: u32,
     steps: u32,
     lengths: &mut [Option<u32>],
@@ -28,8 +28,8 @@ fn reach_one(
     Ok(())
 }
 
-// Notes this length for the places that have none, and puts them behind the others.
-fn reach(
+/// Notes this length for the places that have none, and puts them behind the others.
+pub(crate) fn reach(
     places: &[u32],
     steps: u32,
     lengths: &mut [Option<u32>],
