@@ -221,8 +221,10 @@ impl<'a> PageAsker<'a> {
             (feature_view feature.now) (manifest_view manifest.now)))
             (C.state cat.old)) }
     {
-        let who = Who::Inst(inst.clone()?);
-        self.ask_rules(cat, &who, feature, manifest, line, brought, steps)
+        let facts = self
+            .rules
+            .instance_consequences(self.alloc, inst, feature, manifest, steps)?;
+        push_all(&self.overrides, &mut self.ports, cat, facts, line, brought)
     }
 
     // Adds what a feature of an instance asks for at a version, and tells whether the manifest is

@@ -1,5 +1,5 @@
 -- A set of instances has what was put into it.
-use Rattle.std.proofs.Common.{◌≡◌, ◌<◌, ◌||◌, ◌+◌, ℕ, Bool, true, false, cond, List, [], ◌∷◌, ◌++◌, length, take, get_or, refl, ap, sym, ◌∙◌}
+use Rattle.std.proofs.Common.{◌≡◌, ◌<◌, ◌||◌, ◌+◌, ℕ, Bool, true, false, cond, List, [], ◌∷◌, ◌++◌, length, take, get_or, refl, ap, sym, ◌∙◌, arith}
 use Rattle.std.specs.List.{list_any}
 use Rattle.std.proofs.lemmas.List.Folds.{list_any-append, list_any_more}
 use Rattle.indexmap.specs.IndexSet.{insert_key}
@@ -8,7 +8,7 @@ use Rattle.vk_resolution.proofs.Members.{contains_any}
 use Rattle.vk_resolution.proofs.FactLemmas.{same_instance-Decides}
 use Rattle.vk_base.specs.declared.instances.Instance.{Instance}
 use Rattle.vk_model.specs.SettingViews.{instance_view}
-use Rattle.vk_rules.specs.Offs.{is_same, AreOff}
+use Rattle.vk_rules.specs.Offs.{is_same, has_instance, AreOff}
 
 pub same_is : (i j : Instance) → is_same i j ≡ true → i ≡ j
 same_is i j e = ap (λ k. record { port = k.port; triplet = k.triplet }) ((same_instance-Decides (instance_view i) (instance_view j)).0 e)
@@ -35,3 +35,8 @@ pub off_more : (listed keys new : List Instance) (n : ℕ) (d x : Instance) → 
 off_more listed keys new n d x within was at put j =
     let p = is_same j in
     ap (list_any p) put ∙ put_any p keys x ∙ ap (λ b. b || p x) (was j) ∙ ap (λ y. list_any p (take n listed) || p y) at ∙ sym (list_any_more p listed n d within)
+
+-- an empty set has nothing
+pub nothing_there : (keys : List Instance) (j : Instance) → length keys ≡ 0 → false ≡ has_instance keys j
+nothing_there [] j none = refl
+nothing_there (k ∷ keys) j none = absurd (omega arith)

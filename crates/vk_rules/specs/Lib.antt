@@ -2,6 +2,7 @@
 pub mod RootSettings
 pub mod Flaws
 -- what functions, laws and examples say besides
+pub mod Requirers
 pub mod Roots
 pub mod Offs
 pub mod Asked

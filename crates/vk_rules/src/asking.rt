@@ -7,39 +7,30 @@ ghost use Rattle.vk_base.specs.FeatureViews.{feature_view};
 ghost use Rattle.vk_version.specs.AskViews.{ask_view};
 ghost use Rattle.vk_model.specs.Views.{use_view, dependency_view};
 ghost use Rattle.vk_model.specs.SettingViews.{instance_view};
-ghost use Rattle.vk_model.specs.FactViews.{who_view};
 ghost use Rattle.vk_rules.specs.Asked.{facts_view, use_need, needs_of, default_need, own_floor};
 ghost use Rattle.vk_rules.specs.Asked.{other_asked};
+ghost use Rattle.vk_rules.specs.Requirers.{requirer_view};
 
+use crate::requirers::Requirer;
 use vk_base::{FeatureName, List, Memory, PortName};
 use vk_expr::{Marks, truth};
-use vk_model::{Dependency, Fact, FeatureUse, Who};
+use vk_model::{Dependency, Fact, FeatureUse};
 use vk_version::Ask;
 
-// A copy of who has requirements.
-fn copy_of(who: &Who) -> Result<Who, Memory>
-    ensures { IfOk result (λ w. who_view w ≡ who_view who.now) }
-{
-    match who {
-        Who::Root(triplet) => Ok(Who::Root(triplet.clone()?)),
-        Who::Inst(inst) => Ok(Who::Inst(inst.clone()?)),
-    }
-}
-
 // The need of a feature.
-fn need_of(who: &Who, feature: &FeatureName) -> Result<Fact, Memory>
+fn need_of(who: Requirer<'_>, feature: &FeatureName) -> Result<Fact, Memory>
     ensures { IfOk result (λ x. facts_view (x ∷ [])
-        ≡ need (who_view who.now) (feature_view feature.now) ∷ []) }
+        ≡ need (requirer_view who.entry) (feature_view feature.now) ∷ []) }
 {
     Ok(Fact::Need {
-        who: copy_of(who)?,
+        who: who.to_owned()?,
         feature: feature.clone()?,
     })
 }
 
-fn push_need(who: &Who, feature: &FeatureName, facts: &mut List<Fact>) -> Result<(), Memory>
+fn push_need(who: Requirer<'_>, feature: &FeatureName, facts: &mut List<Fact>) -> Result<(), Memory>
     ensures { OnOk result (facts_view facts.new
-        ≡ facts_view facts.old ++ need (who_view who.now) (feature_view feature.now) ∷ []) }
+        ≡ facts_view facts.old ++ need (requirer_view who.entry) (feature_view feature.now) ∷ []) }
 {
     let fact = need_of(who, feature)?;
     facts.push(fact)?;
@@ -47,13 +38,13 @@ fn push_need(who: &Who, feature: &FeatureName, facts: &mut List<Fact>) -> Result
 }
 
 fn push_use(
-    who: &Who,
+    who: Requirer<'_>,
     wanted: &FeatureUse,
     marks: &Marks,
     facts: &mut List<Fact>,
 ) -> Result<(), Memory>
     ensures { OnOk result (facts_view facts.new
-        ≡ facts_view facts.old ++ use_need (who_view who.now) marks.now.names wanted.now) }
+        ≡ facts_view facts.old ++ use_need (requirer_view who.entry) marks.now.names wanted.now) }
 {
     if truth(&wanted.platform, marks) {
         return push_need(who, &wanted.name, facts);
@@ -63,13 +54,13 @@ fn push_use(
 
 // The needs of the features that a list names, where they apply.
 pub(crate) fn push_uses(
-    who: &Who,
+    who: Requirer<'_>,
     uses: &[FeatureUse],
     marks: &Marks,
     facts: &mut List<Fact>,
 ) -> Result<(), Memory>
     ensures { OnOk result (facts_view facts.new ≡ facts_view facts.old
-        ++ needs_of (who_view who.now) marks.now.names (map use_view uses.now)) }
+        ++ needs_of (requirer_view who.entry) marks.now.names (map use_view uses.now)) }
 {
     for wanted in uses {
         push_use(who, wanted, marks, facts)?;
@@ -102,33 +93,37 @@ fn push_floor(port: &PortName, minimum: &Option<Ask>, facts: &mut List<Fact>) ->
 }
 
 // The floor of a minimum on one's own port; the root has none.
-fn push_own_floor(who: &Who, minimum: &Option<Ask>, facts: &mut List<Fact>) -> Result<(), Memory>
+fn push_own_floor(
+    who: Requirer<'_>,
+    minimum: &Option<Ask>,
+    facts: &mut List<Fact>,
+) -> Result<(), Memory>
     ensures { OnOk result (facts_view facts.new
-        ≡ facts_view facts.old ++ own_floor (who_view who.now) (option_map ask_view minimum.now)) }
+        ≡ facts_view facts.old ++ own_floor (requirer_view who.entry) (option_map ask_view minimum.now)) }
 {
     match who {
-        Who::Root(_) => Ok(()),
-        Who::Inst(inst) => push_floor(&inst.port, minimum, facts),
+        Requirer::Root(_) => Ok(()),
+        Requirer::Inst(port, _) => push_floor(port, minimum, facts),
     }
 }
 
 // What a dependency on one's own instance asks for.
 pub(crate) fn push_own(
-    who: &Who,
+    who: Requirer<'_>,
     marks: &Marks,
     dependency: &Dependency,
     facts: &mut List<Fact>,
 ) -> Result<(), Memory>
     ensures { OnOk result (facts_view facts.new ≡ facts_view facts.old
-        ++ asked_of_own (who_view who.now) marks.now.names (dependency_view dependency.now)) }
+        ++ asked_of_own (requirer_view who.entry) marks.now.names (dependency_view dependency.now)) }
 {
     push_uses(who, dependency.features.as_slice(), marks, facts)?;
     push_own_floor(who, &dependency.minimum, facts)
 }
 
-fn push_default(who: &Who, off: bool, facts: &mut List<Fact>) -> Result<(), Memory>
+fn push_default(who: Requirer<'_>, off: bool, facts: &mut List<Fact>) -> Result<(), Memory>
     ensures { OnOk result (facts_view facts.new
-        ≡ facts_view facts.old ++ default_need (who_view who.now) off) }
+        ≡ facts_view facts.old ++ default_need (requirer_view who.entry) off) }
 {
     if off {
         return Ok(());
@@ -137,9 +132,9 @@ fn push_default(who: &Who, off: bool, facts: &mut List<Fact>) -> Result<(), Memo
 }
 
 // The needs of another instance, without those that the dependency lists.
-fn push_first(who: &Who, off: bool, facts: &mut List<Fact>) -> Result<(), Memory>
+fn push_first(who: Requirer<'_>, off: bool, facts: &mut List<Fact>) -> Result<(), Memory>
     ensures { OnOk result (facts_view facts.new ≡ facts_view facts.old
-        ++ need (who_view who.now) core ∷ default_need (who_view who.now) off) }
+        ++ need (requirer_view who.entry) core ∷ default_need (requirer_view who.entry) off) }
 {
     push_need(who, &FeatureName::Core, facts)?;
     push_default(who, off, facts)
@@ -147,14 +142,14 @@ fn push_first(who: &Who, off: bool, facts: &mut List<Fact>) -> Result<(), Memory
 
 // What a dependency on another instance asks for.
 pub(crate) fn push_other(
-    other: &Who,
+    other: Requirer<'_>,
     off: bool,
     marks: &Marks,
     dependency: &Dependency,
     facts: &mut List<Fact>,
 ) -> Result<(), Memory>
     ensures { OnOk result (facts_view facts.new ≡ facts_view facts.old
-        ++ other_asked (who_view other.now) off marks.now.names (dependency_view dependency.now)) }
+        ++ other_asked (requirer_view other.entry) off marks.now.names (dependency_view dependency.now)) }
 {
     push_first(other, off, facts)?;
     push_uses(other, dependency.features.as_slice(), marks, facts)?;

@@ -9,6 +9,7 @@ mod flaws;
 mod instance_sets;
 mod manifests;
 mod off_lists;
+mod requirers;
 mod roots;
 mod setting_rules;
 

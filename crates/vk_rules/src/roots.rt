@@ -1,16 +1,15 @@
 //! The root, and the triplets that a plan is made for.
 ghost use Rattle.std.specs.Prelude.{◌≡◌, bytes_eq};
-ghost use Rattle.vk_resolution.specs.Settings.{marks_of, triplet_of, is_own, is_root};
-ghost use Rattle.vk_resolution.specs.Settings.{same_instance};
-ghost use Rattle.vk_model.specs.SettingViews.{instance_view};
-ghost use Rattle.vk_model.specs.FactViews.{who_view};
+ghost use Rattle.vk_resolution.specs.Settings.{marks_of, is_own, is_root, same_instance};
+ghost use Rattle.vk_rules.specs.Requirers.{requirer_view};
 ghost use Rattle.vk_rules.specs.Roots.{root_setting, name_view, instance_at, triplet_for};
 ghost use Rattle.vk_rules.specs.Roots.{at_root, is_on_root};
 ghost use Rattle.vk_model.specs.Views.{dependency_view};
 
-use vk_base::{Instance, PortName, TripletName};
+use crate::requirers::Requirer;
+use vk_base::{PortName, TripletName};
 use vk_expr::Marks;
-use vk_model::{Dependency, Manifest, Who};
+use vk_model::{Dependency, Manifest};
 use vk_triplet::{Triplet, native_rule};
 
 /// A root manifest, with the triplets of the target and of the host.
@@ -27,21 +26,17 @@ fn is_triplet(one: &TripletName, other: &TripletName) -> bool
     one == other
 }
 
-// The triplet of who has requirements.
-pub(crate) fn triplet_of(who: &Who) -> &TripletName
-    ensures { result.now ≡ triplet_of (who_view who.now) }
+// Whether two ports for triplets are one instance.
+fn is_instance(
+    own: &PortName,
+    own_triplet: &TripletName,
+    port: &PortName,
+    triplet: &TripletName,
+) -> bool
+    ensures { result ≡ same_instance (instance_at own.now own_triplet.now)
+        (instance_at port.now triplet.now) }
 {
-    match who {
-        Who::Root(triplet) => triplet,
-        Who::Inst(inst) => &inst.triplet,
-    }
-}
-
-// Whether an instance is that of a port for a triplet.
-fn is_instance(inst: &Instance, port: &PortName, triplet: &TripletName) -> bool
-    ensures { result ≡ same_instance (instance_view inst.now) (instance_at port.now triplet.now) }
-{
-    inst.port == *port && inst.triplet == *triplet
+    own == port && own_triplet == triplet
 }
 
 // Whether a port for a triplet is the root's own instance.
@@ -72,23 +67,24 @@ impl<'a> Root<'a> {
     }
 
     /// The triplet that a dependency is for.
-    pub fn triplet_for(self, who: &'a Who, host: bool) -> &'a TripletName
-        ensures { result.now ≡ triplet_for (root_setting self.entry) (who_view who.now) host }
+    pub fn triplet_for(self, who: Requirer<'a>, host: bool) -> &'a TripletName
+        ensures { result.now
+            ≡ triplet_for (root_setting self.entry) (requirer_view who.entry) host }
     {
         if host {
             return self.host.name();
         }
-        triplet_of(who)
+        who.triplet()
     }
 
     /// Whether a port for a triplet is the instance of the one who depends.
-    pub fn is_own(self, who: &Who, port: &PortName, triplet: &TripletName) -> bool
-        ensures { result ≡ is_own (root_setting self.entry) (who_view who.now)
+    pub fn is_own(self, who: Requirer<'_>, port: &PortName, triplet: &TripletName) -> bool
+        ensures { result ≡ is_own (root_setting self.entry) (requirer_view who.entry)
             (instance_at port.now triplet.now) }
     {
         match who {
-            Who::Root(own) => is_named(&self.manifest.name, own, port, triplet),
-            Who::Inst(inst) => is_instance(inst, port, triplet),
+            Requirer::Root(own) => is_named(&self.manifest.name, own, port, triplet),
+            Requirer::Inst(own, own_triplet) => is_instance(own, own_triplet, port, triplet),
         }
     }
 

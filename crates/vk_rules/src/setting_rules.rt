@@ -11,12 +11,15 @@ ghost use Rattle.vk_model.specs.FactViews.{fact_view, who_view};
 ghost use Rattle.vk_rules.specs.Roots.{instance_at, triplet_for, root_setting};
 ghost use Rattle.vk_rules.specs.Asked.{facts_view, asked_where, asked_each};
 ghost use Rattle.vk_rules.specs.Flaws.{flaw_faults};
+ghost use Rattle.vk_rules.specs.Requirers.{requirer_view};
+ghost use Rattle.vk_resolution.specs.Settings as plain;
 
 use crate::asking::{push_other, push_own, push_uses};
 use crate::flaws::{Flaw, flaw_under};
 use crate::instance_sets::set_of;
 use crate::manifests::{defaults_of, dependencies_of};
-use crate::roots::{Root, triplet_of};
+use crate::requirers::Requirer;
+use crate::roots::Root;
 use indexmap::IndexSet;
 use std::alloc::Global;
 use std::marker::Model;
@@ -81,15 +84,15 @@ impl<'a> Rules<'a> {
     }
 
     // The triplet that a dependency of someone is for.
-    fn triplet_for<'b>(&'b self, who: &'b Who, host: bool) -> &'b TripletName
-        ensures { result.now ≡ triplet_for (setting_view self.now) (who_view who.now) host }
+    fn triplet_for<'b>(&'b self, who: Requirer<'b>, host: bool) -> &'b TripletName
+        ensures { result.now ≡ triplet_for (setting_view self.now) (requirer_view who.entry) host }
     {
         self.root().triplet_for(who, host)
     }
 
     // Whether a port for a triplet is the instance of the one who depends.
-    fn is_own(&self, who: &Who, port: &PortName, triplet: &TripletName) -> bool
-        ensures { result ≡ is_own (setting_view self.now) (who_view who.now)
+    fn is_own(&self, who: Requirer<'_>, port: &PortName, triplet: &TripletName) -> bool
+        ensures { result ≡ is_own (setting_view self.now) (requirer_view who.entry)
             (instance_at port.now triplet.now) }
     {
         self.root().is_own(who, port, triplet)
@@ -100,6 +103,17 @@ impl<'a> Rules<'a> {
         ensures { result ≡ is_off (setting_view self.now) (instance_view instance.now) }
     {
         self.off.contains(instance)
+    }
+
+    // The same of a port for a triplet. Most settings turn nothing off: then no name is cloned.
+    fn is_off_at(&self, port: &PortName, triplet: &TripletName) -> Result<bool, Memory>
+        ensures { IfOk result
+            (λ off. off ≡ is_off (setting_view self.now) (instance_at port.now triplet.now)) }
+    {
+        if self.off.is_empty() {
+            return Ok(false);
+        }
+        Ok(self.is_off(&instance_of(port, triplet)?))
     }
 }
 
@@ -115,22 +129,22 @@ fn push_at(
         ++ asked_of_other (setting_view rules.now) marks.now.names
         (instance_at dependency.now.name triplet.now) (dependency_view dependency.now)) }
 {
-    let other = instance_of(&dependency.name, triplet)?;
-    let off = rules.is_off(&other);
-    push_other(&Who::Inst(other), off, marks, dependency, facts)
+    let off = rules.is_off_at(&dependency.name, triplet)?;
+    let other = Requirer::Inst(&dependency.name, triplet);
+    push_other(other, off, marks, dependency, facts)
 }
 
 // What a dependency asks for.
 fn push_asked(
     rules: &Rules<'_>,
-    who: &Who,
+    who: Requirer<'_>,
     marks: &Marks,
     dependency: &Dependency,
     facts: &mut List<Fact>,
 ) -> Result<(), Memory>
-    requires { marks.now.names ≡ marks_of (setting_view rules.now) (triplet_of (who_view who.now)) }
+    requires { marks.now.names ≡ marks_of (setting_view rules.now) (triplet_of (requirer_view who)) }
     ensures { OnOk result (facts_view facts.new ≡ facts_view facts.old
-        ++ asked_by (setting_view rules.now) (who_view who.now) (dependency_view dependency.now)) }
+        ++ asked_by (setting_view rules.now) (requirer_view who.entry) (dependency_view dependency.now)) }
 {
     let triplet = rules.triplet_for(who, dependency.host);
     if rules.is_own(who, &dependency.name, triplet) {
@@ -141,14 +155,14 @@ fn push_asked(
 
 fn push_applicable(
     rules: &Rules<'_>,
-    who: &Who,
+    who: Requirer<'_>,
     marks: &Marks,
     dependency: &Dependency,
     facts: &mut List<Fact>,
 ) -> Result<(), Memory>
-    requires { marks.now.names ≡ marks_of (setting_view rules.now) (triplet_of (who_view who.now)) }
+    requires { marks.now.names ≡ marks_of (setting_view rules.now) (triplet_of (requirer_view who)) }
     ensures { OnOk result (facts_view facts.new ≡ facts_view facts.old
-        ++ asked_where (setting_view rules.now) (who_view who.now) dependency.now) }
+        ++ asked_where (setting_view rules.now) (requirer_view who.entry) dependency.now) }
 {
     if truth(&dependency.platform, marks) {
         return push_asked(rules, who, marks, dependency, facts);
@@ -159,14 +173,14 @@ fn push_applicable(
 // What dependencies ask for, where they apply.
 fn push_all(
     rules: &Rules<'_>,
-    who: &Who,
+    who: Requirer<'_>,
     marks: &Marks,
     dependencies: &[Dependency],
     facts: &mut List<Fact>,
 ) -> Result<(), Memory>
-    requires { marks.now.names ≡ marks_of (setting_view rules.now) (triplet_of (who_view who.now)) }
+    requires { marks.now.names ≡ marks_of (setting_view rules.now) (triplet_of (requirer_view who)) }
     ensures { OnOk result (facts_view facts.new ≡ facts_view facts.old
-        ++ asked_each (setting_view rules.now) (who_view who.now)
+        ++ asked_each (setting_view rules.now) (requirer_view who.entry)
         (map dependency_view dependencies.now)) }
 {
     for dependency in dependencies {
@@ -179,14 +193,14 @@ fn push_all(
 fn asked_of(
     alloc: Global,
     rules: &Rules<'_>,
-    who: &Who,
+    who: Requirer<'_>,
     feature: &FeatureName,
     manifest: &Manifest,
 ) -> Result<List<Fact>, Memory>
     ensures { IfOk result (λ l. map fact_view l ≡ asked_of (setting_view rules.now)
-        (who_view who.now) (feature_view feature.now) (manifest_view manifest.now)) }
+        (requirer_view who.entry) (feature_view feature.now) (manifest_view manifest.now)) }
 {
-    let marks = rules.root().marks(triplet_of(who));
+    let marks = rules.root().marks(who.triplet());
     let mut facts = List::new(alloc);
     push_all(
         rules,
@@ -216,7 +230,25 @@ impl<'a> Rules<'a> {
         ensures ticks { steps.new ≡ steps.old + 1 }
     {
         steps.tick();
-        asked_of(alloc, self, who, feature, manifest)
+        asked_of(alloc, self, Requirer::of(who), feature, manifest)
+    }
+
+    /// The same of an instance, which isn't cloned.
+    pub fn instance_consequences<L: Ledger>(
+        &self,
+        alloc: Global,
+        inst: &Instance,
+        feature: &FeatureName,
+        manifest: &Manifest,
+        steps: &mut Steps<L>,
+    ) -> Result<List<Fact>, Memory>
+        ensures facts { IfOk result (λ l. map fact_view l ≡ asked_of (setting_view self.now)
+            (plain.inst (instance_view inst.now)) (feature_view feature.now)
+            (manifest_view manifest.now)) }
+        ensures ticks { steps.new ≡ steps.old + 1 }
+    {
+        steps.tick();
+        asked_of(alloc, self, Requirer::of_instance(inst), feature, manifest)
     }
 
     /// What is wrong with a feature of a manifest that is needed of someone: `core` isn't supported
@@ -227,7 +259,11 @@ impl<'a> Rules<'a> {
             (feature_view feature.now) v (manifest_view manifest.now) n
             ≡ flaw_faults (who_view who.now) (feature_view feature.now) v n result }
     {
-        flaw_under(self.root().marks(triplet_of(who)), feature, manifest)
+        flaw_under(
+            self.root().marks(Requirer::of(who).triplet()),
+            feature,
+            manifest,
+        )
     }
 }
 
@@ -246,5 +282,5 @@ pub fn consequences<L: Ledger>(
 {
     steps.tick();
     let rules = Rules::new(alloc, setting)?;
-    asked_of(alloc, &rules, who, feature, manifest)
+    asked_of(alloc, &rules, Requirer::of(who), feature, manifest)
 }

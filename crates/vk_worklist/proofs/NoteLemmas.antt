@@ -1,6 +1,7 @@
 -- One reason more is noted, or is one too many.
-use Rattle.std.proofs.Common.{◌≡◌, ◌<◌, ◌+◌, ℕ, List, [], ◌∷◌, ◌++◌, length, inl, inr, refl, ap, sym, ◌∙◌, subst, arith}
-use Rattle.std.specs.Prelude.{Result, Ok, Err, OnOk}
+use Rattle.std.proofs.Common.{◌≡◌, ◌<◌, ◌≤◌, ◌+◌, ◌⊎◌, ℕ, Bool, true, false, List, [], ◌∷◌, ◌++◌, length, length-append, inl, inr, refl, ap, sym, ◌∙◌, subst, arith}
+use Rattle.std.specs.Prelude.{Result, Ok, Err, OnOk, is_some}
+use Rattle.std.specs.Map.{lookup}
 use Rattle.std.proofs.lemmas.List.{map-append, length-map}
 use Rattle.std.specs.List.{Contains}
 use Rattle.std.proofs.lemmas.List.Elements.{Contains-append_left, Contains-append_right, Contains-append_cases}
@@ -9,12 +10,14 @@ use Rattle.vk_spec.proofs.ListLemmas.{contains_nothing, contains_first, contains
 use Rattle.vk_resolution.specs.Asking as plain
 use Rattle.vk_resolution.specs.Reasons.{Reason}
 use Rattle.vk_resolution.specs.Closing.{NotesReasons, IsTooMuch}
-use Rattle.vk_resolution.proofs.ClosingLemmas.{reasons_nothing, reasons_new, reasons_then, facts_within}
+use Rattle.vk_resolution.proofs.ClosingLemmas.{reasons_nothing, reasons_known, reasons_new, reasons_then, facts_within}
+use Rattle.vk_resolution.proofs.Members.{true_false}
 use Rattle.vk_model.specs.declared.facts.Fact.{Fact}
 use Rattle.vk_model.specs.declared.reasons.Cause.{Cause}
 use Rattle.vk_model.specs.FactViews.{fact_view}
 use Rattle.vk_worklist.specs.Entries.{reason_of, reasons_in, facts_in}
-use Rattle.vk_worklist.proofs.MapLemmas.{Entries}
+use Rattle.vk_worklist.specs.Orders.{is_same}
+use Rattle.vk_worklist.proofs.MapLemmas.{Entries, found_contains, contains_found}
 
 pub noted_new : (lines fresh : Entries) (x : Fact) (c : Cause) → (Contains (facts_in lines) (fact_view x) → ⊥) → (Contains (facts_in fresh) (fact_view x) → ⊥)
     → NotesReasons (facts_in lines) (reason_of (x, c) ∷ []) (reasons_in fresh) (reasons_in (fresh ++ (x, c) ∷ []))
@@ -34,6 +37,31 @@ one_too_many lines fresh x c most unknown unnoted more = record {
   unnoted = unnoted;
   more = (let a = length-map lines reason_of in let b = length-map (reasons_in lines) (λ (r : Reason). r.fact) in let d = length-map fresh reason_of in omega (arith, a, b, d, more));
 }
+
+-- what stands on no line is noted behind the fresh ones, unless it is there
+module _ (lines fresh new : Entries) (x : Fact) (c : Cause)
+    (same : Contains (facts_in fresh) (fact_view x) → new ≡ fresh) (more : (Contains (facts_in fresh) (fact_view x) → ⊥) → new ≡ fresh ++ (x, c) ∷ []) where
+  pub noted_first : (Contains (facts_in lines) (fact_view x) → ⊥) → NotesReasons (facts_in lines) (reason_of (x, c) ∷ []) (reasons_in fresh) (reasons_in new)
+  noted_first unknown = by (is_some (lookup (is_same x) fresh)) refl
+    where
+      by : (b : Bool) → is_some (lookup (is_same x) fresh) ≡ b → NotesReasons (facts_in lines) (reason_of (x, c) ∷ []) (reasons_in fresh) (reasons_in new)
+      by true e =
+          let there : Contains (facts_in fresh) (fact_view x) = found_contains x fresh e in
+          subst (λ l. NotesReasons (facts_in lines) (reason_of (x, c) ∷ []) (reasons_in fresh) (reasons_in l)) (sym (same there)) (reasons_known (facts_in lines) (reasons_in fresh) (reason_of (x, c)) (inr there))
+      by false e =
+          let unnoted : Contains (facts_in fresh) (fact_view x) → ⊥ = λ h. true_false (is_some (lookup (is_same x) fresh)) (contains_found x fresh h) e in
+          subst (λ l. NotesReasons (facts_in lines) (reason_of (x, c) ∷ []) (reasons_in fresh) (reasons_in l)) (sym (more unnoted)) (noted_new lines fresh x c unknown unnoted)
+
+  pub noted_few : (most : ℕ) → length lines + length fresh ≤ most → Contains (facts_in fresh) (fact_view x) ⊎ (length lines + length fresh + 1 ≤ most) → length lines + length new ≤ most
+  noted_few most few (inl there) = let long = ap length (same there) in omega (arith, few, long)
+  noted_few most few (inr room) = by (is_some (lookup (is_same x) fresh)) refl
+    where
+      by : (b : Bool) → is_some (lookup (is_same x) fresh) ≡ b → length lines + length new ≤ most
+      by true e = let long = ap length (same (found_contains x fresh e)) in omega (arith, few, long)
+      by false e =
+          let long = ap length (more (λ h. true_false (is_some (lookup (is_same x) fresh)) (contains_found x fresh h) e)) in
+          let pushed = length-append fresh ((x, c) ∷ []) in
+          omega (arith, room, long, pushed)
 
 -- ---- one after the other, from the last on
 
@@ -89,3 +117,7 @@ nothing_left (x ∷ left) none = absurd (omega arith)
 pub done_means : {A E P Q : Type 0} (result : Result A E) → (P → Q) → OnOk result P → OnOk result Q
 done_means (Ok x) f h = f h
 done_means (Err e) f h = tt
+
+pub done_both : {A E P Q R : Type 0} (result : Result A E) → (P → Q → R) → OnOk result P → OnOk result Q → OnOk result R
+done_both (Ok x) f g h = f g h
+done_both (Err e) f g h = tt

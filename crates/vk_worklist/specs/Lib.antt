@@ -4,5 +4,6 @@ pub mod Faults
 pub mod Ticks
 pub mod Alone
 -- what functions, laws and examples say besides
+pub mod Orders
 pub mod Rows
 pub mod Joining

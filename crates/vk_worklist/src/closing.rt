@@ -40,7 +40,7 @@ fn first_level(
     ensures calm { has_failed result ≡ false }
 {
     note_all(lines, fresh, most, given)?;
-    next_level(lines, fresh)?;
+    next_level(lines, fresh, given)?;
     Ok(())
 }
 
@@ -85,7 +85,7 @@ fn close_levels<C: Catalogue, S: Source, L: Ledger>(
             return Ok(());
         }
         taken = lines.len();
-        next_level(lines, fresh)?;
+        next_level(lines, fresh, brought)?;
     }
 }
 

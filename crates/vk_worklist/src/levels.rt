@@ -1,4 +1,7 @@
 ghost use Rattle.std.specs.Prelude.{◌≡◌, ◌+◌, ◌++◌, ◌<◌, ◌≤◌, ◌∷◌, [], OnOk, length, take};
+ghost use Rattle.std.specs.Prelude.{IsPermutation, IsSorted, reverse};
+ghost use Rattle.std.specs.Map.{keys_of};
+ghost use Rattle.indexmap.specs.IndexMap.{insert_all};
 ghost use Rattle.vk_spec.specs.Lists.{NoRepeats};
 ghost use Rattle.vk_spec.specs.Catalogues.{OnlyAsked, OnPages};
 ghost use Rattle.vk_base.specs.Stops.{has_failed};
@@ -8,6 +11,7 @@ ghost use Rattle.vk_resolution.specs.Planner.{inputs_of};
 ghost use Rattle.vk_model.specs.FactViews.{fact_view};
 ghost use Rattle.vk_worklist.specs.Entries.{reasons_in, facts_in, IsApart, IsNextLevel};
 ghost use Rattle.vk_worklist.specs.Faults.{OnFault};
+ghost use Rattle.vk_worklist.specs.Orders.{fact_order, is_same};
 ghost use Rattle.vk_worklist.specs.Ticks.{ticks};
 
 use crate::faults::CloseFault;
@@ -15,28 +19,75 @@ use crate::notes::note_all;
 use crate::sources::Source;
 use indexmap::IndexMap;
 use std::alloc::AllocError;
+use std::cmp::Ordering;
 use std::sync::ledger::Ledger;
 use vk_base::{Steps, Stop};
 use vk_catalogue::Catalogue;
 use vk_model::{Cause, Fact};
 
-// Puts the fresh facts, in order, behind the lines.
+// Moves the entries of a map out, the last first.
+fn move_out(
+    fresh: &mut IndexMap<Fact, Cause>,
+    moved: &mut Vec<(Fact, Cause)>,
+) -> Result<(), AllocError>
+    requires none { moved.old.items ≡ [] }
+    ensures moved { OnOk result (moved.new.items ≡ reverse fresh.old.entries) }
+    ensures fresh { OnOk result (fresh.new.entries ≡ []) }
+{
+    while let Some(entry) = fresh.pop() {
+        moved.push(entry)?;
+    }
+    Ok(())
+}
+
+// Puts entries in falling order.
+fn put_in_falling_order(entries: &mut Vec<(Fact, Cause)>)
+    ensures moved { IsPermutation entries.old.items (reverse entries.new.items) }
+    ensures order { IsSorted fact_order (keys_of (reverse entries.new.items)) }
+{
+    entries.sort_unstable_by(
+        |one: &(Fact, Cause), other: &(Fact, Cause)| -> Ordering
+            ensures { result ≡ fact_order one.now.0 other.now.0 }
+        { one.0.cmp(&other.0) },
+    );
+    entries.reverse();
+}
+
+// Puts entries behind the lines, the last first, and leaves none of them.
+fn put_behind(
+    lines: &mut IndexMap<Fact, Cause>,
+    entries: &mut Vec<(Fact, Cause)>,
+) -> Result<(), AllocError>
+    ensures lines { OnOk result (lines.new.entries
+        ≡ insert_all is_same lines.old.entries (reverse entries.old.items)) }
+    ensures none { OnOk result (entries.new.items ≡ []) }
+{
+    while let Some((fact, cause)) = entries.pop() {
+        lines.insert(fact, cause)?;
+    }
+    Ok(())
+}
+
+// Puts the fresh facts, in order, behind the lines, by way of an empty vector.
 pub(crate) fn next_level(
     lines: &mut IndexMap<Fact, Cause>,
     fresh: &mut IndexMap<Fact, Cause>,
+    moved: &mut Vec<(Fact, Cause)>,
 ) -> Result<(), AllocError>
     requires distinct { NoRepeats (facts_in lines.old.entries) }
     requires apart { IsApart (facts_in lines.old.entries) (facts_in fresh.old.entries) }
+    requires none { moved.old.items ≡ [] }
     ensures ok { OnOk result (IsNextLevel (reasons_in lines.old.entries)
         (reasons_in fresh.old.entries) (reasons_in lines.new.entries)) }
     ensures len { OnOk result
         (length lines.new.entries ≡ length lines.old.entries + length fresh.old.entries) }
     ensures distinct { OnOk result (NoRepeats (facts_in lines.new.entries)) }
     ensures fresh { OnOk result (fresh.new.entries ≡ []) }
+    ensures none { OnOk result (moved.new.items ≡ []) }
 {
-    fresh.sort_keys()?;
-    lines.append(fresh)?;
-    Ok(())
+    move_out(fresh, moved)?;
+    put_in_falling_order(moved);
+    put_behind(lines, moved)
 }
 
 // The fact of a line, counted from 0.

@@ -19,16 +19,6 @@ fn has(map: &IndexMap<Fact, Cause>, fact: &Fact) -> bool
     map.contains_key(fact)
 }
 
-fn is_known(lines: &IndexMap<Fact, Cause>, fresh: &IndexMap<Fact, Cause>, fact: &Fact) -> bool
-    ensures { MatchBool result
-        (Contains (facts_in lines.now.entries) (fact_view fact.now)
-        ⊎ Contains (facts_in fresh.now.entries) (fact_view fact.now))
-        ((Contains (facts_in lines.now.entries) (fact_view fact.now) → ⊥)
-        × (Contains (facts_in fresh.now.entries) (fact_view fact.now) → ⊥)) }
-{
-    has(lines, fact) || has(fresh, fact)
-}
-
 fn is_full(lines: &IndexMap<Fact, Cause>, fresh: &IndexMap<Fact, Cause>, most: u32) -> bool
     requires { length lines.now.entries + length fresh.now.entries ≤ most }
     ensures { IsTrue result ↔ (most < length lines.now.entries + length fresh.now.entries + 1) }
@@ -36,12 +26,32 @@ fn is_full(lines: &IndexMap<Fact, Cause>, fresh: &IndexMap<Fact, Cause>, most: u
     lines.len() + fresh.len() >= most as usize
 }
 
+// Whether a fact is one more than there may be.
+fn is_too_much(
+    lines: &IndexMap<Fact, Cause>,
+    fresh: &IndexMap<Fact, Cause>,
+    most: u32,
+    fact: &Fact,
+) -> bool
+    requires { length lines.now.entries + length fresh.now.entries ≤ most }
+    ensures { MatchBool result
+        ((Contains (facts_in fresh.now.entries) (fact_view fact.now) → ⊥)
+        × (most < length lines.now.entries + length fresh.now.entries + 1))
+        (Contains (facts_in fresh.now.entries) (fact_view fact.now)
+        ⊎ (length lines.now.entries + length fresh.now.entries + 1 ≤ most)) }
+{
+    is_full(lines, fresh, most) && !has(fresh, fact)
+}
+
+// Puts a fact behind the fresh ones with its cause, unless it stands there.
 fn put(fresh: &mut IndexMap<Fact, Cause>, fact: Fact, cause: Cause) -> Result<(), Stop<CloseFault>>
-    requires { Contains (facts_in fresh.old.entries) (fact_view fact) → ⊥ }
-    ensures ok { OnOk result (fresh.new.entries ≡ fresh.old.entries ++ (fact, cause) ∷ []) }
+    ensures known { OnOk result (Contains (facts_in fresh.old.entries) (fact_view fact)
+        → fresh.new.entries ≡ fresh.old.entries) }
+    ensures new { OnOk result ((Contains (facts_in fresh.old.entries) (fact_view fact) → ⊥)
+        → fresh.new.entries ≡ fresh.old.entries ++ (fact, cause) ∷ []) }
     ensures memory { IfErr result (λ e. e ≡ stop.Memory out_of_memory) }
 {
-    fresh.insert(fact, cause)?;
+    fresh.entry(fact)?.or_insert(cause);
     Ok(())
 }
 
@@ -62,11 +72,11 @@ fn note(
         (reason_of (fact, cause) ∷ []) (reasons_in fresh.old.entries) most) }
     ensures calm { has_failed result ≡ false }
 {
-    if is_known(lines, fresh, &fact) {
+    if has(lines, &fact) {
         drop(fact);
         return Ok(());
     }
-    if is_full(lines, fresh, most) {
+    if is_too_much(lines, fresh, most, &fact) {
         drop(fact);
         return Err(Stop::Fault(CloseFault::Facts(most)));
     }

@@ -41,7 +41,7 @@ loop-fresh-preserved g c =
       setting = c.in_ok-take_up_level.ensures.setting ∙ c.loop-fresh.invariant.setting;
       asked = asked_then c.loop-fresh.invariant.asked c.in_ok-take_up_level.ensures.asked;
       fresh = c.in_ok-next_level.ensures.fresh;
-      none = c.in_ok-take_up_level.ensures.none;
+      none = c.in_ok-next_level.ensures.none;
       tracks = subst (λ l. IfSome o (λ pages. g.S.Source.tracks c.take_up_level.new.source pages l)) taken c.in_ok-take_up_level.ensures.tracks;
       closing = subst (λ l. IfSome o (λ pages. IsClosing (inputs_of s pages) (reasons_in new) l [])) taken (next_closing o s (reasons_in lines) (reasons_in fresh) (reasons_in new) c.in_ok-take_up_level.ensures.closing c.in_ok-next_level.ensures.ok);
     }

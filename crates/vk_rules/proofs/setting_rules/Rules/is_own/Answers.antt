@@ -1,9 +1,9 @@
 use Rattle.std.proofs.Common.{◌∙◌}
 use Rattle.vk_model.specs.SettingViews.{setting_view}
-use Rattle.vk_model.specs.FactViews.{who_view}
+use Rattle.vk_rules.specs.Requirers.{requirer_view}
 use Rattle.vk_rules.specs.Roots.{root_setting, instance_at}
 use Rattle.vk_rules.proofs.AskedLemmas.{own_same}
 use Rattle.vk_rules.proofs.setting_rules.Rules.is_own.Goals as goal
 
 pub returns : goal.returns
-returns c = c.is_own.ensures ∙ own_same (root_setting c.root.result) (setting_view c.args.self.now) (who_view c.args.who.now) (instance_at c.args.port.now c.args.triplet.now) c.root.ensures.root
+returns c = c.is_own.ensures ∙ own_same (root_setting c.root.result) (setting_view c.args.self.now) (requirer_view c.args.who) (instance_at c.args.port.now c.args.triplet.now) c.root.ensures.root
