@@ -2,19 +2,15 @@
 //! standard streams, calls `run`, and ends with its status.
 #![tactic(auto)]
 
-mod files;
-mod streams;
-
 ghost use Rattle.std.specs.Prelude.{◌<◌, ◌^◌, length, IfOk};
 
-use files::FileTree;
 use std::alloc::Global;
 use std::env;
 use std::io::ErrorKind;
 use std::process::ExitCode;
-use streams::OutSink;
 use vk_app::run;
 use vk_base::{List, Memory, Text, Word};
+use vk_real::{FileTree, OutSink};
 use vk_tree::send;
 
 // The one word that isn't text, in place of words that can't be had.

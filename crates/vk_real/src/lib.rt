@@ -1,0 +1,9 @@
+//! The host's files as a tree, and a stream as a sink. They tell nothing of what they hold or took:
+//! what they promise upwards is that an error of the host is counted and answered as one.
+#![tactic(auto)]
+
+mod files;
+mod streams;
+
+pub use files::FileTree;
+pub use streams::OutSink;
