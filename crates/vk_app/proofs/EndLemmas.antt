@@ -1,189 +1,234 @@
 -- What an end that is told says of a run.
 use Rattle.std.proofs.Common.{◌≡◌, ◌≢◌, ◌⊎◌, ◌≤◌, ◌||◌, subst, ℕ, Bool, true, false, inl, inr, List, [], length, refl, ap, sym, ◌∙◌, arith}
-use Rattle.std.specs.Prelude.{Option, None, IsSome, IfSome, is_some}
-use Rattle.std.specs.List.{Contains}
+use Rattle.std.specs.Prelude.{Option, IfSome, Result, Ok, Err, IsErr}
 use Rattle.std.proofs.lemmas.List.{append-nil}
 use Rattle.std.proofs.lemmas.Option.{IfSome_then}
 use Rattle.vk_spec.specs.Counts.{MayHaveRisen, Rose}
-use Rattle.vk_spec.specs.States.{OnlyRead}
+use Rattle.vk_spec.specs.Files.{Files}
+use Rattle.vk_spec.specs.Reading.{Fails}
+use Rattle.vk_spec.specs.States.{State, OnlyRead}
 use Rattle.vk_spec.specs.Sinks.{SinkState, Taken, TookFront, Sent}
 use Rattle.vk_spec.proofs.StateLemmas.{risen_where, fails_where}
 use Rattle.vk_spec.proofs.SinkLemmas.{sent_risen, sent_rose}
-use Rattle.vk_app.specs.Requests.{Words, Request, request_of}
-use Rattle.vk_app.specs.Answers.{Shown, answer_of, words_line, memory_line, tree_line, output_line}
-use Rattle.vk_app.specs.Runs.{World, IsCalm, Shows, IsSure, HasCauses, TellsLine, TookSome, KeepsOut, JudgesWords, lines}
-use Rattle.vk_app.specs.Ends.{EndsAs, EndFits, FormFits, Tells, status_of, bytes_of, line_of, line_after, told_status, end_failed}
-use Rattle.vk_app.specs.declared.ends.End.{End}
-use Rattle.vk_app.specs.declared.ends.End.TheVariants.{Planned, Refused, Form, TreeFailed, Memory}
+use Rattle.vk_spec.proofs.OptionLemmas.{of_each}
+use Rattle.vk_base.specs.Stops.{fault_in, has_failed}
+use Rattle.vk_base.specs.declared.stops.Stop.{Stop}
+use Rattle.vk_base.specs.declared.stops.Stop.TheVariants as stop
+use Rattle.vk_base.specs.declared.stops.Unread.{Unread}
+use Rattle.vk_base.specs.declared.stops.Unread.TheVariants as unread
+use Rattle.vk_model.specs.FaultViews.{outcome_view}
+use Rattle.vk_model.specs.declared.plans.Outcome.{Outcome}
+use Rattle.vk_model.specs.declared.plans.Outcome.TheVariants as outcome
+use Rattle.vk_model.specs.declared.projects.Project.{Project}
+use Rattle.vk_words.specs.declared.faults.WordFault.{WordFault}
+use Rattle.vk_worklist.specs.declared.faults.CloseFault.{CloseFault}
+use Rattle.vk_worklist.specs.declared.faults.CloseFault.TheVariants.{Facts}
+use Rattle.vk_app.specs.Once.{OnlyReadOnce}
+use Rattle.vk_app.specs.Requests.{Request}
+use Rattle.vk_app.specs.Resolutions as the
+use Rattle.vk_app.specs.Resolutions.{ComesTo}
+use Rattle.vk_app.specs.Resolved.{resolution_of, Resolves, ResolvesAs}
+use Rattle.vk_app.specs.Answers.{Shown, IsAnswerTo, told, memory_line, tree_line, output_line, limit_line}
+use Rattle.vk_app.specs.Runs.{Outside, IsCalm, Shows, ShowsAnswer, IsSure, HasCauses, IsLine, of_words, of_limit, of_memory, of_tree, of_output, TellsLine, TookSome, TookFault, TookLimit, KeepsOut, JudgesWords, RunsAs}
+use Rattle.vk_app.specs.Ends.{EndsAs, Tells, MayEnd, malformed, planned, refused, limited, lacking, broken, shown_of, EndsWith, whole, short, WordsEnd, line_after, told_status}
+use Rattle.vk_app.proofs.AnswerLemmas.{one_answer, limit_is}
+use Rattle.vk_app.proofs.ResolvedLemmas.{not_read}
 
 -- the record of what was told, with the two stops as arguments
-pub data TellsBy (end : End) (status : ℕ) (before after : World) : Type 0 where
-  both : (out_stopped err_stopped : Bool) → Sent (bytes_of end) out_stopped before.out after.out → Sent (line_after out_stopped end) err_stopped before.err after.err → status ≡ told_status (out_stopped || err_stopped) end → TellsBy end status before after
+pub data TellsBy (shown : Shown) (status : ℕ) (before after : Outside) : Type 0 where
+  both : (out_stopped err_stopped : Bool) → Sent shown.out out_stopped before.out after.out → Sent (line_after out_stopped shown) err_stopped before.err after.err → status ≡ told_status (out_stopped || err_stopped) shown → TellsBy shown status before after
 
-parts_of : (end : End) (status : ℕ) (before after : World) → Tells end status before.out after.out before.err after.err → TellsBy end status before after
-parts_of end status before after t = both t.out_stopped t.err_stopped t.sent t.line t.ends
+parts_of : (shown : Shown) (status : ℕ) (before after : Outside) → Tells shown status before.out after.out before.err after.err → TellsBy shown status before after
+parts_of shown status before after t = both t.out_stopped t.err_stopped t.sent t.line t.ends
 
 -- nothing is sent without a stop
 nothing_stops : (bytes : List ℕ) (stopped : Bool) (before after : SinkState) → Sent bytes stopped before after → bytes ≡ [] → stopped ≡ false
 nothing_stops bytes stopped before after sent e = sent.safe (omega (arith, ap length e))
 
-shows_end : (end : End) (shown : Shown) (status : ℕ) (before after : World) → EndFits end shown → status ≢ 3 → status ≢ 4
-    → Sent (bytes_of end) false before.out after.out → Sent (line_of end) false before.err after.err → status ≡ status_of end → Shows shown status before after
-shows_end (Planned bytes) shown status before after fits three four sent line is = rw fits (record { ends = is; out = sent.taken; err = line.taken })
-shows_end (Refused bytes) shown status before after fits three four sent line is = rw fits (record { ends = is; out = sent.taken; err = line.taken })
-shows_end Form shown status before after fits three four sent line is = rw fits (record { ends = is; out = sent.taken; err = line.taken })
-shows_end Memory shown status before after fits three four sent line is = absurd (three is)
-shows_end TreeFailed shown status before after fits three four sent line is = absurd (four is)
+-- what is shown where no sink stopped
+shows_end : (shown : Shown) (status : ℕ) (before after : Outside) → TellsBy shown status before after → status ≢ 5 → Shows shown status before after
+shows_end shown status before after (both false false sent line is) five = record { ends = is; out = sent.taken; err = line.taken }
+shows_end shown status before after (both false true sent line is) five = absurd (five is)
+shows_end shown status before after (both true false sent line is) five = absurd (five is)
+shows_end shown status before after (both true true sent line is) five = absurd (five is)
 
--- any end but out of memory and a failure is the answer
-pub shows_answer : (end : End) (shown : Shown) (status : ℕ) (before after : World) → EndFits end shown → TellsBy end status before after → status ≢ 3 → status ≢ 4 → status ≢ 5 → Shows shown status before after
-shows_answer end shown status before after fits (both false false sent line is) three four five = shows_end end shown status before after fits three four sent line is
-shows_answer end shown status before after fits (both false true sent line is) three four five = absurd (five is)
-shows_answer end shown status before after fits (both true false sent line is) three four five = absurd (five is)
-shows_answer end shown status before after fits (both true true sent line is) three four five = absurd (five is)
+-- ---- what every end keeps
 
-end_of_four : (end : End) → status_of end ≡ 4 → end_failed end ≡ true
-end_of_four (Planned bytes) e = (cc)
-end_of_four (Refused bytes) e = (cc)
-end_of_four Form e = (cc)
-end_of_four Memory e = (cc)
-end_of_four TreeFailed e = refl
+never_five : {request : Request} {shown : Shown} {failed : Bool} → MayEnd request shown failed → shown.status ≢ 5
+never_five (malformed fault) e = absurd (omega (arith, e))
+never_five (planned project report) e = absurd (omega (arith, e))
+never_five (refused project report) e = absurd (omega (arith, e))
+never_five (limited project) e = absurd (omega (arith, e))
+never_five (lacking request) e = absurd (omega (arith, e))
+never_five (broken project) e = absurd (omega (arith, e))
 
-no_end_of_five : (end : End) → status_of end ≢ 5
-no_end_of_five (Planned bytes) e = absurd (omega (arith, e))
-no_end_of_five (Refused bytes) e = absurd (omega (arith, e))
-no_end_of_five Form e = absurd (omega (arith, e))
-no_end_of_five Memory e = absurd (omega (arith, e))
-no_end_of_five TreeFailed e = absurd (omega (arith, e))
+at_most_six : {request : Request} {shown : Shown} {failed : Bool} → MayEnd request shown failed → shown.status ≤ 6
+at_most_six (malformed fault) = omega arith
+at_most_six (planned project report) = omega arith
+at_most_six (refused project report) = omega arith
+at_most_six (limited project) = omega arith
+at_most_six (lacking request) = omega arith
+at_most_six (broken project) = omega arith
 
-failed_is_four : (end : End) → end_failed end ≡ true → status_of end ≡ 4
-failed_is_four (Planned bytes) e = (cc)
-failed_is_four (Refused bytes) e = (cc)
-failed_is_four Form e = (cc)
-failed_is_four Memory e = (cc)
-failed_is_four TreeFailed e = refl
+four_failed : {request : Request} {shown : Shown} {failed : Bool} → MayEnd request shown failed → shown.status ≡ 4 → failed ≡ true
+four_failed (malformed fault) e = absurd (omega (arith, e))
+four_failed (planned project report) e = absurd (omega (arith, e))
+four_failed (refused project report) e = absurd (omega (arith, e))
+four_failed (limited project) e = absurd (omega (arith, e))
+four_failed (lacking request) e = absurd (omega (arith, e))
+four_failed (broken project) e = refl
 
-tree_cause : (end : End) (status : ℕ) (before after : World) → OnlyRead (end_failed end) before.tree after.tree → TellsBy end status before after → status ≡ 4 → MayHaveRisen before.tree.faults after.tree.faults
-tree_cause end status before after only (both false false sent line is) four = risen_where only (end_of_four end (sym is ∙ four))
-tree_cause end status before after only (both false true sent line is) four = absurd (omega (arith, is, four))
-tree_cause end status before after only (both true false sent line is) four = absurd (omega (arith, is, four))
-tree_cause end status before after only (both true true sent line is) four = absurd (omega (arith, is, four))
+failed_four : {request : Request} {shown : Shown} {failed : Bool} → MayEnd request shown failed → failed ≡ true → shown.status ≡ 4
+failed_four (malformed fault) e = (cc)
+failed_four (planned project report) e = (cc)
+failed_four (refused project report) e = (cc)
+failed_four (limited project) e = (cc)
+failed_four (lacking request) e = (cc)
+failed_four (broken project) e = refl
 
-sink_cause : (end : End) (status : ℕ) (before after : World) → TellsBy end status before after → status ≡ 5 → MayHaveRisen before.out.faults after.out.faults ⊎ MayHaveRisen before.err.faults after.err.faults
-sink_cause end status before after (both false false sent line is) five = absurd (no_end_of_five end (sym is ∙ five))
-sink_cause end status before after (both false true sent line is) five = inr (sent_risen line refl)
-sink_cause end status before after (both true false sent line is) five = inl (sent_risen sent refl)
-sink_cause end status before after (both true true sent line is) five = inl (sent_risen sent refl)
+failed_silent : {request : Request} {shown : Shown} {failed : Bool} → MayEnd request shown failed → failed ≡ true → shown.out ≡ []
+failed_silent (malformed fault) e = refl
+failed_silent (planned project report) e = (cc)
+failed_silent (refused project report) e = (cc)
+failed_silent (limited project) e = refl
+failed_silent (lacking request) e = refl
+failed_silent (broken project) e = refl
 
-failed_is_silent : (end : End) → end_failed end ≡ true → bytes_of end ≡ []
-failed_is_silent (Planned bytes) e = (cc)
-failed_is_silent (Refused bytes) e = (cc)
-failed_is_silent Form e = (cc)
-failed_is_silent Memory e = (cc)
-failed_is_silent TreeFailed e = refl
-
-tree_told : (end : End) (status : ℕ) (before after : World) → OnlyRead (end_failed end) before.tree after.tree → TellsBy end status before after → Rose before.tree.faults after.tree.faults → (status ≡ 4) ⊎ ((status ≡ 5) × MayHaveRisen before.err.faults after.err.faults)
-tree_told end status before after only (both false false sent line is) rose = inl (is ∙ failed_is_four end (fails_where only rose))
-tree_told end status before after only (both false true sent line is) rose = inr (is, sent_risen line refl)
-tree_told end status before after only (both true false sent line is) rose = let clash : true ≡ false = nothing_stops _ true _ _ sent (failed_is_silent end (fails_where only rose)) in (cc)
-tree_told end status before after only (both true true sent line is) rose = inr (is, sent_risen line refl)
-
-out_told : (end : End) (status : ℕ) (before after : World) → TellsBy end status before after → Rose before.out.faults after.out.faults → status ≡ 5
-out_told end status before after (both false se sent line is) rose = let clash : false ≡ true = sent_rose sent rose in (cc)
-out_told end status before after (both true se sent line is) rose = is
-
-err_told : (end : End) (status : ℕ) (before after : World) → TellsBy end status before after → Rose before.err.faults after.err.faults → status ≡ 5
-err_told end status before after (both so false sent line is) rose = let clash : false ≡ true = sent_rose line rose in (cc)
-err_told end status before after (both false true sent line is) rose = is
-err_told end status before after (both true true sent line is) rose = is
-
--- the causes of the failures outside
-pub has_causes : (end : End) (status : ℕ) (before after : World) → OnlyRead (end_failed end) before.tree after.tree → Tells end status before.out after.out before.err after.err → HasCauses status before after
-has_causes end status before after only t =
-    let parts = parts_of end status before after t in
-    record {
-      tree = tree_cause end status before after only parts;
-      sink = sink_cause end status before after parts;
-      tree_rose = tree_told end status before after only parts;
-      out_rose = out_told end status before after parts;
-      err_rose = err_told end status before after parts;
-    }
+silent : {request : Request} {shown : Shown} {failed : Bool} → MayEnd request shown failed → 2 ≤ shown.status → shown.out ≡ []
+silent (malformed fault) e = refl
+silent (planned project report) e = absurd (omega (arith, e))
+silent (refused project report) e = absurd (omega (arith, e))
+silent (limited project) e = refl
+silent (lacking request) e = refl
+silent (broken project) e = refl
 
 -- the line of a status
-line_done : (end : End) → status_of end ≤ 1 → line_of end ≡ []
-line_done (Planned bytes) e = refl
-line_done (Refused bytes) e = refl
-line_done Form e = absurd (omega (arith, e))
-line_done Memory e = absurd (omega (arith, e))
-line_done TreeFailed e = absurd (omega (arith, e))
+line_done : {request : Request} {shown : Shown} {failed : Bool} → MayEnd request shown failed → shown.status ≤ 1 → shown.err ≡ []
+line_done (malformed fault) e = absurd (omega (arith, e))
+line_done (planned project report) e = refl
+line_done (refused project report) e = refl
+line_done (limited project) e = absurd (omega (arith, e))
+line_done (lacking request) e = absurd (omega (arith, e))
+line_done (broken project) e = absurd (omega (arith, e))
 
-line_form : (end : End) → status_of end ≡ 2 → line_of end ≡ words_line
-line_form (Planned bytes) e = absurd (omega (arith, e))
-line_form (Refused bytes) e = absurd (omega (arith, e))
-line_form Form e = refl
-line_form Memory e = absurd (omega (arith, e))
-line_form TreeFailed e = absurd (omega (arith, e))
+line_memory : {request : Request} {shown : Shown} {failed : Bool} → MayEnd request shown failed → shown.status ≡ 3 → shown.err ≡ memory_line
+line_memory (malformed fault) e = absurd (omega (arith, e))
+line_memory (planned project report) e = absurd (omega (arith, e))
+line_memory (refused project report) e = absurd (omega (arith, e))
+line_memory (limited project) e = absurd (omega (arith, e))
+line_memory (lacking request) e = refl
+line_memory (broken project) e = absurd (omega (arith, e))
 
-line_memory : (end : End) → status_of end ≡ 3 → line_of end ≡ memory_line
-line_memory (Planned bytes) e = absurd (omega (arith, e))
-line_memory (Refused bytes) e = absurd (omega (arith, e))
-line_memory Form e = absurd (omega (arith, e))
-line_memory Memory e = refl
-line_memory TreeFailed e = absurd (omega (arith, e))
+line_tree : {request : Request} {shown : Shown} {failed : Bool} → MayEnd request shown failed → shown.status ≡ 4 → shown.err ≡ tree_line
+line_tree (malformed fault) e = absurd (omega (arith, e))
+line_tree (planned project report) e = absurd (omega (arith, e))
+line_tree (refused project report) e = absurd (omega (arith, e))
+line_tree (limited project) e = absurd (omega (arith, e))
+line_tree (lacking request) e = absurd (omega (arith, e))
+line_tree (broken project) e = refl
 
-line_tree : (end : End) → status_of end ≡ 4 → line_of end ≡ tree_line
-line_tree (Planned bytes) e = absurd (omega (arith, e))
-line_tree (Refused bytes) e = absurd (omega (arith, e))
-line_tree Form e = absurd (omega (arith, e))
-line_tree Memory e = absurd (omega (arith, e))
-line_tree TreeFailed e = refl
+line_words : {request : Request} {shown : Shown} {failed : Bool} (before after : SinkState) → MayEnd request shown failed → shown.status ≡ 2 → Taken before.taken shown.err after.taken → TookFault request before after
+line_words before after (malformed fault) e taken = taken
+line_words before after (planned project report) e taken = absurd (omega (arith, e))
+line_words before after (refused project report) e taken = absurd (omega (arith, e))
+line_words before after (limited project) e taken = absurd (omega (arith, e))
+line_words before after (lacking request) e taken = absurd (omega (arith, e))
+line_words before after (broken project) e taken = absurd (omega (arith, e))
 
-line_whole : (end : End) (status : ℕ) (before after : World) (line : List ℕ) → TellsBy end status before after → status ≢ 5 → (status_of end ≡ status → line_of end ≡ line) → Taken before.err.taken line after.err.taken
-line_whole end status before after line (both false false sent went is) five e = subst (λ l. Taken before.err.taken l after.err.taken) (e (sym is)) went.taken
-line_whole end status before after line (both false true sent went is) five e = absurd (five is)
-line_whole end status before after line (both true false sent went is) five e = absurd (five is)
-line_whole end status before after line (both true true sent went is) five e = absurd (five is)
+line_limit : {request : Request} {shown : Shown} {failed : Bool} (before after : SinkState) → MayEnd request shown failed → shown.status ≡ 6 → Taken before.taken shown.err after.taken → TookLimit request before after
+line_limit before after (malformed fault) e taken = absurd (omega (arith, e))
+line_limit before after (planned project report) e taken = absurd (omega (arith, e))
+line_limit before after (refused project report) e taken = absurd (omega (arith, e))
+line_limit before after (limited project) e taken = taken
+line_limit before after (lacking request) e taken = absurd (omega (arith, e))
+line_limit before after (broken project) e taken = absurd (omega (arith, e))
 
-cut : (line : List ℕ) (before after : SinkState) → Contains lines line → Sent line true before after → TookSome before after
-cut line before after defined sent = record { line = line; defined = defined; risen = sent_risen sent refl; rest = sent.taken.0; took = sent.taken.1 }
+-- ---- the causes of the failures outside
 
-line_cut : (end : End) (before after : SinkState) → Sent (line_of end) true before after → TookSome before after
-line_cut (Planned bytes) before after sent = let clash : true ≡ false = nothing_stops _ true _ _ sent refl in (cc)
-line_cut (Refused bytes) before after sent = let clash : true ≡ false = nothing_stops _ true _ _ sent refl in (cc)
-line_cut Form before after sent = cut words_line before after (0, omega arith, refl) sent
-line_cut Memory before after sent = cut memory_line before after (1, omega arith, refl) sent
-line_cut TreeFailed before after sent = cut tree_line before after (2, omega arith, refl) sent
+tree_cause : {request : Request} {shown : Shown} {failed : Bool} (status : ℕ) (before after : Outside) → MayEnd request shown failed → OnlyRead failed before.tree after.tree → TellsBy shown status before after → status ≡ 4 → MayHaveRisen before.tree.faults after.tree.faults
+tree_cause status before after may only (both false false sent line is) four = risen_where only (four_failed may (sym is ∙ four))
+tree_cause status before after may only (both false true sent line is) four = absurd (omega (arith, is, four))
+tree_cause status before after may only (both true false sent line is) four = absurd (omega (arith, is, four))
+tree_cause status before after may only (both true true sent line is) four = absurd (omega (arith, is, four))
 
-output_told : (end : End) (status : ℕ) (before after : World) → TellsBy end status before after → status ≡ 5 → Taken before.err.taken output_line after.err.taken ⊎ TookSome before.err after.err
-output_told end status before after (both false false sent line is) five = absurd (no_end_of_five end (sym is ∙ five))
-output_told end status before after (both false true sent line is) five = inr (line_cut end before.err after.err line)
-output_told end status before after (both true false sent line is) five = inl line.taken
-output_told end status before after (both true true sent line is) five = inr (cut output_line before.err after.err (3, omega arith, refl) line)
+sink_cause : {request : Request} {shown : Shown} {failed : Bool} (status : ℕ) (before after : Outside) → MayEnd request shown failed → TellsBy shown status before after → status ≡ 5 → MayHaveRisen before.out.faults after.out.faults ⊎ MayHaveRisen before.err.faults after.err.faults
+sink_cause status before after may (both false false sent line is) five = absurd (never_five may (sym is ∙ five))
+sink_cause status before after may (both false true sent line is) five = inr (sent_risen line refl)
+sink_cause status before after may (both true false sent line is) five = inl (sent_risen sent refl)
+sink_cause status before after may (both true true sent line is) five = inl (sent_risen sent refl)
 
--- what `err` took
-pub tells_line : (end : End) (status : ℕ) (before after : World) → Tells end status before.out after.out before.err after.err → TellsLine status before after
-tells_line end status before after t =
-    let parts = parts_of end status before after t in
-    record {
-      done = λ small. line_whole end status before after [] parts (λ e. absurd (omega (arith, small, e))) (λ e. line_done end (omega (arith, small, e)));
-      form = λ two. line_whole end status before after words_line parts (λ e. absurd (omega (arith, two, e))) (λ e. line_form end (e ∙ two));
-      memory = λ three. line_whole end status before after memory_line parts (λ e. absurd (omega (arith, three, e))) (λ e. line_memory end (e ∙ three));
-      tree = λ four. line_whole end status before after tree_line parts (λ e. absurd (omega (arith, four, e))) (λ e. line_tree end (e ∙ four));
-      output = output_told end status before after parts;
-    }
+tree_told : {request : Request} {shown : Shown} {failed : Bool} (status : ℕ) (before after : Outside) → MayEnd request shown failed → OnlyRead failed before.tree after.tree → TellsBy shown status before after → Rose before.tree.faults after.tree.faults → (status ≡ 4) ⊎ ((status ≡ 5) × MayHaveRisen before.err.faults after.err.faults)
+tree_told status before after may only (both false false sent line is) rose = inl (is ∙ failed_four may (fails_where only rose))
+tree_told status before after may only (both false true sent line is) rose = inr (is, sent_risen line refl)
+tree_told status before after may only (both true false sent line is) rose = let clash : true ≡ false = nothing_stops _ true _ _ sent (failed_silent may (fails_where only rose)) in (cc)
+tree_told status before after may only (both true true sent line is) rose = inr (is, sent_risen line refl)
 
-silent_end : (end : End) → 2 ≤ status_of end → bytes_of end ≡ []
-silent_end (Planned bytes) e = absurd (omega (arith, e))
-silent_end (Refused bytes) e = absurd (omega (arith, e))
-silent_end Form e = refl
-silent_end Memory e = refl
-silent_end TreeFailed e = refl
+out_told : (shown : Shown) (status : ℕ) (before after : Outside) → TellsBy shown status before after → Rose before.out.faults after.out.faults → status ≡ 5
+out_told shown status before after (both false se sent line is) rose = let clash : false ≡ true = sent_rose sent rose in (cc)
+out_told shown status before after (both true se sent line is) rose = is
 
-out_nothing : (end : End) (status : ℕ) (before after : World) → TellsBy end status before after → 2 ≤ status → status ≤ 4 → Taken before.out.taken [] after.out.taken
-out_nothing end status before after (both false false sent line is) low high = subst (λ l. Taken before.out.taken l after.out.taken) (silent_end end (omega (arith, low, is))) sent.taken
-out_nothing end status before after (both false true sent line is) low high = absurd (omega (arith, high, is))
-out_nothing end status before after (both true false sent line is) low high = absurd (omega (arith, high, is))
-out_nothing end status before after (both true true sent line is) low high = absurd (omega (arith, high, is))
+err_told : (shown : Shown) (status : ℕ) (before after : Outside) → TellsBy shown status before after → Rose before.err.faults after.err.faults → status ≡ 5
+err_told shown status before after (both so false sent line is) rose = let clash : false ≡ true = sent_rose line rose in (cc)
+err_told shown status before after (both false true sent line is) rose = is
+err_told shown status before after (both true true sent line is) rose = is
+
+has_causes : {request : Request} {shown : Shown} {failed : Bool} (status : ℕ) (before after : Outside) → MayEnd request shown failed → OnlyRead failed before.tree after.tree → TellsBy shown status before after → HasCauses status before after
+has_causes status before after may only parts = record {
+  tree = tree_cause status before after may only parts;
+  sink = sink_cause status before after may parts;
+  tree_rose = tree_told status before after may only parts;
+  out_rose = out_told _ status before after parts;
+  err_rose = err_told _ status before after parts;
+}
+
+-- ---- what `err` took
+
+line_whole : {shown : Shown} (status : ℕ) (before after : Outside) → TellsBy shown status before after → status ≢ 5 → (status ≡ shown.status) × Taken before.err.taken shown.err after.err.taken
+line_whole status before after (both false false sent went is) five = (is, went.taken)
+line_whole status before after (both false true sent went is) five = absurd (five is)
+line_whole status before after (both true false sent went is) five = absurd (five is)
+line_whole status before after (both true true sent went is) five = absurd (five is)
+
+-- the line of an end that has one
+line_is : {shown : Shown} (status : ℕ) (line : List ℕ) (before after : Outside) → TellsBy shown status before after → status ≢ 5 → (shown.status ≡ status → shown.err ≡ line) → Taken before.err.taken line after.err.taken
+line_is status line before after parts five e =
+    let whole = line_whole status before after parts five in
+    subst (λ l. Taken before.err.taken l after.err.taken) (e (sym whole.0)) whole.1
+
+cut : {request : Request} (line : List ℕ) (before after : SinkState) → IsLine request line → Sent line true before after → TookSome request before after
+cut line before after is sent = record { line = line; is_line = is; risen = sent_risen sent refl; rest = sent.taken.0; took = sent.taken.1 }
+
+line_cut : {request : Request} {shown : Shown} {failed : Bool} (before after : SinkState) → MayEnd request shown failed → Sent shown.err true before after → TookSome request before after
+line_cut before after (malformed fault) sent = cut _ before after (of_words fault) sent
+line_cut before after (planned project report) sent = let clash : true ≡ false = nothing_stops _ true _ _ sent refl in (cc)
+line_cut before after (refused project report) sent = let clash : true ≡ false = nothing_stops _ true _ _ sent refl in (cc)
+line_cut before after (limited project) sent = cut _ before after (of_limit project) sent
+line_cut before after (lacking request) sent = cut _ before after (of_memory request) sent
+line_cut before after (broken project) sent = cut _ before after (of_tree (Ok project)) sent
+
+output_told : {request : Request} {shown : Shown} {failed : Bool} (status : ℕ) (before after : Outside) → MayEnd request shown failed → TellsBy shown status before after → status ≡ 5 → Taken before.err.taken output_line after.err.taken ⊎ TookSome request before.err after.err
+output_told status before after may (both false false sent line is) five = absurd (never_five may (sym is ∙ five))
+output_told status before after may (both false true sent line is) five = inr (line_cut before.err after.err may line)
+output_told status before after may (both true false sent line is) five = inl line.taken
+output_told {request = request} status before after may (both true true sent line is) five = inr (cut output_line before.err after.err (of_output request) line)
+
+tells_line : {request : Request} {shown : Shown} {failed : Bool} (status : ℕ) (before after : Outside) → MayEnd request shown failed → TellsBy shown status before after → TellsLine request status before after
+tells_line status before after may parts = record {
+  done = λ small. line_is status [] before after parts (λ e. absurd (omega (arith, small, e))) (λ e. line_done may (omega (arith, small, e)));
+  words = λ two. let whole = line_whole status before after parts (λ e. absurd (omega (arith, two, e))) in line_words before.err after.err may (sym whole.0 ∙ two) whole.1;
+  memory = λ three. line_is status memory_line before after parts (λ e. absurd (omega (arith, three, e))) (λ e. line_memory may (e ∙ three));
+  tree = λ four. line_is status tree_line before after parts (λ e. absurd (omega (arith, four, e))) (λ e. line_tree may (e ∙ four));
+  output = output_told status before after may parts;
+  limit = λ six. let whole = line_whole status before after parts (λ e. absurd (omega (arith, six, e))) in line_limit before.err after.err may (sym whole.0 ∙ six) whole.1;
+}
+
+-- ---- what `out` took
+
+out_nothing : {request : Request} {shown : Shown} {failed : Bool} (status : ℕ) (before after : Outside) → MayEnd request shown failed → TellsBy shown status before after → 2 ≤ status → status ≢ 5 → Taken before.out.taken [] after.out.taken
+out_nothing status before after may (both false false sent line is) low five = subst (λ l. Taken before.out.taken l after.out.taken) (silent may (omega (arith, low, is))) sent.taken
+out_nothing status before after may (both false true sent line is) low five = absurd (five is)
+out_nothing status before after may (both true false sent line is) low five = absurd (five is)
+out_nothing status before after may (both true true sent line is) low five = absurd (five is)
 
 whole_front : (bytes : List ℕ) (before after : Option (List ℕ)) → Taken before bytes after → (rest : List ℕ) × TookFront before bytes rest after
 whole_front bytes before after taken = ([], record { front = bytes; split = sym (append-nil bytes); taken = taken })
@@ -199,95 +244,179 @@ went_nothing : (stopped : Bool) (before after : SinkState) → Sent [] stopped b
 went_nothing false before after sent = sent.taken
 went_nothing true before after sent = let clash : true ≡ false = nothing_stops _ true _ _ sent refl in (cc)
 
-end_front : (end : End) (shown : Shown) (stopped : Bool) (before after : SinkState) → EndFits end shown → Sent (bytes_of end) stopped before after → (rest : List ℕ) × TookFront before.taken shown.out rest after.taken
-end_front (Planned bytes) shown stopped before after fits sent = rw fits (went_front bytes stopped before after sent)
-end_front (Refused bytes) shown stopped before after fits sent = rw fits (went_front bytes stopped before after sent)
-end_front Form shown stopped before after fits sent = rw fits (went_front [] stopped before after sent)
-end_front Memory shown stopped before after fits sent = no_front shown.out before.taken after.taken (went_nothing stopped before after sent)
-end_front TreeFailed shown stopped before after fits sent = no_front shown.out before.taken after.taken (went_nothing stopped before after sent)
+-- an end that isn't out of memory or a failure is the one answer
+is_the_answer : (request : Request) (files : Files) {one other : Shown} → (one.status ≢ 3 → one.status ≢ 4 → IsAnswerTo request files one) → IsAnswerTo request files other → one.status ≢ 3 → one.status ≢ 4 → one ≡ other
+is_the_answer request files {one = one} {other = other} fits answer three four = one_answer request files one other (fits three four) answer
 
--- what `out` took
-pub keeps_out : (words : Words) (end : End) (status : ℕ) (before after : World) → EndsAs words end before.tree after.tree → Tells end status before.out after.out before.err after.err → KeepsOut words status before after
-keeps_out words end status before after ends t = record {
-  nothing = out_nothing end status before after (parts_of end status before after t);
-  front = IfSome_then before.tree.told ends.content (λ told fits. end_front end (answer_of words told.files) t.out_stopped before.out after.out fits t.sent);
+end_front : (request : Request) (files : Files) {one : Shown} (other : Shown) {failed : Bool} (stopped : Bool) (before after : SinkState) → MayEnd request one failed → (one.status ≢ 3 → one.status ≢ 4 → IsAnswerTo request files one) → IsAnswerTo request files other
+    → Sent one.out stopped before after → (rest : List ℕ) × TookFront before.taken other.out rest after.taken
+end_front request files other stopped before after (malformed fault) fits answer sent = subst (λ s. (rest : List ℕ) × TookFront before.taken s.out rest after.taken) (is_the_answer (Err fault) files {other = other} fits answer (λ e. absurd (omega (arith, e))) (λ e. absurd (omega (arith, e)))) (went_front [] stopped before after sent)
+end_front request files other stopped before after (planned project report) fits answer sent = subst (λ s. (rest : List ℕ) × TookFront before.taken s.out rest after.taken) (is_the_answer (Ok project) files {other = other} fits answer (λ e. absurd (omega (arith, e))) (λ e. absurd (omega (arith, e)))) (went_front report stopped before after sent)
+end_front request files other stopped before after (refused project report) fits answer sent = subst (λ s. (rest : List ℕ) × TookFront before.taken s.out rest after.taken) (is_the_answer (Ok project) files {other = other} fits answer (λ e. absurd (omega (arith, e))) (λ e. absurd (omega (arith, e)))) (went_front report stopped before after sent)
+end_front request files other stopped before after (limited project) fits answer sent = subst (λ s. (rest : List ℕ) × TookFront before.taken s.out rest after.taken) (is_the_answer (Ok project) files {other = other} fits answer (λ e. absurd (omega (arith, e))) (λ e. absurd (omega (arith, e)))) (went_front [] stopped before after sent)
+end_front request files other stopped before after (lacking again) fits answer sent = no_front other.out before.taken after.taken (went_nothing stopped before after sent)
+end_front request files other stopped before after (broken project) fits answer sent = no_front other.out before.taken after.taken (went_nothing stopped before after sent)
+
+keeps_out : (request : Request) (shown : Shown) (status : ℕ) (before after : Outside) → EndsAs request shown before.tree after.tree → Tells shown status before.out after.out before.err after.err → KeepsOut request status before after
+keeps_out request shown status before after ends t = record {
+  nothing = out_nothing status before after ends.may (parts_of shown status before after t);
+  front = IfSome_then before.tree.told ends.content (λ told fits other answer. end_front request told.files other t.out_stopped before.out after.out ends.may fits answer t.sent);
 }
 
-form_end : (end : End) (request : Option Request) → FormFits end request → status_of end ≡ 2 → request ≡ None
-form_end (Planned bytes) request fits e = absurd (omega (arith, e))
-form_end (Refused bytes) request fits e = absurd (omega (arith, e))
-form_end Form request fits e = fits
-form_end Memory request fits e = absurd (omega (arith, e))
-form_end TreeFailed request fits e = absurd (omega (arith, e))
+-- ---- when the command line is malformed
 
-status_two : (end : End) (status : ℕ) (before after : World) → TellsBy end status before after → status ≡ 2 → status_of end ≡ 2
-status_two end status before after (both false false sent line is) two = sym is ∙ two
-status_two end status before after (both false true sent line is) two = absurd (omega (arith, is, two))
-status_two end status before after (both true false sent line is) two = absurd (omega (arith, is, two))
-status_two end status before after (both true true sent line is) two = absurd (omega (arith, is, two))
+two_is_err : {request : Request} {shown : Shown} {failed : Bool} → MayEnd request shown failed → shown.status ≡ 2 → IsErr request
+two_is_err (malformed fault) e = refl
+two_is_err (planned project report) e = absurd (omega (arith, e))
+two_is_err (refused project report) e = absurd (omega (arith, e))
+two_is_err (limited project) e = absurd (omega (arith, e))
+two_is_err (lacking request) e = absurd (omega (arith, e))
+two_is_err (broken project) e = absurd (omega (arith, e))
 
-no_some : (request : Option Request) → request ≡ None → IsSome request → ⊥
-no_some request none some = let clash : false ≡ true = ap is_some (sym none) ∙ some in (cc)
+err_is_two : {request : Request} {shown : Shown} {failed : Bool} → MayEnd request shown failed → IsErr request → (shown.status ≡ 2) ⊎ (shown.status ≡ 3)
+err_is_two (malformed fault) e = inl refl
+err_is_two (planned project report) e = (cc)
+err_is_two (refused project report) e = (cc)
+err_is_two (limited project) e = (cc)
+err_is_two (lacking request) e = inr refl
+err_is_two (broken project) e = (cc)
 
-none_end : (end : End) (request : Option Request) → FormFits end request → request ≡ None → (status_of end ≡ 2) ⊎ (status_of end ≡ 3)
-none_end (Planned bytes) request fits none = absurd (no_some request none fits)
-none_end (Refused bytes) request fits none = absurd (no_some request none fits)
-none_end Form request fits none = inl refl
-none_end Memory request fits none = inr refl
-none_end TreeFailed request fits none = absurd (no_some request none fits)
+status_two : {shown : Shown} (status : ℕ) (before after : Outside) → TellsBy shown status before after → status ≡ 2 → shown.status ≡ 2
+status_two status before after parts two = sym (line_whole status before after parts (λ e. absurd (omega (arith, two, e)))).0 ∙ two
 
-status_none : (end : End) (status : ℕ) (before after : World) (request : Option Request) → FormFits end request → TellsBy end status before after → request ≡ None → (status ≡ 2) ⊎ (status ≡ 3) ⊎ (status ≡ 5)
-status_none end status before after request fits (both false false sent line is) none = elim (none_end end request fits none) [ inl two ↦ inl (is ∙ two) | inr three ↦ inr (inl (is ∙ three)) ]
-status_none end status before after request fits (both false true sent line is) none = inr (inr is)
-status_none end status before after request fits (both true false sent line is) none = inr (inr is)
-status_none end status before after request fits (both true true sent line is) none = inr (inr is)
+status_err : {request : Request} {shown : Shown} {failed : Bool} (status : ℕ) (before after : Outside) → MayEnd request shown failed → TellsBy shown status before after → IsErr request → (status ≡ 2) ⊎ (status ≡ 3) ⊎ (status ≡ 5)
+status_err status before after may (both false false sent line is) err = elim (err_is_two may err) [ inl two ↦ inl (is ∙ two) | inr three ↦ inr (inl (is ∙ three)) ]
+status_err status before after may (both false true sent line is) err = inr (inr is)
+status_err status before after may (both true false sent line is) err = inr (inr is)
+status_err status before after may (both true true sent line is) err = inr (inr is)
 
--- when the command line is malformed
-pub judges_words : (words : Words) (end : End) (status : ℕ) (before after : World) → EndsAs words end before.tree after.tree → Tells end status before.out after.out before.err after.err → JudgesWords words status before after
-judges_words words end status before after ends t =
-    let parts = parts_of end status before after t in
+judges_words : (request : Request) (shown : Shown) (status : ℕ) (before after : Outside) → EndsAs request shown before.tree after.tree → TellsBy shown status before after → JudgesWords request status before after
+judges_words request shown status before after ends parts = record {
+  only = λ two. let err = two_is_err ends.may (status_two status before after parts two) in (err, ends.unread err);
+  comes = λ err. (status_err status before after ends.may parts err, ends.unread err);
+}
+
+-- ---- the answer
+
+answers : (request : Request) (shown : Shown) (status : ℕ) (before after : Outside) → EndsAs request shown before.tree after.tree → TellsBy shown status before after → HasCauses status before after
+    → IfSome before.tree.told (λ t. IsCalm before after → status ≢ 3 → ShowsAnswer request t.files status before after)
+answers request shown status before after ends parts causes =
+    IfSome_then before.tree.told ends.content (λ told fits calm three.
+    let shows = shows_end shown status before after parts (λ five. elim (causes.sink five) [ inl out ↦ calm.out out | inr err ↦ calm.err err ]) in
+    record { shown = shown; answer = fits (λ e. three (shows.ends ∙ e)) (λ e. calm.tree (causes.tree (shows.ends ∙ e))); shows = shows })
+
+-- no sink stops that has room for the answer
+none_stops : {request : Request} {shown : Shown} {failed : Bool} (status : ℕ) (before after : Outside) → MayEnd request shown failed → IsSure shown before → TellsBy shown status before after → status ≢ 5
+none_stops status before after may sure (both false false sent line is) five = never_five may (sym is ∙ five)
+none_stops status before after may sure (both false true sent line is) five = let clash : true ≡ false = line.safe sure.line in (cc)
+none_stops status before after may sure (both true se sent line is) five = let clash : true ≡ false = sent.safe sure.out in (cc)
+
+-- what is sure for the answer is sure for the end
+end_sure : (request : Request) (files : Files) {one other : Shown} {failed : Bool} (before : Outside) → MayEnd request one failed → (one.status ≢ 3 → one.status ≢ 4 → IsAnswerTo request files one) → IsAnswerTo request files other → IsSure other before → one.status ≢ 4 → IsSure one before
+end_sure request files {other = other} before (malformed fault) fits answer sure four = subst (λ s. IsSure s before) (sym (is_the_answer (Err fault) files {other = other} fits answer (λ e. absurd (omega (arith, e))) four)) sure
+end_sure request files {other = other} before (planned project report) fits answer sure four = subst (λ s. IsSure s before) (sym (is_the_answer (Ok project) files {other = other} fits answer (λ e. absurd (omega (arith, e))) four)) sure
+end_sure request files {other = other} before (refused project report) fits answer sure four = subst (λ s. IsSure s before) (sym (is_the_answer (Ok project) files {other = other} fits answer (λ e. absurd (omega (arith, e))) four)) sure
+end_sure request files {other = other} before (limited project) fits answer sure four = subst (λ s. IsSure s before) (sym (is_the_answer (Ok project) files {other = other} fits answer (λ e. absurd (omega (arith, e))) four)) sure
+end_sure request files {other = other} before (lacking again) fits answer sure four = record { tree = sure.tree; out = omega arith; line = omega (arith, sure.err); err = sure.err }
+end_sure request files {other = other} before (broken project) fits answer sure four = absurd (four refl)
+
+completes : (request : Request) (shown : Shown) (status : ℕ) (before after : Outside) → EndsAs request shown before.tree after.tree → TellsBy shown status before after
+    → IfSome before.tree.told (λ t. (other : Shown) → IsAnswerTo request t.files other → IsSure other before → status ≢ 3 → Shows other status before after)
+completes request shown status before after ends parts =
+    IfSome_then before.tree.told ends.content (λ told fits other answer sure three.
+    let four : shown.status ≢ 4 = λ e. let clash : true ≡ false = sym (four_failed ends.may e) ∙ ends.only.only.looks.ends.safe sure.tree in (cc) in
+    let shows = shows_end shown status before after parts (none_stops status before after ends.may (end_sure request told.files before ends.may fits answer sure four) parts) in
+    subst (λ s. Shows s status before after) (is_the_answer request told.files fits answer (λ e. three (shows.ends ∙ e)) four) shows)
+
+-- ---- a run
+
+small : {request : Request} {shown : Shown} {failed : Bool} (status : ℕ) (before after : Outside) → MayEnd request shown failed → TellsBy shown status before after → status ≤ 6
+small status before after may (both false false sent line is) = omega (arith, is, at_most_six may)
+small status before after may (both false true sent line is) = omega (arith, is)
+small status before after may (both true false sent line is) = omega (arith, is)
+small status before after may (both true true sent line is) = omega (arith, is)
+
+-- an end that was told is a run
+pub runs_as : (request : Request) (shown : Shown) (status : ℕ) (before after : Outside) → EndsAs request shown before.tree after.tree → Tells shown status before.out after.out before.err after.err → RunsAs request status before after
+runs_as request shown status before after ends t =
+    let parts = parts_of shown status before after t in
+    let causes = has_causes status before after ends.may ends.only.only parts in
     record {
-      only = λ two. let none = form_end end (request_of words) ends.form (status_two end status before after parts two) in (none, ends.unread none);
-      comes = λ none. (status_none end status before after (request_of words) ends.form parts none, ends.unread none);
+      answers = answers request shown status before after ends parts causes;
+      completes = completes request shown status before after ends parts;
+      causes = causes;
+      words = judges_words request shown status before after ends parts;
+      out = keeps_out request shown status before after ends t;
+      err = tells_line status before after ends.may parts;
+      once = record { failed = ends.failed; only = ends.only.only; distinct = ends.only.distinct };
+      small = small status before after ends.may parts;
     }
 
--- the answer of a run
-pub answers : (words : Words) (end : End) (status : ℕ) (before after : World) → EndsAs words end before.tree after.tree → Tells end status before.out after.out before.err after.err
-    → IfSome before.tree.told (λ t. IsCalm before after → status ≢ 3 → Shows (answer_of words t.files) status before after)
-answers words end status before after ends t =
-    let parts = parts_of end status before after t in
-    let causes = has_causes end status before after ends.only.only t in
-    IfSome_then before.tree.told ends.content (λ told fits calm three.
-    shows_answer end (answer_of words told.files) status before after fits parts three
-    (λ four. calm.tree (causes.tree four))
-    (λ five. elim (causes.sink five) [ inl out ↦ calm.out out | inr err ↦ calm.err err ]))
+-- ---- how a run comes to its end
 
-room_out : (end : End) (shown : Shown) (room : ℕ) → EndFits end shown → length shown.out ≤ room → length (bytes_of end) ≤ room
-room_out (Planned bytes) shown room fits few = omega (arith, few, ap (λ (s : Shown). length s.out) fits)
-room_out (Refused bytes) shown room fits few = omega (arith, few, ap (λ (s : Shown). length s.out) fits)
-room_out Form shown room fits few = omega arith
-room_out Memory shown room fits few = omega arith
-room_out TreeFailed shown room fits few = omega arith
+-- what is shown of an answer is one of the ends
+may_end : (project : Project) (answer : Result Outcome (Stop CloseFault)) → MayEnd (Ok project) (shown_of project answer) (has_failed answer)
+may_end project (Ok (outcome.Planned plan reasons)) = planned project _
+may_end project (Ok (outcome.Refused faults reasons)) = refused project _
+may_end project (Ok (outcome.Early early)) = refused project _
+may_end project (Err (stop.Fault fault)) = limited project
+may_end project (Err stop.Failed) = broken project
+may_end project (Err (stop.Memory m)) = lacking (Ok project)
 
-room_err : (end : End) (room : ℕ) → length output_line ≤ room → length (line_of end) ≤ room
-room_err (Planned bytes) room few = omega arith
-room_err (Refused bytes) room few = omega arith
-room_err Form room few = omega (arith, few)
-room_err Memory room few = omega (arith, few)
-room_err TreeFailed room few = omega (arith, few)
+-- and is the answer, but for a failure and out of memory
+is_answer : (project : Project) (files : Files) (answer : Result Outcome (Stop CloseFault)) → Resolves (ComesTo project files) answer → (shown_of project answer).status ≢ 3 → (shown_of project answer).status ≢ 4 → IsAnswerTo (Ok project) files (shown_of project answer)
+is_answer project files (Ok o) h three four = (resolution_of (outcome_view o), h, refl)
+is_answer project files (Err (stop.Fault (Facts most))) h three four = (the.too_many most, h, ap (λ n. told 6 (limit_line n)) (sym (limit_is project files most h)))
+is_answer project files (Err stop.Failed) h three four = absurd (four refl)
+is_answer project files (Err (stop.Memory m)) h three four = absurd (three refl)
 
-none_stops : (end : End) (shown : Shown) (status : ℕ) (before after : World) → EndFits end shown → IsSure shown before → TellsBy end status before after → status ≡ status_of end
-none_stops end shown status before after fits sure (both false false sent line is) = is
-none_stops end shown status before after fits sure (both false true sent line is) = let clash : true ≡ false = line.safe (room_err end before.err.room sure.err) in (cc)
-none_stops end shown status before after fits sure (both true se sent line is) = let clash : true ≡ false = sent.safe (room_out end shown before.out.room fits sure.out) in (cc)
+-- where the end isn't a failure, the tree didn't fail
+not_failed : (project : Project) (answer : Result Outcome (Stop CloseFault)) → (shown_of project answer).status ≢ 4 → has_failed answer ≡ false
+not_failed project (Ok o) four = refl
+not_failed project (Err (stop.Fault fault)) four = refl
+not_failed project (Err stop.Failed) four = absurd (four refl)
+not_failed project (Err (stop.Memory m)) four = refl
 
--- a run in which nothing can fail
-pub completes : (words : Words) (end : End) (status : ℕ) (before after : World) → EndsAs words end before.tree after.tree → Tells end status before.out after.out before.err after.err
-    → IfSome before.tree.told (λ t. IsSure (answer_of words t.files) before → status ≢ 3 → Shows (answer_of words t.files) status before after)
-completes words end status before after ends t =
-    let parts = parts_of end status before after t in
-    IfSome_then before.tree.told ends.content (λ told fits sure three.
-    let is = none_stops end (answer_of words told.files) status before after fits sure parts in
-    shows_answer end (answer_of words told.files) status before after fits parts three
-    (λ four. let clash : true ≡ false = sym (end_of_four end (sym is ∙ four)) ∙ ends.only.only.looks.ends.safe sure.tree in (cc))
-    (λ five. no_end_of_five end (sym is ∙ five)))
+pub ends_of_plan : (project : Project) (answer : Result Outcome (Stop CloseFault)) (shown : Shown) (a b : State) → ResolvesAs (ComesTo project) answer [] a b → EndsWith (shown_of project answer) shown → EndsAs (Ok project) shown a b
+ends_of_plan project answer shown a b resolves whole = record {
+  failed = has_failed answer;
+  may = may_end project answer;
+  only = resolves.only;
+  unread = λ err. (cc);
+  content = IfSome_then a.told resolves.content (λ t h three four. is_answer project t.files answer h three four);
+}
+ends_of_plan project answer shown a b resolves (short four) = record {
+  failed = false;
+  may = lacking (Ok project);
+  only = subst (λ f. OnlyReadOnce [] f a b) (not_failed project answer four) resolves.only;
+  unread = λ err. (cc);
+  content = of_each a.told (λ t three other. absurd (three refl));
+}
+
+-- a request that was read
+pub ends_asked : (request : Request) (project : Project) (shown : Shown) (a b : State) → request ≡ Ok project → EndsAs (Ok project) shown a b → EndsAs request shown a b
+ends_asked request project shown a b is ends = rw is ends
+
+-- words that ask for no project: nothing was read
+pub ends_of_words : (request : Request) (unread : Unread WordFault) (shown : Shown) (s : State) → Fails (fault_in unread) request → WordsEnd unread shown → EndsAs request shown s s
+ends_of_words request (unread.Fault fault) shown s is whole = rw is (record {
+  failed = false;
+  may = malformed fault;
+  only = not_read s;
+  unread = λ err. refl;
+  content = of_each s.told (λ t three four. refl);
+})
+ends_of_words request (unread.Fault fault) shown s is (short four) = record {
+  failed = false;
+  may = lacking request;
+  only = not_read s;
+  unread = λ err. refl;
+  content = of_each s.told (λ t three other. absurd (three refl));
+}
+ends_of_words request (unread.Memory m) shown s is end = rw end (record {
+  failed = false;
+  may = lacking request;
+  only = not_read s;
+  unread = λ err. refl;
+  content = of_each s.told (λ t three other. absurd (three refl));
+})

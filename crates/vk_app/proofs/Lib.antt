@@ -1,9 +1,4 @@
-mod ManifestLemmas
-mod KnownLemmas
-mod OrderLaws
-mod ReportLemmas
-pub mod FormLemmas
-pub mod AskReadingLemmas
-pub mod PlanLemmas
-pub mod ReportEndLemmas
+pub mod AnswerLemmas
+pub mod ExistenceLemmas
+pub mod ResolvedLemmas
 pub mod EndLemmas

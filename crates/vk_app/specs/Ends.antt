@@ -1,93 +1,76 @@
 -- How a run ends, before its bytes go out.
-use Rattle.std.specs.Prelude.{◌≡◌, ◌||◌, ℕ, Bool, true, false, List, [], Option, None, IsSome, IfSome}
+use Rattle.std.specs.Prelude.{◌≡◌, ◌≢◌, ◌||◌, ℕ, Bool, true, false, List, [], Result, Ok, Err, IfSome, IsErr}
 use Rattle.vk_spec.specs.States.{State}
 use Rattle.vk_spec.specs.Sinks.{SinkState, Sent}
-use Rattle.vk_app.specs.Once.{OnlyReadOnce}
-use Rattle.vk_app.specs.Requests.{Words, Request, request_of}
-use Rattle.vk_app.specs.Answers.{Shown, answer_of, told, words_line, memory_line, tree_line, output_line}
-use Rattle.vk_app.specs.declared.stops.WordsFault.{WordsFault}
+use Rattle.vk_base.specs.declared.stops.Stop.{Stop}
 use Rattle.vk_base.specs.declared.stops.Unread.{Unread}
 use Rattle.vk_base.specs.declared.stops.Unread.TheVariants as unread
+use Rattle.vk_base.specs.declared.stops.Stop.TheVariants as stop
+use Rattle.vk_model.specs.FaultViews.{outcome_view}
+use Rattle.vk_model.specs.declared.plans.Outcome.{Outcome}
+use Rattle.vk_model.specs.declared.projects.Project.{Project}
+use Rattle.vk_worklist.specs.declared.faults.CloseFault.{CloseFault}
+use Rattle.vk_words.specs.declared.faults.WordFault.{WordFault}
+use Rattle.vk_app.specs.Once.{OnlyReadOnce}
+use Rattle.vk_app.specs.Requests.{Request}
+use Rattle.vk_app.specs.Resolved.{resolution_of}
+use Rattle.vk_app.specs.Answers.{Shown, IsAnswerTo, shown_for, told, printed, words_line, memory_line, tree_line, output_line, limit_line}
 use Rattle.vk_app.specs.declared.ends.End.{End}
-use Rattle.vk_app.specs.declared.ends.End.TheVariants.{Planned, Refused, Form, TreeFailed, Memory}
+use Rattle.vk_app.specs.declared.ends.End.TheVariants as end
 
-abbrev pub status_of : End → ℕ
-status_of (Planned bytes) = 0
-status_of (Refused bytes) = 1
-status_of Form = 2
-status_of Memory = 3
-status_of TreeFailed = 4
+abbrev pub end_view : End → Shown
+end_view (end.Printed status report) = printed status report
+end_view (end.Told status line) = told status line
+end_view end.Memory = told 3 memory_line
+end_view end.TreeFailed = told 4 tree_line
 
-abbrev pub bytes_of : End → List ℕ
-bytes_of (Planned bytes) = bytes
-bytes_of (Refused bytes) = bytes
-bytes_of Form = []
-bytes_of Memory = []
-bytes_of TreeFailed = []
+-- the ends that a run of this request may have, and whether the tree failed
+pub data MayEnd : Request → Shown → Bool → Type 0 where
+  malformed : (fault : WordFault) → MayEnd (Err fault) (told 2 (words_line fault)) false
+  planned : (project : Project) (report : List ℕ) → MayEnd (Ok project) (printed 0 report) false
+  refused : (project : Project) (report : List ℕ) → MayEnd (Ok project) (printed 1 report) false
+  limited : (project : Project) → MayEnd (Ok project) (told 6 (limit_line project.max_facts)) false
+  lacking : (request : Request) → MayEnd request (told 3 memory_line) false
+  broken : (project : Project) → MayEnd (Ok project) (told 4 tree_line) true
 
-abbrev pub line_of : End → List ℕ
-line_of (Planned bytes) = []
-line_of (Refused bytes) = []
-line_of Form = words_line
-line_of Memory = memory_line
-line_of TreeFailed = tree_line
+-- how a request and a tree end, and what is done to the tree
+pub record EndsAs (request : Request) (shown : Shown) (before after : State) : Type 0 where
+  pub failed : Bool
+  pub may : MayEnd request shown failed
+  pub only : OnlyReadOnce [] failed before after
+  pub unread : IsErr request → after ≡ before
+  pub content : IfSome before.told (λ t. shown.status ≢ 3 → shown.status ≢ 4 → IsAnswerTo request t.files shown)
 
-abbrev pub end_failed : End → Bool
-end_failed (Planned bytes) = false
-end_failed (Refused bytes) = false
-end_failed Form = false
-end_failed Memory = false
-end_failed TreeFailed = true
+-- how an answer is shown, by what a project comes to
+abbrev pub shown_of : Project → Result Outcome (Stop CloseFault) → Shown
+shown_of project (Ok outcome) = shown_for (resolution_of (outcome_view outcome))
+shown_of project (Err (stop.Fault fault)) = told 6 (limit_line project.max_facts)
+shown_of project (Err stop.Failed) = told 4 tree_line
+shown_of project (Err (stop.Memory m)) = told 3 memory_line
 
--- an end that words of the form may have
-abbrev pub IsOfPlan : End → Type 0
-IsOfPlan (Planned bytes) = Unit {0}
-IsOfPlan (Refused bytes) = Unit {0}
-IsOfPlan Form = ⊥
-IsOfPlan Memory = Unit {0}
-IsOfPlan TreeFailed = Unit {0}
+-- the end is this, or memory ran out before it was made
+pub data EndsWith (shown : Shown) : Shown → Type 0 where
+  whole : EndsWith shown shown
+  short : shown.status ≢ 4 → EndsWith shown (told 3 memory_line)
 
--- the end of a malformed command line, or for which memory ran out
-abbrev pub end_of_words : Unread WordsFault → End
-end_of_words (unread.Fault fault) = Form
-end_of_words (unread.Memory m) = Memory
-
--- the end is the answer, unless it is a failure or out of memory
-abbrev pub EndFits : End → Shown → Type 0
-EndFits (Planned bytes) shown = shown ≡ record { status = 0; out = bytes; err = [] }
-EndFits (Refused bytes) shown = shown ≡ record { status = 1; out = bytes; err = [] }
-EndFits Form shown = shown ≡ told 2 words_line
-EndFits Memory shown = Unit {0}
-EndFits TreeFailed shown = Unit {0}
-
--- a malformed command line has an end of its own
-abbrev pub FormFits : End → Option Request → Type 0
-FormFits (Planned bytes) request = IsSome request
-FormFits (Refused bytes) request = IsSome request
-FormFits Form request = request ≡ None
-FormFits Memory request = Unit {0}
-FormFits TreeFailed request = IsSome request
-
--- how words and a tree end, and what is done to the tree
-pub record EndsAs (words : Words) (end : End) (before after : State) : Type 0 where
-  pub only : OnlyReadOnce [] (end_failed end) before after
-  pub form : FormFits end (request_of words)
-  pub unread : request_of words ≡ None → after ≡ before
-  pub content : IfSome before.told (λ t. EndFits end (answer_of words t.files))
+-- how the words end that ask for no project
+abbrev pub WordsEnd : Unread WordFault → Shown → Type 0
+WordsEnd (unread.Fault fault) shown = EndsWith (told 2 (words_line fault)) shown
+WordsEnd (unread.Memory m) shown = shown ≡ told 3 memory_line
 
 -- the line that goes to `err` after the output
-abbrev pub line_after : Bool → End → List ℕ
-line_after false end = line_of end
-line_after true end = output_line
+abbrev pub line_after : Bool → Shown → List ℕ
+line_after false shown = shown.err
+line_after true shown = output_line
 
-abbrev pub told_status : Bool → End → ℕ
-told_status false end = status_of end
-told_status true end = 5
+abbrev pub told_status : Bool → Shown → ℕ
+told_status false shown = shown.status
+told_status true shown = 5
 
 -- an end is told: its bytes, then its line; a sink that stops is told in their place
-pub record Tells (end : End) (status : ℕ) (out out_after err err_after : SinkState) : Type 0 where
+pub record Tells (shown : Shown) (status : ℕ) (out out_after err err_after : SinkState) : Type 0 where
   pub out_stopped : Bool
   pub err_stopped : Bool
-  pub sent : Sent (bytes_of end) out_stopped out out_after
-  pub line : Sent (line_after out_stopped end) err_stopped err err_after
-  pub ends : status ≡ told_status (out_stopped || err_stopped) end
+  pub sent : Sent shown.out out_stopped out out_after
+  pub line : Sent (line_after out_stopped shown) err_stopped err err_after
+  pub ends : status ≡ told_status (out_stopped || err_stopped) shown

@@ -1,20 +1,10 @@
 -- what is promised
-pub mod Forms
 pub mod Requests
-pub mod Orders
-pub mod PlainManifests
-pub mod PortPlans
-pub mod Refusals
-pub mod ShortReports
-pub mod Plans
+pub mod Resolutions
 pub mod Answers
 pub mod Once
 pub mod Runs
-pub mod WordViews
 -- what functions, laws and examples say besides
-pub mod PortStops
-pub mod AskReadings
-pub mod Located
-pub mod RefusalViews
+pub mod Resolved
 pub mod Ends
-pub mod PlanReadings
+pub mod AnswerLaws

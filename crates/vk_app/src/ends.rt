@@ -1,6 +1,6 @@
 //! How a run ends, and how that is told.
-ghost use Rattle.std.specs.Prelude.{◌≡◌, false};
-ghost use Rattle.vk_app.specs.Ends.{status_of, bytes_of, line_of, Tells};
+ghost use Rattle.std.specs.Prelude.{◌≡◌};
+ghost use Rattle.vk_app.specs.Ends.{Tells, end_view};
 
 use vk_base::Text;
 use vk_tree::{Sink, send};
@@ -8,13 +8,11 @@ use vk_tree::{Sink, send};
 /// How a run ends, before its bytes go out.
 #[derive(Drop)]
 pub enum End {
-    /// A plan was made: its report.
-    Planned(Text),
-    /// The plan was refused: the report of that.
-    Refused(Text),
-    /// The command line is malformed.
-    Form,
-    /// Memory was wanting.
+    /// Bytes for standard output, under this status.
+    Printed(u8, Text),
+    /// A line for standard error, under this status.
+    Told(u8, Text),
+    /// Out of memory.
     Memory,
     /// A call of the tree failed.
     TreeFailed,
@@ -22,36 +20,33 @@ pub enum End {
 
 impl End {
     fn status(&self) -> u8
-        ensures { result ≡ status_of self.now }
+        ensures { result ≡ (end_view self.now).status }
     {
         match self {
-            End::Planned(_) => 0,
-            End::Refused(_) => 1,
-            End::Form => 2,
+            End::Printed(status, _) => *status,
+            End::Told(status, _) => *status,
             End::Memory => 3,
             End::TreeFailed => 4,
         }
     }
 
     fn bytes(&self) -> &[u8]
-        ensures { result.now ≡ bytes_of self.now }
+        ensures { result.now ≡ (end_view self.now).out }
     {
         match self {
-            End::Planned(report) => report.as_bytes(),
-            End::Refused(report) => report.as_bytes(),
-            End::Form => &[],
+            End::Printed(_, report) => report.as_bytes(),
+            End::Told(_, _) => &[],
             End::Memory => &[],
             End::TreeFailed => &[],
         }
     }
 
     fn line(&self) -> &[u8]
-        ensures { result.now ≡ line_of self.now }
+        ensures { result.now ≡ (end_view self.now).err }
     {
         match self {
-            End::Planned(_) => &[],
-            End::Refused(_) => &[],
-            End::Form => b"words: form\n",
+            End::Printed(_, _) => &[],
+            End::Told(_, line) => line.as_bytes(),
             End::Memory => b"memory\n",
             End::TreeFailed => b"tree failed\n",
         }
@@ -60,8 +55,8 @@ impl End {
 
 /// Tells an end on both sinks, and answers the status: 5 where one of them stopped.
 pub fn tell<O: Sink, E: Sink>(end: &End, out: &mut O, err: &mut E) -> u8
-    ensures { Tells end.now result (O.state out.old) (O.state out.new) (E.state err.old)
-        (E.state err.new) }
+    ensures { Tells (end_view end.now) result (O.state out.old) (O.state out.new)
+        (E.state err.old) (E.state err.new) }
 {
     if send(out, end.bytes()).is_err() {
         let _ = send(err, b"output failed\n");

@@ -1,10 +1,8 @@
 //! Laws over the definitions alone.
-ghost use Rattle.std.specs.Prelude.{List, ℕ};
-ghost use Rattle.vk_app.specs.Orders.{in_order, Ascends, KeepsNames};
+ghost use Rattle.vk_app.specs.AnswerLaws.{AnswerExists, AnswerIsOne};
 
-/// The names in order are exactly those that are listed, and each stands before all that follow
-/// it, so each is there once.
-pub fn order_of_names()
-    ensures same { KeepsNames }
-    ensures ascends { (names : List (List ℕ)) → Ascends (in_order names) }
+/// Words and files have an answer, and no other.
+pub fn words_and_files_have_one_answer()
+    ensures exists { AnswerExists }
+    ensures one { AnswerIsOne }
 {}

@@ -4,18 +4,9 @@
 #![tactic(auto)]
 
 mod ends;
-mod fronts;
-mod items;
 pub mod laws;
-mod plain_manifests;
-mod plans;
-mod port_plans;
-mod port_sets;
-mod refusals;
-mod reports;
 mod requests;
+mod resolutions;
 mod runs;
-mod stops;
-mod troubles;
 
 pub use runs::{Ran, run};

@@ -1,34 +1,29 @@
-//! The top call: `plan`, from the words to the status.
-ghost use Rattle.std.specs.Prelude.{◌≡◌, ◌≤◌, ◌<◌, ◌^◌, [], ℕ, List, false, Result, Err, IfSome};
-ghost use Rattle.std.specs.Prelude.{length};
-ghost use Rattle.vk_spec.specs.Reading.{Gives, Fails};
-ghost use Rattle.vk_app.specs.Once.{IsReadOnce, OnlyReadOnce};
-ghost use Rattle.vk_app.specs.Answers.{report_of};
-ghost use Rattle.vk_app.specs.Ends.{EndsAs, EndFits, IsOfPlan, end_failed, end_of_words};
-ghost use Rattle.vk_app.specs.PortPlans.{Item};
-ghost use Rattle.vk_app.specs.Plans.{project_of, plan_of};
-ghost use Rattle.vk_app.specs.PlanReadings.{refused_of, is_tree_failed, has_tree_failed, reported};
-ghost use Rattle.vk_app.specs.Refusals.{Refused};
-ghost use Rattle.vk_app.specs.RefusalViews.{refusal_view};
-ghost use Rattle.vk_app.specs.Runs.{Answers, Completes, HasCauses, TellsLine, KeepsOut};
-ghost use Rattle.vk_app.specs.Runs.{JudgesWords};
-ghost use Rattle.vk_app.specs.WordViews.{words_view, request_view};
+//! The top call: from the words to the status.
+ghost use Rattle.std.specs.Prelude.{◌≡◌, ◌≢◌, ◌<◌, ◌^◌, Ok, Err, IfOk, length};
+ghost use Rattle.vk_model.specs.FaultViews.{outcome_view};
+ghost use Rattle.vk_words.specs.WordViews.{words_view};
+ghost use Rattle.vk_app.specs.Answers.{Shown, limit_line, shown_for, told, words_line};
+ghost use Rattle.vk_app.specs.Ends.{EndsAs, EndsWith, WordsEnd, end_view, shown_of};
+ghost use Rattle.vk_app.specs.Resolved.{resolution_of};
+ghost use Rattle.vk_app.specs.Requests.{request_of};
+ghost use Rattle.vk_app.specs.Runs.{RunsAs};
 
 use crate::ends::{End, tell};
-use crate::plans::{Planned, plan};
-use crate::refusals::{PlanStop, Refusal};
-use crate::reports::refused_report;
-use crate::requests::{Request, read_request};
-use crate::stops::WordsFault;
+use crate::requests::read_request;
+use crate::resolutions::{Resolution, resolved};
 use std::alloc::Global;
-use vk_base::{List, Text, Unread, Word};
+use vk_base::{List, Memory, Stop, Text, Unread, Word};
+use vk_model::{Outcome, Project};
+use vk_report::report_bytes;
 use vk_tree::{Sink, Tree};
+use vk_words::{WordFault, fault_text};
+use vk_worklist::CloseFault;
 
 /// How a run ended, and the tree as it stands.
 #[derive(Drop)]
 pub struct Ran<T> {
     /// 0: a plan. 1: refused. 2: a malformed command line. 3: out of memory. 4: the tree failed.
-    /// 5: a sink stopped.
+    /// 5: a sink stopped. 6: too many requirements.
     pub status: u8,
     /// The tree that was moved in.
     pub tree: T,
@@ -41,84 +36,112 @@ struct Ended<T> {
     tree: T,
 }
 
-fn refused(alloc: Global, refusal: &Refusal) -> End
-    ensures fits { (triplet : List ℕ) → EndFits result
-        (report_of triplet (Err (refusal_view refusal.now))) }
-    ensures calm { end_failed result ≡ false }
-    ensures plan { IsOfPlan result }
+// What memory ran out for has an end of its own.
+fn or_memory(end: Result<End, Memory>) -> End
+    ensures { (shown : Shown) → shown.status ≢ 4 → IfOk end (λ e. end_view e ≡ shown)
+        → EndsWith shown (end_view result) }
 {
-    match refused_report(alloc, refusal) {
-        Ok(report) => End::Refused(report),
+    match end {
+        Ok(end) => end,
         Err(_) => End::Memory,
     }
 }
 
-fn end_of_stop(alloc: Global, stop: PlanStop) -> End
-    ensures fits { (triplet : List ℕ) (read : Result (List Item) Refused) → Fails (refused_of stop)
-        read → EndFits result (report_of triplet read) }
-    ensures failed { end_failed result ≡ is_tree_failed stop }
-    ensures plan { IsOfPlan result }
+fn end_of_fault(alloc: Global, fault: WordFault) -> Result<End, Memory>
+    ensures { IfOk result (λ e. end_view e ≡ told 2 (words_line fault)) }
+{
+    let text = fault_text(alloc, &fault)?;
+    let line = format!(in alloc; "words: {text}\n")?;
+    Ok(End::Told(2, Text::from_string(line)))
+}
+
+fn end_of_limit(alloc: Global, most: u32) -> Result<End, Memory>
+    ensures { IfOk result (λ e. end_view e ≡ told 6 (limit_line most)) }
+{
+    let line = format!(in alloc; "limit facts {most}\n")?;
+    Ok(End::Told(6, Text::from_string(line)))
+}
+
+// 0 for a plan, 1 for a refusal.
+fn status_of(outcome: &Outcome) -> u8
+    ensures { result ≡ (shown_for (resolution_of (outcome_view outcome.now))).status }
+{
+    match outcome {
+        Outcome::Planned(_, _) => 0,
+        Outcome::Refused(_, _) => 1,
+        Outcome::Early(_) => 1,
+    }
+}
+
+fn end_of_outcome(alloc: Global, outcome: &Outcome) -> Result<End, Memory>
+    ensures { IfOk result
+        (λ e. end_view e ≡ shown_for (resolution_of (outcome_view outcome.now))) }
+{
+    let report = report_bytes(alloc, outcome)?;
+    Ok(End::Printed(status_of(outcome), report))
+}
+
+fn end_of_stop(alloc: Global, project: &Project, stop: Stop<CloseFault>) -> End
+    ensures { EndsWith (shown_of project.now (Err stop)) (end_view result) }
 {
     match stop {
-        PlanStop::Refused(refusal) => refused(alloc, &refusal),
-        PlanStop::TreeFailed => End::TreeFailed,
-        PlanStop::Memory => End::Memory,
+        Stop::Fault(_) => or_memory(end_of_limit(alloc, project.max_facts)),
+        Stop::Failed => End::TreeFailed,
+        Stop::Memory(_) => End::Memory,
     }
 }
 
-fn end_of_report(alloc: Global, report: Result<Text, PlanStop>) -> End
-    ensures fits { (triplet : List ℕ) (read : Result (List Item) Refused) → Gives (λ t. t)
-        refused_of report (reported triplet read) → EndFits result (report_of triplet read) }
-    ensures failed { end_failed result ≡ has_tree_failed report }
-    ensures plan { IsOfPlan result }
+fn end_of_resolved(
+    alloc: Global,
+    project: &Project,
+    outcome: Result<Outcome, Stop<CloseFault>>,
+) -> End
+    ensures { EndsWith (shown_of project.now outcome) (end_view result) }
 {
-    match report {
-        Ok(report) => End::Planned(report),
-        Err(stop) => end_of_stop(alloc, stop),
+    match outcome {
+        Ok(outcome) => or_memory(end_of_outcome(alloc, &outcome)),
+        Err(stop) => end_of_stop(alloc, project, stop),
     }
 }
 
-fn end_of_plan<T: Tree>(alloc: Global, request: &Request, tree: T) -> Ended<T>
-    ensures only { OnlyReadOnce [] (end_failed result.end) (T.state tree) (T.state result.tree) }
-    ensures content { IfSome (T.state tree).told
-        (λ t. EndFits result.end
-        (report_of request.now.triplet (plan_of (project_of (request_view request.now)) t.files))) }
-    ensures plan { IsOfPlan result.end }
+fn end_of_plan<T: Tree>(alloc: Global, project: &Project, tree: T) -> Ended<T>
+    ensures { EndsAs (Ok project.now) (end_view result.end) (T.state tree)
+        (T.state result.tree) }
 {
-    let Planned { report, tree } = plan(alloc, request, tree);
+    let Resolution { outcome, tree } = resolved(alloc, project, tree);
     Ended {
-        end: end_of_report(alloc, report),
+        end: end_of_resolved(alloc, project, outcome),
         tree,
     }
 }
 
-fn end_of_words(unread: Unread<WordsFault>) -> End
-    ensures told { result ≡ end_of_words unread }
-    ensures calm { end_failed result ≡ false }
+fn end_of_words(alloc: Global, unread: Unread<WordFault>) -> End
+    ensures { WordsEnd unread (end_view result) }
 {
     match unread {
-        Unread::Fault(_) => End::Form,
+        Unread::Fault(fault) => or_memory(end_of_fault(alloc, fault)),
         Unread::Memory(_) => End::Memory,
     }
 }
 
-#[tactic(auto, using(crate::proofs::PlanLemmas::not_read))]
 fn end_of<T: Tree>(alloc: Global, words: &List<Word>, tree: T) -> Ended<T>
-    ensures { EndsAs (words_view words.now) result.end (T.state tree) (T.state result.tree) }
+    requires { length words.now < 2 ^ 32 }
+    ensures { EndsAs (request_of (words_view words.now)) (end_view result.end) (T.state tree)
+        (T.state result.tree) }
 {
     match read_request(alloc, words) {
-        Ok(request) => end_of_plan(alloc, &request, tree),
+        Ok(project) => end_of_plan(alloc, &project, tree),
         Err(unread) => Ended {
-            end: end_of_words(unread),
+            end: end_of_words(alloc, unread),
             tree,
         },
     }
 }
 
 /// Does what the words ask for, over a tree that is moved in and handed back: `plan` prints the
-/// plan of the project in the working folder, or its refusal, on `out`. Other ends have a line on
-/// `err`: 2 for a malformed command line, 3 when out of memory, 4 where a call of the tree failed,
-/// 5 where a sink stopped.
+/// report of the project on `out`, its plan with the reasons or the faults that stand. Other ends
+/// have a line on `err`: 2 for a malformed command line, 3 when out of memory, 4 where a call of
+/// the tree failed, 5 where a sink stopped, 6 where more is required than the words allow.
 pub fn run<T: Tree, O: Sink, E: Sink>(
     alloc: Global,
     words: &List<Word>,
@@ -127,32 +150,9 @@ pub fn run<T: Tree, O: Sink, E: Sink>(
     err: &mut E,
 ) -> Ran<T>
     requires { length words.now < 2 ^ 32 }
-    // Where the files are told and nothing outside failed, status and bytes are the answer.
-    ensures answers { Answers (words_view words.now) result.status
+    ensures { RunsAs (request_of (words_view words.now)) result.status
         (record { tree = T.state tree; out = O.state out.old; err = E.state err.old })
         (record { tree = T.state result.tree; out = O.state out.new; err = E.state err.new }) }
-    // Where nothing can fail, nothing but out of memory stands in its place.
-    ensures completes { Completes (words_view words.now) result.status
-        (record { tree = T.state tree; out = O.state out.old; err = E.state err.old })
-        (record { tree = T.state result.tree; out = O.state out.new; err = E.state err.new }) }
-    // 4 and 5 come only where a count may have increased, and a count that rose is told.
-    ensures causes { HasCauses result.status
-        (record { tree = T.state tree; out = O.state out.old; err = E.state err.old })
-        (record { tree = T.state result.tree; out = O.state out.new; err = E.state err.new }) }
-    // 2 comes for a malformed command line alone, and then nothing was read.
-    ensures words { JudgesWords (words_view words.now) result.status
-        (record { tree = T.state tree; out = O.state out.old; err = E.state err.old })
-        (record { tree = T.state result.tree; out = O.state out.new; err = E.state err.new }) }
-    // What the sinks took under every status.
-    ensures out { KeepsOut (words_view words.now) result.status
-        (record { tree = T.state tree; out = O.state out.old; err = E.state err.old })
-        (record { tree = T.state result.tree; out = O.state out.new; err = E.state err.new }) }
-    ensures err { TellsLine result.status
-        (record { tree = T.state tree; out = O.state out.old; err = E.state err.old })
-        (record { tree = T.state result.tree; out = O.state out.new; err = E.state err.new }) }
-    // The tree was only read, and no path was asked for twice.
-    ensures once { IsReadOnce (T.state tree) (T.state result.tree) }
-    ensures small { result.status ≤ 5 }
 {
     let Ended { end, tree } = end_of(alloc, words, tree);
     let status = tell(&end, out, err);

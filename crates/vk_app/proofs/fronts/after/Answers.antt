@@ -1,5 +1,0 @@
-use Rattle.vk_spec.proofs.FrontLemmas.{strip_is}
-use Rattle.vk_app.proofs.fronts.after.Goals as goal
-
-pub returns : goal.returns
-returns c = strip_is c.args.front.now c.args.text.now c.strip_prefix.result c.strip_prefix.ensures.cases
