@@ -114,10 +114,14 @@ def system_calls(command, folder):
             if len(row) in (5, 6) and row[3].isdigit() and row[-1] != "total"}
 
 
-def crate_of(symbol, file):
-    """The crate that a function is of, else the file that has it."""
-    found = re.match(r"(?:_?Rattle[._-])?([a-z][a-z0-9_]*)(?:::|\.|-)", symbol)
-    return found.group(1) if found else os.path.basename(file).strip("[]")
+def crate_of(symbol, file, program):
+    """The crate of a function of the program, else the library or the kernel that has it."""
+    file = os.path.basename(file)
+    if file.startswith("[kernel"):
+        return "kernel"
+    if file == program and "::" in symbol:
+        return symbol.split("::")[0]
+    return file
 
 
 def profile(command, folder):
@@ -130,12 +134,12 @@ def profile(command, folder):
         run_once(record, folder)
         script = ["perf", "script", "-i", data.name, "-F", "comm,ip,sym,dso"]
         lines = subprocess.run(script, capture_output=True, text=True, check=False).stdout
-    program = os.path.basename(command[0])[:15]
+    program = os.path.basename(command[0])
     for line in lines.splitlines():
         found = re.match(r"\s*(\S+)\s+[0-9a-f]+ (.+) \((.*)\)$", line)
-        if found and found.group(1) == program:
-            crates[crate_of(found.group(2), found.group(3))] += 1
-            functions[found.group(2)] += 1
+        if found and found.group(1) == program[:15]:
+            crates[crate_of(found.group(2), found.group(3), program)] += 1
+            functions[found.group(2).split("::<")[0]] += 1
     return crates, functions
 
 
@@ -218,7 +222,10 @@ def print_profile(names, profiles):
         shares = []
         for own in profiles:
             total = sum(own[place].values()) or 1
-            shares.append({kind[:70]: 100 * count / total for kind, count in own[place].items()})
+            share = collections.Counter()
+            for kind, count in own[place].items():
+                share[kind[:70]] += 100 * count / total
+            shares.append(share)
         print_counts(head, names, shares, PARTS_SHOWN, lambda share: f"{share:.1f} %")
 
 
