@@ -11,11 +11,11 @@ import sys
 from pathlib import Path
 
 TOP = Path(__file__).resolve().parent.parent / "crates"
-HEAD = re.compile(r"^(?:abbrev |unfoldable |infixl? .*|infixr? .*)?(?:pub )?(?:record|data)? ?([^\s(:{]+)")
 IMPORT = re.compile(r"^use Rattle\.(vk_\w+)\.specs\.(\w+)(?: as (\w+)|\.\{(.*)\})")
 
 
 def words(text):
+    """What a text cites: names, also those behind an alias and a dot."""
     return set(re.findall(r"[^\s(){}\[\],;.∷λ]+", text)) | set(re.findall(r"[^\s(){}\[\],;]+", text))
 
 
