@@ -11,11 +11,11 @@ use Rattle.vk_model.specs.declared.facts.Fact as code
 use Rattle.vk_model.specs.FactViews.{fact_view}
 use Rattle.vk_close.specs.Steps.{falls_away, reason_on, asked_on}
 
--- a fact that doesn't fall away
-pub asked_kept : (o : Option Pages) (overrides : List Override) (line : ℕ) (x : Fact) (falls : Bool) (old new : List Reason) → falls ≡ false → IfSome o (λ pages. falls ≡ falls_away overrides pages x)
-    → new ≡ old ++ reason_on line x ∷ [] → IfSome o (λ pages. new ≡ old ++ asked_on overrides pages line x)
-asked_kept None overrides line x falls old new kept is pushed = tt
-asked_kept (Some pages) overrides line x falls old new kept is pushed = pushed ∙ ap (λ b. old ++ cond b [] (reason_on line x ∷ [])) (sym kept ∙ is)
+-- a fact is pushed unless it falls away
+pub asked_unless : (o : Option Pages) (overrides : List Override) (line : ℕ) (x : Fact) (falls : Bool) (old new : List Reason) → IfSome o (λ pages. falls ≡ falls_away overrides pages x)
+    → new ≡ old ++ cond falls [] (reason_on line x ∷ []) → IfSome o (λ pages. new ≡ old ++ asked_on overrides pages line x)
+asked_unless None overrides line x falls old new is pushed = tt
+asked_unless (Some pages) overrides line x falls old new is pushed = pushed ∙ ap (λ b. old ++ cond b [] (reason_on line x ∷ [])) is
 
 push_flat : {X Y Z : Type 0} (f : Y → List Z) (view : X → Y) (xs : List X) (x : X) → flat_map f (map view (xs ++ x ∷ [])) ≡ flat_map f (map view xs) ++ f (view x)
 push_flat f view xs x = ap (flat_map f) (map-append view xs (x ∷ [])) ∙ flat_map-append f (map view xs) (view x ∷ []) ∙ ap (λ l. flat_map f (map view xs) ++ l) (append-nil (f (view x)))

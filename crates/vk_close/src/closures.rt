@@ -15,6 +15,7 @@ ghost use Rattle.vk_model.specs.FaultViews.{closure_view, faults_view};
 ghost use Rattle.vk_model.specs.SettingViews.{setting_view};
 ghost use Rattle.vk_worklist.specs.Entries.{AreRoots, facts_in, reasons_in};
 ghost use Rattle.vk_worklist.specs.Faults.{OnFault};
+ghost use Rattle.vk_worklist.specs.Rows.{HasLines};
 ghost use Rattle.vk_worklist.specs.Ticks.{ticks};
 ghost use Rattle.vk_close.specs.Kept.{HasNoTrouble, Tracks};
 
@@ -70,19 +71,32 @@ struct Closed {
     clean: bool,
 }
 
-// Closes the worklist of the root facts, by an asker that asked nothing yet.
+// The source of a setting, which has taken up nothing yet.
+fn source_of<'a>(alloc: Global, setting: &'a Setting) -> Result<Joins<PageAsker<'a>>, Memory>
+    ensures setting { IfOk result (λ s. s.asker.setting.now ≡ setting.now) }
+    ensures tracks { IfOk result (λ s. (pages : Pages) → Tracks s.asker pages []) }
+    ensures rows { IfOk result (λ s. (pages : Pages) →
+        HasLines (inputs_of (setting_view s.asker.setting.now) pages) s.ports.entries []) }
+{
+    Ok(Joins::new(alloc, PageAsker::new(alloc, setting)?))
+}
+
+// Closes the worklist of the root facts, by a source that has taken up nothing yet.
 fn close_by<C: Catalogue, L: Ledger>(
     alloc: Global,
     cat: &mut C,
     setting: &Setting,
     most: u32,
-    asker: PageAsker<'_>,
+    source: &mut Joins<PageAsker<'_>>,
     given: Vec<(Fact, Cause)>,
     steps: &mut Steps<L>,
 ) -> Result<Closed, Stop<CloseFault>>
     requires limit { setting.now.max_facts ≡ most }
-    requires setting { asker.setting.now ≡ setting.now }
-    requires tracks { (pages : Pages) → Tracks asker pages [] }
+    requires setting { source.old.asker.setting.now ≡ setting.now }
+    requires tracks { (pages : Pages) → Tracks source.old.asker pages [] }
+    requires rows { (pages : Pages) →
+        HasLines (inputs_of (setting_view source.old.asker.setting.now) pages)
+        source.old.ports.entries [] }
     requires roots { AreRoots (setting_view setting.now) (reasons_in given.items) }
     ensures reasons { IfOk result (λ c. OnPages
         (λ pages. IsReasons (inputs_of (setting_view setting.now) pages)
@@ -100,8 +114,7 @@ fn close_by<C: Catalogue, L: Ledger>(
     ensures most { steps.new ≤ steps.old + setting.now.max_facts }
     ensures asked { OnlyAsked (has_failed result) (C.state cat.old) (C.state cat.new) }
 {
-    let mut source = Joins::new(alloc, asker);
-    let lines = close_from(alloc, cat, &mut source, given, most, steps)?;
+    let lines = close_from(alloc, cat, source, given, most, steps)?;
     Ok(Closed {
         lines,
         clean: source.asker.is_clean(),
@@ -131,9 +144,17 @@ fn close_setting<C: Catalogue, L: Ledger>(
     ensures most { steps.new ≤ steps.old + setting.now.max_facts }
     ensures asked { OnlyAsked (has_failed result) (C.state cat.old) (C.state cat.new) }
 {
-    let asker = PageAsker::new(alloc, setting)?;
     let given = roots(alloc, setting)?;
-    close_by(alloc, cat, setting, setting.max_facts, asker, given, steps)
+    let mut source = source_of(alloc, setting)?;
+    close_by(
+        alloc,
+        cat,
+        setting,
+        setting.max_facts,
+        &mut source,
+        given,
+        steps,
+    )
 }
 
 // The closure of a worklist that is closed: its reasons, and what is wrong.

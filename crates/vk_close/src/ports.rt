@@ -1,5 +1,6 @@
 //! What is known of the ports that were asked about: each is asked about once.
-ghost use Rattle.std.specs.Prelude.{◌≡◌, IsSome, Some, OnOk, bytes_eq, map};
+ghost use Rattle.std.specs.Prelude.{◌≡◌, ℕ, List, IsSome, Some, OnOk, bytes_eq, map};
+ghost use Rattle.std.specs.Prelude.{if◌then◌else◌};
 ghost use Rattle.std.specs.Map.{lookup};
 ghost use Rattle.vk_spec.specs.Catalogues.{OnlyAsked, OnPages};
 ghost use Rattle.vk_base.specs.Stops.{was_out};
@@ -10,8 +11,30 @@ use crate::known::{Known, ask_port};
 use crate::names::copy_of;
 use crate::pins::Overrides;
 use indexmap::IndexMap;
-use vk_base::{Outage, PortName};
+use vk_base::{Memory, Outage, PortName};
 use vk_catalogue::Catalogue;
+
+fn put(ports: &mut IndexMap<PortName, Known>, key: PortName, known: Known) -> Result<(), Memory>
+    ensures { OnOk result ((p : List ℕ) → lookup (bytes_eq p) ports.new.entries
+        ≡ (if bytes_eq key p then Some known else lookup (bytes_eq p) ports.old.entries)) }
+{
+    ports.insert(key, known)?;
+    Ok(())
+}
+
+// Keeps what is known of a port.
+fn keep(ports: &mut IndexMap<PortName, Known>, port: &PortName, known: Known) -> Result<(), Memory>
+    ensures { OnOk result ((p : List ℕ) → lookup (bytes_eq p) ports.new.entries
+        ≡ (if bytes_eq port.now p then Some known else lookup (bytes_eq p) ports.old.entries)) }
+{
+    match copy_of(port) {
+        Ok(key) => put(ports, key, known),
+        Err(memory) => {
+            drop(known);
+            Err(memory)
+        }
+    }
+}
 
 // Asks about a port of which nothing is known yet.
 fn ask_new<C: Catalogue>(
@@ -29,9 +52,8 @@ fn ask_new<C: Catalogue>(
         (λ pages. AreKnown (map override_view overrides.now) pages ports.new.entries)
         (C.state cat.old)) }
 {
-    let key = copy_of(port)?;
     let known = ask_port(overrides, cat, port)?;
-    ports.insert(key, known)?;
+    keep(ports, port, known)?;
     Ok(())
 }
 

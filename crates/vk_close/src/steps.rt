@@ -1,6 +1,6 @@
 //! What a manifest, or a need, brings up on a line.
 ghost use Rattle.std.specs.Prelude.{◌≡◌, ◌++◌, ◌∷◌, [], IfOk, OnOk, Some, flat_map, map};
-ghost use Rattle.std.specs.Prelude.{option_map};
+ghost use Rattle.std.specs.Prelude.{option_map, if◌then◌else◌};
 ghost use Rattle.vk_spec.specs.Catalogues.{OnlyAsked, OnPages};
 ghost use Rattle.vk_spec.specs.Pages.{is_pinned_by};
 ghost use Rattle.vk_base.specs.Stops.{was_out};
@@ -85,6 +85,22 @@ fn push_reason(fact: Fact, line: u32, brought: &mut Vec<(Fact, Cause)>) -> Resul
     Ok(())
 }
 
+fn push_unless(
+    falls: bool,
+    fact: Fact,
+    line: u32,
+    brought: &mut Vec<(Fact, Cause)>,
+) -> Result<(), Memory>
+    ensures { OnOk result (reasons_in brought.new.items ≡ reasons_in brought.old.items
+        ++ (if falls then [] else reason_on line (fact_view fact) ∷ [])) }
+{
+    if falls {
+        drop(fact);
+        return Ok(());
+    }
+    push_reason(fact, line, brought)
+}
+
 // Adds what a manifest asks for, unless it falls away.
 fn push_asked<C: Catalogue>(
     overrides: &Overrides<'_>,
@@ -106,11 +122,13 @@ fn push_asked<C: Catalogue>(
         ++ asked_on (map override_view overrides.now) pages line (fact_view fact))
         (C.state cat.old)) }
 {
-    if falls_away(overrides, ports, cat, &fact)? {
-        return Ok(());
+    match falls_away(overrides, ports, cat, &fact) {
+        Ok(falls) => Ok(push_unless(falls, fact, line, brought)?),
+        Err(outage) => {
+            drop(fact);
+            Err(outage)
+        }
     }
-    push_reason(fact, line, brought)?;
-    Ok(())
 }
 
 /// Adds all that a manifest asks for, but for what falls away.

@@ -6,16 +6,29 @@ ghost use Rattle.vk_spec.specs.Pages.{manifest_in, version_in};
 ghost use Rattle.vk_base.specs.Stops.{was_out};
 ghost use Rattle.vk_version.specs.AskViews.{ask_view};
 ghost use Rattle.vk_resolution.specs.Faults.{given_troubles, manifest_troubles};
-ghost use Rattle.vk_model.specs.WrongViews.{given_view};
+ghost use Rattle.vk_resolution.specs.Faults.{lacks_version, wrong_of};
+ghost use Rattle.vk_model.specs.WrongViews.{given_view, wrong_view};
 ghost use Rattle.vk_model.specs.FactViews.{fact_view};
-ghost use Rattle.vk_faults.specs.Troubles.{troubles_in};
+ghost use Rattle.vk_faults.specs.Troubles.{trouble_view, troubles_in};
 ghost use Rattle.vk_faults.specs.Met.{lacking, floor_met, visit_met, met_on};
 
 use crate::troubles::Trouble;
-use vk_base::{Outage, PortName};
+use vk_base::{Memory, Outage, PortName};
 use vk_catalogue::Catalogue;
-use vk_model::{Fact, Given, Who};
+use vk_model::{Fact, Given, Who, Wrong};
 use vk_version::Ask;
+
+fn wrong_trouble(port: &PortName, wrong: Wrong) -> Result<Trouble, Memory>
+    ensures { IfOk result (λ t. trouble_view t ≡ wrong_of port.now (wrong_view wrong)) }
+{
+    match port.clone() {
+        Ok(port) => Ok(Trouble::Wrong { port, wrong }),
+        Err(lack) => {
+            drop(wrong);
+            Err(Memory::from(lack))
+        }
+    }
+}
 
 // What is wrong with a port's given version.
 fn given_trouble<C: Catalogue>(cat: &mut C, port: &PortName) -> Result<Option<Trouble>, Outage>
@@ -25,11 +38,17 @@ fn given_trouble<C: Catalogue>(cat: &mut C, port: &PortName) -> Result<Option<Tr
 {
     match cat.given(port)? {
         Ok(_) => Ok(None),
-        Err(wrong) => Ok(Some(Trouble::Wrong {
-            port: port.clone()?,
-            wrong,
-        })),
+        Err(wrong) => Ok(Some(wrong_trouble(port, wrong)?)),
     }
+}
+
+fn no_version(port: &PortName, ask: &Ask) -> Result<Trouble, Memory>
+    ensures { IfOk result (λ t. trouble_view t ≡ lacks_version port.now (ask_view ask.now)) }
+{
+    Ok(Trouble::NoVersion {
+        port: port.clone()?,
+        ask: ask.clone()?,
+    })
 }
 
 // That the table lacks a version.
@@ -42,10 +61,7 @@ fn lacking<C: Catalogue>(cat: &mut C, port: &PortName, ask: &Ask) -> Result<Opti
 {
     match cat.version(port, ask)? {
         Some(_) => Ok(None),
-        None => Ok(Some(Trouble::NoVersion {
-            port: port.clone()?,
-            ask: ask.clone()?,
-        })),
+        None => Ok(Some(no_version(port, ask)?)),
     }
 }
 
@@ -100,10 +116,7 @@ fn manifest_trouble<C: Catalogue>(
 {
     match cat.manifest(port, ask)? {
         Ok(_) => Ok(None),
-        Err(wrong) => Ok(Some(Trouble::Wrong {
-            port: port.clone()?,
-            wrong,
-        })),
+        Err(wrong) => Ok(Some(wrong_trouble(port, wrong)?)),
     }
 }
 

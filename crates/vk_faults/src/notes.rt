@@ -31,6 +31,7 @@ fn put(notes: &mut Notes, key: Key, trouble: Trouble, line: u32) -> Result<(), M
         (noted notes.old.entries) (noted notes.new.entries)) }
 {
     if notes.contains_key(&key) {
+        drop(key);
         drop(trouble);
         return Ok(());
     }
