@@ -61,8 +61,8 @@ fn take_up<C: Catalogue, L: Ledger>(
     ensures asked { OnlyAsked (was_out result) (C.state cat.old) (C.state cat.new) }
 {
     let Expansion { asked, flaw } = expand(alloc, cat, basis, &planned.needs[place], steps)?;
-    planned.flaws.push(flaw)?;
     link_all(&mut planned.needs, &mut planned.edges, place, asked)?;
+    planned.flaws.push(flaw)?;
     Ok(())
 }
 
