@@ -1,6 +1,6 @@
 -- Items as they are and as contracts see them.
 use Rattle.std.proofs.Common.{◌≡◌, ◌<◌, ℕ, zero, suc, List, [], ◌∷◌, ◌++◌, length, map, take, get_or, inl, inr, refl, ap, sym, ◌∙◌, subst, arith}
-use Rattle.std.specs.Prelude.{Option, Some, slice_get}
+use Rattle.std.specs.Prelude.{Option, Some, slice_get, Result, Ok, Err, IfOk}
 use Rattle.std.specs.List.{Contains}
 use Rattle.std.proofs.lemmas.List.{length-map, take_at}
 use Rattle.std.proofs.lemmas.List.Elements.{Contains-get_or}
@@ -14,9 +14,12 @@ use Rattle.vk_model.specs.SettingViews.{instance_view}
 use Rattle.vk_model.specs.FaultViews.{item_view}
 use Rattle.vk_order.specs.Sets.{AreItems}
 use Rattle.vk_order.specs.Needs.{listed_at, needs_of, ArePlaces}
-use Rattle.vk_order.specs.Ways.{GoesOn, IsFoundWalk}
+use Rattle.vk_order.specs.Peeling.{AreHeights}
+use Rattle.vk_order.specs.Ways.{AreOnNone, GoesOn, IsFoundWalk}
 use Rattle.vk_order.specs.Moves.{IsHeightOrder}
-use Rattle.vk_order.specs.Arranging.{name_at, IsInOrder, IsTold, AreSameBut}
+use Rattle.vk_order.specs.declared.orders.Arrangement.{Arrangement}
+use Rattle.vk_order.specs.declared.orders.Arrangement.TheVariants as arrangement
+use Rattle.vk_order.specs.Arranging.{name_at, ArePlaced, IsArranged, IsInOrder, IsTold, AreSameBut}
 use Rattle.vk_order.proofs.NumberLemmas.{needs_long, below_at}
 use Rattle.vk_order.proofs.EdgeLemmas.{needs_in, need_within, cycle_found}
 use Rattle.vk_order.proofs.OrderedLemmas.{moved_view, ordered}
@@ -99,3 +102,12 @@ module _ (items before : List Item) (order places : List ℕ) (are : AreItems (m
         subst (λ l. IsOrdered (map item_view items) (map item_view l)) (sym put)
         (ordered (map item_view items) are order places (subst (λ l. IsInOrder l order places) (sym (needs_viewed items)) is) (map item_view after) (map item_view moved)
         (subst (λ l. AreSameBut places (map item_view l) (map item_view after)) same but) (moved_view item_view after moved order from))
+
+-- places by height are an arrangement, where nothing is on a cycle
+placed_is : (items : List Item) (heights : List (Option ℕ)) → AreHeights (needs_of items) heights → AreOnNone (needs_of items) heights → (a : Arrangement) → ArePlaced heights a → IsArranged items a
+placed_is items heights are none (arrangement.Order order places) placed = record { heights = heights; are = are; none = none; order_is = placed.0; places_are = placed.1 }
+placed_is items heights are none (arrangement.Cycle walk) placed = absurd placed
+
+pub placed_on : {E : Type 0} (items : List Item) (heights : List (Option ℕ)) → AreHeights (needs_of items) heights → AreOnNone (needs_of items) heights → (result : Result Arrangement E) → IfOk result (ArePlaced heights) → IfOk result (IsArranged items)
+placed_on items heights are none (Ok a) placed = placed_is items heights are none a placed
+placed_on items heights are none (Err e) placed = tt

@@ -28,6 +28,11 @@ pub record IsInOrder (needs : List (List ℕ)) (order places : List ℕ) : Type 
   pub order_is : IsHeightOrder heights order
   pub places_are : AreNewPlaces order places
 
+-- the places by height, and the new place of each, whatever is needed
+abbrev pub ArePlaced : List (Option ℕ) → Arrangement → Type 0
+ArePlaced heights (arrangement.Order order places) = IsHeightOrder heights order.items × AreNewPlaces order.items places.items
+ArePlaced heights (arrangement.Cycle walk) = ⊥
+
 -- the instances of the walk that is found
 pub record IsTold (needs : List (List ℕ)) (names told : List plain.Instance) : Type 0 where
   pub heights : List (Option ℕ)

@@ -5,7 +5,7 @@ ghost use Rattle.vk_resolution.specs.Planning.{IsCycle, order_of};
 ghost use Rattle.vk_resolution.specs.PlannedSets.{IsOrdered, edges_of};
 ghost use Rattle.vk_model.specs.FaultViews.{item_view};
 ghost use Rattle.vk_model.specs.SettingViews.{instance_view};
-ghost use Rattle.vk_order.specs.Arranging.{IsArranged, IsInOrder, name_at};
+ghost use Rattle.vk_order.specs.Arranging.{ArePlaced, IsArranged, IsInOrder, name_at};
 ghost use Rattle.vk_order.specs.Needs.{ArePlaces, needs_of};
 ghost use Rattle.vk_order.specs.Sets.{AreItems, OnCycle};
 
@@ -56,6 +56,16 @@ fn instances_at(alloc: Global, items: &[Item], places: &[u32]) -> Result<List<In
     Ok(told)
 }
 
+// The places by height, and the new place of each.
+fn by_height(alloc: Global, heights: &[Option<u32>]) -> Result<Arrangement, AllocError>
+    requires { length heights.now < 2 ^ 32 }
+    ensures { IfOk result (λ found. ArePlaced heights.now found) }
+{
+    let order = height_order(alloc, heights)?;
+    let places = new_places(alloc, &order)?;
+    Ok(Arrangement::Order(order, places))
+}
+
 // The places by height and then by place, or the cycle that there is.
 fn arrange(alloc: Global, items: &[Item]) -> Result<Arrangement, AllocError>
     requires small { length items.now < 2 ^ 32 }
@@ -64,12 +74,10 @@ fn arrange(alloc: Global, items: &[Item]) -> Result<Arrangement, AllocError>
 {
     let users = users_of(alloc, items)?;
     let heights = heights_of(alloc, items, &users)?;
-    if let Some(walk) = first_walk(alloc, items, &users, &heights)? {
-        return Ok(Arrangement::Cycle(instances_at(alloc, items, &walk)?));
+    match first_walk(alloc, items, &users, &heights)? {
+        Some(walk) => Ok(Arrangement::Cycle(instances_at(alloc, items, &walk)?)),
+        None => by_height(alloc, &heights),
     }
-    let order = height_order(alloc, &heights)?;
-    let places = new_places(alloc, &order)?;
-    Ok(Arrangement::Order(order, places))
 }
 
 // The items in this order, with their needs renumbered.

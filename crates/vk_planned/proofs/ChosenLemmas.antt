@@ -31,6 +31,9 @@ use Rattle.vk_choices.specs.ChoiceViews.{choice_view, choices_view}
 use Rattle.vk_choices.specs.declared.chosen.Choice.{Choice}
 use Rattle.vk_planned.specs.Bases.{inputs_at, facts_at, IsSound}
 use Rattle.vk_planned.specs.Manifests.{asked_by_found, chosen_manifest, judged_by_found, readable}
+use Rattle.vk_rules.specs.Flaws.{flaw_faults}
+use Rattle.vk_rules.specs.declared.flaws.Flaw.{Flaw}
+use Rattle.vk_planned.specs.Flaws.{HasFlaw, flaw_lines}
 use Rattle.vk_planned.specs.Graphs.{asked_by_need}
 use Rattle.vk_planned.specs.declared.bases.Basis.{Basis}
 
@@ -96,18 +99,19 @@ module _ (b : Basis) (pages : Pages) (sound : IsSound b pages) (i : Instance) (f
       chosen_asks choice.version (asked_by_found (inputs_at b pages).setting (inst i) f found) (is_chosen choice some)
       (ap (asked_by_found (inputs_at b pages).setting (inst i) f) is ∙ asked_readable (manifest_in (pages i.port) (ask_of choice.version)))
 
-  found_judged : (choice : Option Choice) (found : Option (Manifest Condition)) (n : ℕ) → lookup (bytes_eq i.port) b.choices.now.ports.entries ≡ choice → found ≡ option_and_then (λ c. readable (manifest_in (pages i.port) (ask_of c.version))) choice
-      → ((v : Option Version) → judged_by_found (inputs_at b pages).setting (inst i) f v found n ≡ []) → judged_need (inputs_at b pages) (facts_at b) (need (inst i) f) n ≡ []
-  found_judged None found n none is right = absurd (not_chosen none)
-  found_judged (Some choice) found n some is right =
+  found_judged : (choice : Option Choice) (found : Option (Manifest Condition)) (flaw : Option Flaw) (n : ℕ) → lookup (bytes_eq i.port) b.choices.now.ports.entries ≡ choice → found ≡ option_and_then (λ c. readable (manifest_in (pages i.port) (ask_of c.version))) choice
+      → ((v : Option Version) → judged_by_found (inputs_at b pages).setting (inst i) f v found n ≡ flaw_faults (inst i) f v n flaw) → judged_need (inputs_at b pages) (facts_at b) (need (inst i) f) n ≡ flaw_lines (inputs_at b pages) (facts_at b) (need (inst i) f) flaw n
+  found_judged None found flaw n none is right = absurd (not_chosen none)
+  found_judged (Some choice) found flaw n some is right =
       ap (λ o. judged_chosen (inputs_at b pages) i f o n) (is_chosen choice some) ∙ judged_readable choice.version (manifest_in (pages i.port) (ask_of choice.version)) n
       ∙ ap (λ m. judged_by_found (inputs_at b pages).setting (inst i) f (Some choice.version) m n) (sym is) ∙ right (Some choice.version)
+      ∙ ap (λ o. flaw_faults (inst i) f o n flaw) (sym (is_chosen choice some))
 
   pub asks_by : (found : Option (Manifest Condition)) → found ≡ chosen_manifest pages b.choices.now.ports.entries i.port → filter is_need (asked_by_found (inputs_at b pages).setting (inst i) f found) ≡ asked_by_need (inputs_at b pages) (facts_at b) (need (inst i) f)
   asks_by found is = found_asks (lookup (bytes_eq i.port) b.choices.now.ports.entries) found refl is
 
-  pub judged_by : (found : Option (Manifest Condition)) (n : ℕ) → found ≡ chosen_manifest pages b.choices.now.ports.entries i.port → ((v : Option Version) → judged_by_found (inputs_at b pages).setting (inst i) f v found n ≡ []) → judged_need (inputs_at b pages) (facts_at b) (need (inst i) f) n ≡ []
-  judged_by found n is right = found_judged (lookup (bytes_eq i.port) b.choices.now.ports.entries) found n refl is right
+  pub judged_by : (found : Option (Manifest Condition)) (flaw : Option Flaw) → found ≡ chosen_manifest pages b.choices.now.ports.entries i.port → ((v : Option Version) (n : ℕ) → judged_by_found (inputs_at b pages).setting (inst i) f v found n ≡ flaw_faults (inst i) f v n flaw) → HasFlaw (inputs_at b pages) (facts_at b) (need (inst i) f) flaw
+  judged_by found flaw is right n = found_judged (lookup (bytes_eq i.port) b.choices.now.ports.entries) found flaw n refl is (λ v. right v n)
 
 -- the same where the pages may not be told
 module _ (b : Basis) (w : Who) (i : Instance) (f : List ℕ) (who : w ≡ inst i) where
@@ -123,11 +127,10 @@ module _ (b : Basis) (w : Who) (i : Instance) (f : List ℕ) (who : w ≡ inst i
         ap (filter is_need) (is ∙ ap (λ t. asked_by_found t w f found) ruled ∙ ap (λ z. asked_by_found (setting_view b.setting.now) z f found) who)
         ∙ asks_by b pages sound i f (subst (λ z. Contains (facts_at b) (need z f)) who needed) found at ∙ ap (λ z. asked_by_need (inputs_at b pages) (facts_at b) (need z f)) (sym who)
 
-    pub may_judge : (clean : Bool) (o : Option Pages) → (clean ≡ true → (v : Option Version) (n : ℕ) → judged_by_found s w f v found n ≡ []) → IfSome o (IsSound b) → IfSome o (λ pages. Contains (facts_at b) (need w f)) → IfSome o (λ pages. found ≡ chosen_manifest pages b.choices.now.ports.entries i.port)
-        → IfSome o (λ pages. clean ≡ true → (n : ℕ) → judged_need (inputs_at b pages) (facts_at b) (need w f) n ≡ [])
-    may_judge clean None right sound needed at = tt
-    may_judge clean (Some pages) right sound needed at = λ is_clean n. (
-        ap (λ z. judged_need (inputs_at b pages) (facts_at b) (need z f) n) who
-        ∙ judged_by b pages sound i f (subst (λ z. Contains (facts_at b) (need z f)) who needed) found n at
-        (λ v. ap (λ t. judged_by_found t (inst i) f v found n) (sym ruled) ∙ ap (λ z. judged_by_found s z f v found n) (sym who) ∙ right is_clean v n)
-        )
+    pub may_judge : (flaw : Option Flaw) (o : Option Pages) → ((v : Option Version) (n : ℕ) → judged_by_found s w f v found n ≡ flaw_faults w f v n flaw) → IfSome o (IsSound b) → IfSome o (λ pages. Contains (facts_at b) (need w f)) → IfSome o (λ pages. found ≡ chosen_manifest pages b.choices.now.ports.entries i.port)
+        → IfSome o (λ pages. HasFlaw (inputs_at b pages) (facts_at b) (need w f) flaw)
+    may_judge flaw None right sound needed at = tt
+    may_judge flaw (Some pages) right sound needed at =
+        subst (λ z. HasFlaw (inputs_at b pages) (facts_at b) (need z f) flaw) (sym who)
+        (judged_by b pages sound i f (subst (λ z. Contains (facts_at b) (need z f)) who needed) found flaw at
+        (λ v n. ap (λ t. judged_by_found t (inst i) f v found n) (sym ruled) ∙ ap (λ z. judged_by_found s z f v found n) (sym who) ∙ right v n ∙ ap (λ z. flaw_faults z f v n flaw) who))

@@ -1,7 +1,8 @@
 -- Needs that are taken up: the first, one more, and what they are when all are.
-use Rattle.std.proofs.Common.{◌≡◌, ◌<◌, ◌+◌, ◌⊎◌, ℕ, zero, suc, Bool, true, false, List, [], length, inl, inr, refl, ap, sym, ◌∙◌, subst, arith}
+use Rattle.std.proofs.Common.{◌≡◌, ◌<◌, ◌+◌, ◌⊎◌, ℕ, zero, suc, true, false, List, [], ◌∷◌, ◌++◌, length, inl, inr, refl, ap, sym, ◌∙◌, subst, arith}
 use Rattle.std.specs.Prelude.{Option, Some, None, slice_get}
 use Rattle.std.specs.List.{Contains}
+use Rattle.std.proofs.lemmas.List.{length_push}
 use Rattle.std.proofs.lemmas.Option.{slice_get_within, slice_get-get_or}
 use Rattle.vk_spec.specs.Settings.{Instance}
 use Rattle.vk_spec.specs.Versions.{Version, ask_of}
@@ -10,13 +11,14 @@ use Rattle.vk_resolution.specs.Settings.{root, inst, first_features_of}
 use Rattle.vk_resolution.specs.Asking.{Fact, need, floor, visit, asked_of, root_facts_of}
 use Rattle.vk_resolution.specs.Choices.{chosen_of}
 use Rattle.vk_resolution.specs.Consequences.{Inputs, asked_at}
-use Rattle.vk_resolution.specs.Faults.{judged_need}
 use Rattle.vk_resolution.specs.Least.{from_one, IsClosed}
 use Rattle.vk_resolution.specs.Planning.{is_need, visit_of, planned_from, planned_rules_of}
 use Rattle.vk_resolution.specs.Worklist.{Notes}
 use Rattle.vk_resolution.proofs.Members.{contains_filter, contains_map, contains_single}
 use Rattle.vk_resolution.proofs.Uniqueness.{get_contains}
 use Rattle.vk_planned.specs.Followed.{Leads, IsFollowed}
+use Rattle.vk_rules.specs.declared.flaws.Flaw.{Flaw}
+use Rattle.vk_planned.specs.Flaws.{HasFlaw, flaw_in}
 use Rattle.vk_planned.specs.Graphs.{asked_by_need}
 use Rattle.vk_planned.specs.Links.{Links}
 use Rattle.vk_planned.proofs.LinkLemmas.{stays_at, stood_at}
@@ -29,6 +31,15 @@ lower zero zero below = inr refl
 lower zero (suc n) below = inl (omega arith)
 lower (suc m) zero below = absurd (omega arith)
 lower (suc m) (suc n) below = elim (lower m n (omega arith)) [ inl less ↦ inl (omega arith) | inr same ↦ inr (ap suc same) ]
+
+got_before : {X : Type 0} (xs : List X) (y : X) (m : ℕ) → m < length xs → slice_get (xs ++ y ∷ []) m ≡ slice_get xs m
+got_before [] y m below = absurd (omega arith)
+got_before (x ∷ xs) y zero below = refl
+got_before (x ∷ xs) y (suc m) below = got_before xs y m (omega arith)
+
+got_last : {X : Type 0} (xs : List X) (y : X) → slice_get (xs ++ y ∷ []) (length xs) ≡ Some y
+got_last [] y = refl
+got_last (x ∷ xs) y = got_last xs y
 
 module _ (inputs : Inputs) (facts : List Fact) where
   -- a visit is no need
@@ -60,7 +71,7 @@ module _ (inputs : Inputs) (facts : List Fact) where
   asks_closed other closed (visit i f a) x at h = absurd (contains_nothing x h)
 
   -- none is taken up
-  pub followed_first : (needs : List Fact) → Notes [] (root_facts_of inputs.setting) [] needs → IsFollowed inputs facts 0 needs [] true
+  pub followed_first : (needs : List Fact) → Notes [] (root_facts_of inputs.setting) [] needs → IsFollowed inputs facts 0 needs [] []
   followed_first needs notes = record {
     roots = λ x h. elim (notes.complete x h) [ inl none ↦ absurd (contains_nothing x none) | inr put ↦ put ];
     distinct = notes.distinct tt;
@@ -71,11 +82,12 @@ module _ (inputs : Inputs) (facts : List Fact) where
     ];
     lead = λ e h. absurd (contains_nothing e h);
     complete = λ m x y below. absurd (omega arith);
-    judged = λ clean m x below. absurd (omega arith);
+    long = refl;
+    judged = λ m x below. absurd (omega arith);
   }
 
   -- one need more
-  module _ (n : ℕ) (needs new : List Fact) (edges after : List (ℕ × ℕ)) (clean : Bool) (was : IsFollowed inputs facts n needs edges clean) (a : Fact) (here : slice_get needs n ≡ Some a) (links : Links n (asked_by_need inputs facts a) needs new edges after) where
+  module _ (n : ℕ) (needs new : List Fact) (edges after : List (ℕ × ℕ)) (flaws : List (Option Flaw)) (was : IsFollowed inputs facts n needs edges flaws) (a : Fact) (here : slice_get needs n ≡ Some a) (links : Links n (asked_by_need inputs facts a) needs new edges after) where
     on : (m : ℕ) (x : Fact) → slice_get needs m ≡ Some x → slice_get new m ≡ Some x
     on m x e = subst (λ l. slice_get l m ≡ Some x) (sym links.kept) (stays_at needs links.more m x e)
 
@@ -90,8 +102,8 @@ module _ (inputs : Inputs) (facts : List Fact) where
     led : (e : ℕ × ℕ) → Leads inputs facts n needs e → Leads inputs facts (n + 1) new e
     led e lead = record { taken = (let low : e.0 < n = lead.taken in omega arith); from = lead.from; to = lead.to; at = on e.0 lead.from lead.at; other = on e.1 lead.to lead.other; asks = lead.asks }
 
-    pub followed_next : (c : Bool) → (c ≡ true → clean ≡ true) → (c ≡ true → (line : ℕ) → judged_need inputs facts a line ≡ []) → IsFollowed inputs facts (n + 1) new after c
-    followed_next c clear judged = record {
+    pub followed_next : (flaw : Option Flaw) → HasFlaw inputs facts a flaw → IsFollowed inputs facts (n + 1) new after (flaws ++ flaw ∷ [])
+    followed_next flaw has = record {
       roots = λ x h. links.notes.kept x (was.roots x h);
       distinct = links.notes.distinct was.distinct;
       within = λ other closed x h. elim (links.notes.sound x h) [
@@ -117,8 +129,15 @@ module _ (inputs : Inputs) (facts : List Fact) where
             (r.0, r.1, subst (λ k. Contains after (k, r.0)) (sym same) r.2)
             )
       ];
-      judged = λ is_clean m x below at line. elim (lower m n below) [
-        | inl less ↦ was.judged (clear is_clean) m x less (back m x below at) line
-        | inr same ↦ subst (λ z. judged_need inputs facts z line ≡ []) (sym (is_here m x same (back m x below at))) (judged is_clean line)
+      long = length_push flaws flaw ∙ ap (λ k. k + 1) was.long;
+      judged = λ m x below at. elim (lower m n below) [
+        | inl less ↦ (
+            let old : m < length flaws = subst (λ k. m < k) (sym was.long) less in
+            subst (λ o. HasFlaw inputs facts x (flaw_in o)) (sym (got_before flaws flaw m old)) (was.judged m x less (back m x below at))
+            )
+        | inr same ↦ (
+            let end : slice_get (flaws ++ flaw ∷ []) m ≡ Some flaw = ap (slice_get (flaws ++ flaw ∷ [])) (same ∙ sym was.long) ∙ got_last flaws flaw in
+            subst (λ o. HasFlaw inputs facts x (flaw_in o)) (sym end) (subst (λ z. HasFlaw inputs facts z flaw) (sym (is_here m x same (back m x below at))) has)
+            )
       ];
     }

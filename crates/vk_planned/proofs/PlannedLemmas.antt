@@ -1,6 +1,6 @@
 -- Needs that are all taken up: they are those that are planned, and what is told of them.
 use Rattle.std.proofs.Common.{◌≡◌, ◌≤◌, ℕ, Bool, true, false, List, [], ◌∷◌, ◌++◌, length, map, inl, inr, refl, ap, sym, ◌∙◌, subst, arith}
-use Rattle.std.specs.Prelude.{Option, Some, None, flat_map, filter, option_to_list}
+use Rattle.std.specs.Prelude.{Option, Some, None, flat_map, filter}
 use Rattle.std.specs.List.{Contains}
 use Rattle.std.proofs.lemmas.List.{length-map}
 use Rattle.std.proofs.lemmas.List.Elements.{Contains-append_left, Contains-append_right, Contains-append_cases}
@@ -10,24 +10,23 @@ use Rattle.vk_spec.specs.Settings.{Instance}
 use Rattle.vk_spec.specs.Versions.{Version, ask_of}
 use Rattle.vk_spec.proofs.ListLemmas.{contains_nothing, contains_first, contains_later, contains-flat_map, flat_map-contains}
 use Rattle.vk_resolution.specs.Settings.{root, inst}
-use Rattle.vk_resolution.specs.Asking.{Fact, need, floor, visit, is_among}
+use Rattle.vk_resolution.specs.Asking.{Fact, need, floor, visit}
 use Rattle.vk_resolution.specs.Choices.{chosen_of}
 use Rattle.vk_resolution.specs.Consequences.{Inputs}
-use Rattle.vk_resolution.specs.Faults.{judged_need, judged_on_line, third_faults_of}
 use Rattle.vk_resolution.specs.Least.{FollowsFrom, from_one, from_two, IsClosed}
 use Rattle.vk_resolution.specs.Planning.{is_need, visit_of, planned_from, planned_rules_of, IsPlanned}
 use Rattle.vk_resolution.specs.Laws.{StaysWithin}
-use Rattle.vk_resolution.specs.Reasons.{line_of}
-use Rattle.vk_resolution.proofs.FactLemmas.{among_contains}
 use Rattle.vk_resolution.proofs.LeastLemmas.{no_longer}
-use Rattle.vk_resolution.proofs.Members.{contains_filter, filter_contains, contains_map, empty_is}
+use Rattle.vk_resolution.proofs.Members.{contains_filter, filter_contains, contains_map}
 use Rattle.vk_resolution.proofs.Uniqueness.{get_contains}
 use Rattle.vk_worklist.specs.Ticks.{ticks}
 use Rattle.vk_planned.specs.Followed.{IsFollowed}
+use Rattle.vk_rules.specs.declared.flaws.Flaw.{Flaw}
+use Rattle.vk_planned.specs.Flaws.{AreFlaws}
 use Rattle.vk_planned.specs.Graphs.{asked_by_need, IsGraph}
 use Rattle.vk_planned.proofs.FollowLemmas.{place_of, visit_no_need}
 
-module _ (inputs : Inputs) (facts needs : List Fact) (edges : List (ℕ × ℕ)) (clean : Bool) (all : IsFollowed inputs facts (length needs) needs edges clean) where
+module _ (inputs : Inputs) (facts needs : List Fact) (edges : List (ℕ × ℕ)) (flaws : List (Option Flaw)) (all : IsFollowed inputs facts (length needs) needs edges flaws) where
   -- what a need asks for is among them
   asks_within : (a x : Fact) → Contains needs a → Contains (asked_by_need inputs facts a) x → Contains needs x
   asks_within a x h asks =
@@ -81,22 +80,8 @@ module _ (inputs : Inputs) (facts needs : List Fact) (edges : List (ℕ × ℕ))
     complete = λ m x y at asks. all.complete m x y (slice_get_within needs m x at) at asks;
   }
 
-  -- a planned fact is judged to be right
-  right : (planned : List Fact) → IsPlanned inputs facts planned → clean ≡ true → (x : Fact) → Contains planned x → (line : ℕ) → judged_need inputs facts x line ≡ []
-  right planned is is_clean (need who f) h line =
-      let p = place_of needs (need who f) (planned_needs planned is (need who f) h refl) in
-      all.judged is_clean p.0 (need who f) (slice_get_within needs p.0 (need who f) p.1) p.1 line
-  right planned is is_clean (floor p a) h line = refl
-  right planned is is_clean (visit i f a) h line = refl
-
-  pub nothing_wrong : (planned : List Fact) → IsPlanned inputs facts planned → clean ≡ true → third_faults_of inputs facts planned ≡ []
-  nothing_wrong planned is is_clean =
-      empty_is (third_faults_of inputs facts planned) (λ fault h. (
-      let r = contains-flat_map (judged_on_line inputs facts) (filter (is_among planned) facts) fault h in
-      let s = contains-flat_map (judged_need inputs facts r.0) (option_to_list (line_of facts r.0)) fault r.2 in
-      let h_planned = among_contains planned r.0 (contains_filter (is_among planned) facts r.0 r.1).1 in
-      contains_nothing fault (subst (λ l. Contains l fault) (right planned is is_clean r.0 h_planned s.0) s.2)
-      ))
+  pub flaws_are : AreFlaws inputs facts needs flaws
+  flaws_are = record { long = all.long; each = λ m x at. all.judged m x (slice_get_within needs m x at) at }
 
 -- ---- how many steps they take
 

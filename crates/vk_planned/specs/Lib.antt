@@ -1,5 +1,6 @@
 -- what is promised
 pub mod Graphs
+pub mod Flaws
 -- what functions, laws and examples say besides
 pub mod Needs
 pub mod Bases

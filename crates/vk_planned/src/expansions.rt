@@ -1,5 +1,5 @@
-//! What a need asks for in turn, and whether something is wrong with it.
-ghost use Rattle.std.specs.Prelude.{◌≡◌, ◌+◌, ◌≤◌, ℕ, [], true, Option, IfOk};
+//! What a need asks for in turn, and what is wrong with it.
+ghost use Rattle.std.specs.Prelude.{◌≡◌, ◌+◌, ◌≤◌, ℕ, [], None, Option, IfOk};
 ghost use Rattle.std.specs.List.{Contains};
 ghost use Rattle.vk_spec.specs.Catalogues.{OnlyAsked, OnPages};
 ghost use Rattle.vk_spec.specs.Versions.{Version};
@@ -7,12 +7,14 @@ ghost use Rattle.vk_base.specs.Stops.{was_out};
 ghost use Rattle.vk_base.specs.FeatureViews.{feature_view};
 ghost use Rattle.vk_resolution.specs.Asking as plain;
 ghost use Rattle.vk_resolution.specs.Asking.{asked_of};
-ghost use Rattle.vk_resolution.specs.Faults.{judged, judged_need};
+ghost use Rattle.vk_resolution.specs.Faults.{judged};
 ghost use Rattle.vk_resolution.specs.Settings as settings;
 ghost use Rattle.vk_model.specs.FactViews.{fact_view, who_view};
 ghost use Rattle.vk_model.specs.SettingViews.{instance_view, setting_view};
 ghost use Rattle.vk_model.specs.Views.{manifest_view};
 ghost use Rattle.vk_planned.specs.Bases.{inputs_at, facts_at, IsRuled, IsSound};
+ghost use Rattle.vk_rules.specs.Flaws.{flaw_faults};
+ghost use Rattle.vk_planned.specs.Flaws.{HasFlaw};
 ghost use Rattle.vk_planned.specs.Graphs.{asked_by_need};
 ghost use Rattle.vk_planned.specs.Manifests.{asked_by_found, found_view, judged_by_found};
 ghost use Rattle.vk_planned.specs.Needs.{facts_view, needs_in};
@@ -25,24 +27,25 @@ use std::sync::ledger::Ledger;
 use vk_base::{FeatureName, Instance, List, Memory, Outage, Steps};
 use vk_catalogue::Catalogue;
 use vk_model::{Fact, Manifest, Who};
-use vk_rules::Rules;
+use vk_rules::{Flaw, Rules};
 
 /// What a need asks for.
 #[derive(Drop)]
 pub(crate) struct Expansion {
     /// The needs that it asks for, and minimums.
     pub(crate) asked: List<Fact>,
-    /// Whether the feature is there, and supported.
-    pub(crate) clean: bool,
+    /// What is wrong with the feature.
+    pub(crate) flaw: Option<Flaw>,
 }
 
 // What is asked for where there is no manifest.
 fn nothing(alloc: Global) -> Expansion
-    ensures { result.asked ≡ [] }
+    ensures asked { result.asked ≡ [] }
+    ensures flaw { result.flaw ≡ None }
 {
     Expansion {
         asked: List::new(alloc),
-        clean: true,
+        flaw: None,
     }
 }
 
@@ -57,14 +60,15 @@ fn expand_by<L: Ledger>(
 ) -> Result<Expansion, Memory>
     ensures asked { IfOk result (λ e. facts_view e.asked ≡ asked_of (setting_view rules.now)
         (who_view who.now) (feature_view feature.now) (manifest_view manifest.now)) }
-    ensures clean { IfOk result (λ e. e.clean ≡ true → (v : Option Version) (n : ℕ)
+    ensures flaw { IfOk result (λ e. (v : Option Version) (n : ℕ)
         → judged (setting_view rules.now) (who_view who.now) (feature_view feature.now) v
-        (manifest_view manifest.now) n ≡ []) }
+        (manifest_view manifest.now) n
+        ≡ flaw_faults (who_view who.now) (feature_view feature.now) v n e.flaw) }
     ensures ticks { steps.new ≡ steps.old + 1 }
 {
-    let clean = rules.flaw(who, feature, manifest).is_none();
+    let flaw = rules.flaw(who, feature, manifest);
     let asked = rules.consequences(alloc, who, feature, manifest, steps)?;
-    Ok(Expansion { asked, clean })
+    Ok(Expansion { asked, flaw })
 }
 
 // The same, where the manifest may not be there.
@@ -78,9 +82,10 @@ fn expand_found<L: Ledger>(
 ) -> Result<Expansion, Memory>
     ensures asked { IfOk result (λ e. facts_view e.asked ≡ asked_by_found (setting_view rules.now)
         (who_view who.now) (feature_view feature.now) (found_view found)) }
-    ensures clean { IfOk result (λ e. e.clean ≡ true → (v : Option Version) (n : ℕ)
+    ensures flaw { IfOk result (λ e. (v : Option Version) (n : ℕ)
         → judged_by_found (setting_view rules.now) (who_view who.now) (feature_view feature.now) v
-        (found_view found) n ≡ []) }
+        (found_view found) n
+        ≡ flaw_faults (who_view who.now) (feature_view feature.now) v n e.flaw) }
     ensures ticks { steps.new ≤ steps.old + 1 }
 {
     match found {
@@ -107,9 +112,9 @@ fn expand_instance<C: Catalogue, L: Ledger>(
     ensures asked { IfOk result (λ e. OnPages (λ pages. needs_in e.asked
         ≡ asked_by_need (inputs_at basis.now pages) (facts_at basis.now)
         (plain.need (who_view who.now) (feature_view feature.now))) (C.state cat.old)) }
-    ensures clean { IfOk result (λ e. OnPages (λ pages. e.clean ≡ true → (n : ℕ)
-        → judged_need (inputs_at basis.now pages) (facts_at basis.now)
-        (plain.need (who_view who.now) (feature_view feature.now)) n ≡ []) (C.state cat.old)) }
+    ensures flaw { IfOk result (λ e. OnPages (λ pages. HasFlaw (inputs_at basis.now pages)
+        (facts_at basis.now) (plain.need (who_view who.now) (feature_view feature.now)) e.flaw)
+        (C.state cat.old)) }
     ensures ticks { steps.new ≤ steps.old + 1 }
     ensures only { OnlyAsked (was_out result) (C.state cat.old) (C.state cat.new) }
 {
@@ -133,9 +138,9 @@ fn expand_need<C: Catalogue, L: Ledger>(
     ensures asked { IfOk result (λ e. OnPages (λ pages. needs_in e.asked
         ≡ asked_by_need (inputs_at basis.now pages) (facts_at basis.now)
         (plain.need (who_view who.now) (feature_view feature.now))) (C.state cat.old)) }
-    ensures clean { IfOk result (λ e. OnPages (λ pages. e.clean ≡ true → (n : ℕ)
-        → judged_need (inputs_at basis.now pages) (facts_at basis.now)
-        (plain.need (who_view who.now) (feature_view feature.now)) n ≡ []) (C.state cat.old)) }
+    ensures flaw { IfOk result (λ e. OnPages (λ pages. HasFlaw (inputs_at basis.now pages)
+        (facts_at basis.now) (plain.need (who_view who.now) (feature_view feature.now)) e.flaw)
+        (C.state cat.old)) }
     ensures ticks { steps.new ≤ steps.old + 1 }
     ensures only { OnlyAsked (was_out result) (C.state cat.old) (C.state cat.new) }
 {
@@ -168,9 +173,8 @@ pub(crate) fn expand<C: Catalogue, L: Ledger>(
     ensures asked { IfOk result (λ e. OnPages (λ pages. needs_in e.asked
         ≡ asked_by_need (inputs_at basis.now pages) (facts_at basis.now) (fact_view need.now))
         (C.state cat.old)) }
-    ensures clean { IfOk result (λ e. OnPages (λ pages. e.clean ≡ true → (n : ℕ)
-        → judged_need (inputs_at basis.now pages) (facts_at basis.now) (fact_view need.now) n
-        ≡ []) (C.state cat.old)) }
+    ensures flaw { IfOk result (λ e. OnPages (λ pages. HasFlaw (inputs_at basis.now pages)
+        (facts_at basis.now) (fact_view need.now) e.flaw) (C.state cat.old)) }
     ensures ticks { steps.new ≤ steps.old + 1 }
     ensures only { OnlyAsked (was_out result) (C.state cat.old) (C.state cat.new) }
 {

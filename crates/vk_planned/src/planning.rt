@@ -1,9 +1,8 @@
 //! The planned needs.
-ghost use Rattle.std.specs.Prelude.{◌≡◌, ◌+◌, ◌<◌, ◌≤◌, [], true, List, IfOk, OnOk, length, map};
+ghost use Rattle.std.specs.Prelude.{◌+◌, ◌<◌, ◌≤◌, List, IfOk, OnOk, length, map};
 ghost use Rattle.vk_spec.specs.Catalogues.{OnlyAsked, OnPages};
 ghost use Rattle.vk_base.specs.Stops.{was_out};
 ghost use Rattle.vk_resolution.specs.Asking as plain;
-ghost use Rattle.vk_resolution.specs.Faults.{third_faults_of};
 ghost use Rattle.vk_resolution.specs.Planner.{inputs_of};
 ghost use Rattle.vk_resolution.specs.Planning.{IsPlanned};
 ghost use Rattle.vk_resolution.specs.Reasons.{facts_of};
@@ -14,6 +13,7 @@ ghost use Rattle.vk_worklist.specs.Ticks.{ticks};
 ghost use Rattle.vk_choices.specs.ChoiceViews.{choices_view};
 ghost use Rattle.vk_choices.specs.Clear.{IsClear};
 ghost use Rattle.vk_planned.specs.Bases.{IsRuled, IsSound, inputs_at, facts_at};
+ghost use Rattle.vk_planned.specs.Flaws.{AreFlaws};
 ghost use Rattle.vk_planned.specs.Followed.{IsTakenUp};
 ghost use Rattle.vk_planned.specs.Graphs.{IsGraph};
 
@@ -28,7 +28,7 @@ use vk_base::{Outage, Steps};
 use vk_catalogue::Catalogue;
 use vk_choices::Choices;
 use vk_model::{Fact, Reason, Setting};
-use vk_rules::Rules;
+use vk_rules::{Flaw, Rules};
 
 /// What the chosen versions alone require.
 #[derive(Drop)]
@@ -37,8 +37,8 @@ pub struct Planned {
     pub needs: IndexSet<Fact>,
     /// Which need asks for which, by their places among the needs, counted from 0.
     pub edges: Vec<(usize, usize)>,
-    /// If so, each feature that is needed is there, and supported; if not, one may not be.
-    pub clean: bool,
+    /// What is wrong with each need, at its place.
+    pub flaws: Vec<Option<Flaw>>,
 }
 
 // Takes up the need at a place: what it asks for stands behind the needs, unless it is among them.
@@ -60,9 +60,9 @@ fn take_up<C: Catalogue, L: Ledger>(
     ensures ticks { steps.new ≤ steps.old + 1 }
     ensures asked { OnlyAsked (was_out result) (C.state cat.old) (C.state cat.new) }
 {
-    let Expansion { asked, clean } = expand(alloc, cat, basis, &planned.needs[place], steps)?;
-    planned.clean &= clean;
+    let Expansion { asked, flaw } = expand(alloc, cat, basis, &planned.needs[place], steps)?;
     link_all(&mut planned.needs, &mut planned.edges, place, asked)?;
+    planned.flaws.push(flaw)?;
     Ok(())
 }
 
@@ -105,10 +105,8 @@ fn plan_from<C: Catalogue, L: Ledger>(
     ensures graph { IfOk result (λ p. OnPages (λ pages. (planned : List plain.Fact)
         × IsGraph (inputs_at basis.now pages) (facts_at basis.now) planned
         (map fact_view p.needs.keys) p.edges.items) (C.state cat.old)) }
-    ensures clean { IfOk result (λ p. OnPages (λ pages. (planned : List plain.Fact)
-        → IsPlanned (inputs_at basis.now pages) (facts_at basis.now) planned → p.clean ≡ true
-        → third_faults_of (inputs_at basis.now pages) (facts_at basis.now) planned ≡ [])
-        (C.state cat.old)) }
+    ensures flaws { IfOk result (λ p. OnPages (λ pages. AreFlaws (inputs_at basis.now pages)
+        (facts_at basis.now) (map fact_view p.needs.keys) p.flaws.items) (C.state cat.old)) }
     ensures ticks { OnPages (λ pages. (facts : List plain.Fact)
         → IsPlanned (inputs_at basis.now pages) (facts_at basis.now) facts
         → steps.new ≤ steps.old + ticks facts) (C.state cat.old) }
@@ -118,14 +116,14 @@ fn plan_from<C: Catalogue, L: Ledger>(
     let mut planned = Planned {
         needs,
         edges: Vec::new(alloc),
-        clean: true,
+        flaws: Vec::new(alloc),
     };
     follow(alloc, cat, basis, &mut planned, steps)?;
     Ok(planned)
 }
 
-/// The needs of the root, and all that the manifests of the chosen versions need in turn. It takes
-/// at most a step for each manifest's feature that is looked at. The reasons are those of a closure
+/// The needs of the root, and all that the manifests of the chosen versions need in turn, with what
+/// is wrong with each. It takes at most a step for each manifest's feature that is looked at. The reasons are those of a closure
 /// without faults, and the choices are made of them. The catalogue is only asked.
 pub fn plan_needs<C: Catalogue, L: Ledger>(
     alloc: Global,
@@ -143,11 +141,9 @@ pub fn plan_needs<C: Catalogue, L: Ledger>(
         × IsGraph (inputs_of (setting_view setting.now) pages)
         (facts_of (reasons_view reasons.now)) planned (map fact_view p.needs.keys)
         p.edges.items) (C.state cat.old)) }
-    ensures clean { IfOk result (λ p. OnPages (λ pages. (planned : List plain.Fact)
-        → IsPlanned (inputs_of (setting_view setting.now) pages)
-        (facts_of (reasons_view reasons.now)) planned → p.clean ≡ true
-        → third_faults_of (inputs_of (setting_view setting.now) pages)
-        (facts_of (reasons_view reasons.now)) planned ≡ []) (C.state cat.old)) }
+    ensures flaws { IfOk result (λ p. OnPages (λ pages. AreFlaws
+        (inputs_of (setting_view setting.now) pages) (facts_of (reasons_view reasons.now))
+        (map fact_view p.needs.keys) p.flaws.items) (C.state cat.old)) }
     ensures ticks { OnPages (λ pages. (planned : List plain.Fact)
         → IsPlanned (inputs_of (setting_view setting.now) pages)
         (facts_of (reasons_view reasons.now)) planned → steps.new ≤ steps.old + ticks planned)

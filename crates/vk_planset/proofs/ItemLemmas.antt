@@ -22,18 +22,18 @@ use Rattle.vk_choices.specs.declared.chosen.Choice.{Choice}
 use Rattle.vk_order.specs.Sets.{AreItems}
 use Rattle.vk_planset.specs.declared.seats.Seat.{Seat}
 use Rattle.vk_planset.specs.Members.{number_key}
-use Rattle.vk_planset.specs.Places.{has_choice, chosen_in, order_of, place_of}
+use Rattle.vk_planset.specs.Places.{has_choice, chosen_in, seat_order, place_of}
 use Rattle.vk_planset.specs.Seats.{AreSeats, needs_of_seat, seated_features, seated_needs}
 use Rattle.vk_planset.specs.Items.{made, made_by, made_of, made_all}
 use Rattle.vk_planset.specs.Assembled.{AreAssembled}
 use Rattle.vk_planset.proofs.PlaceLemmas.{linked_is, place_is}
 
 pub assembled_are : (choices : List (List ℕ × Choice)) (needs ns : List Fact) (edges es : List (ℕ × ℕ)) (order : List code.Instance) (seats ss : List Seat) (items : List Item)
-    → ns ≡ needs → es ≡ edges → ss ≡ seats → map instance_view order ≡ order_of choices ns
+    → ns ≡ needs → es ≡ edges → ss ≡ seats → map instance_view order ≡ seat_order choices ns
     → AreSeats (length order) (seated_features (map instance_view order) ns) (seated_needs (map (place_of (map instance_view order)) ns) es) seats
     → items ≡ made_all choices (map instance_view order) ss → AreAssembled choices needs edges items
 assembled_are choices needs ns edges es order seats ss items is_needs is_edges is_seats is_order are made_is =
-    let whole : map instance_view order ≡ order_of choices needs = is_order ∙ ap (order_of choices) is_needs in
+    let whole : map instance_view order ≡ seat_order choices needs = is_order ∙ ap (seat_order choices) is_needs in
     let long : length order ≡ length (map instance_view order) = sym (length-map order instance_view) in
     let there : (count : ℕ) → length order ≡ count → (o : List Instance) → map instance_view order ≡ o → AreSeats count (seated_features o needs) (seated_needs (map (place_of o) needs) edges) seats =
     λ count c o e. subst (λ n. AreSeats n (seated_features o needs) (seated_needs (map (place_of o) needs) edges) seats) c
@@ -42,7 +42,7 @@ assembled_are choices needs ns edges es order seats ss items is_needs is_edges i
     (subst (λ l. AreSeats (length order) (seated_features (map instance_view order) l) (seated_needs (map (place_of (map instance_view order)) l) es) seats) is_needs are))) in
     record {
       seats = seats;
-      are_seats = there (length (order_of choices needs)) (long ∙ ap length whole) (order_of choices needs) whole;
+      are_seats = there (length (seat_order choices needs)) (long ∙ ap length whole) (seat_order choices needs) whole;
       made = made_is ∙ ap₂ (made_all choices) whole is_seats;
     }
 
@@ -53,7 +53,7 @@ found_by None e = (cc)
 found_by (Some x) e = (x, refl)
 
 -- the port of each instance in the order has a choice
-pub order_found : (choices : List (List ℕ × Choice)) (needs : List Fact) (i : Instance) → Contains (order_of choices needs) i → (c : Choice) × (lookup (bytes_eq i.port) choices ≡ Some c)
+pub order_found : (choices : List (List ℕ × Choice)) (needs : List Fact) (i : Instance) → Contains (seat_order choices needs) i → (c : Choice) × (lookup (bytes_eq i.port) choices ≡ Some c)
 order_found choices needs i h =
     let r = contains-flat_map (chosen_in choices) needs i (contains-in_order instance_key (flat_map (chosen_in choices) needs) i h) in
     found_by (lookup (bytes_eq i.port) choices) (contains_filter (has_choice choices) (needed_in r.0) i r.2).1
@@ -135,14 +135,14 @@ instances_long choices (x ∷ needs) =
     let e = length-append (chosen_in choices x) (flat_map (chosen_in choices) needs) in
     omega (arith, a, b, d, e)
 
-pub order_few : (choices : List (List ℕ × Choice)) (needs : List Fact) → length (order_of choices needs) ≤ length needs
+pub order_few : (choices : List (List ℕ × Choice)) (needs : List Fact) → length (seat_order choices needs) ≤ length needs
 order_few choices needs = let a = order_long instance_key (flat_map (chosen_in choices) needs) in let b = instances_long choices needs in omega (arith, a, b)
 
 module _ (choices : List (List ℕ × Choice)) (needs : List Fact) (edges : List (ℕ × ℕ)) (items : List Item) (are : AreAssembled choices needs edges items) where
-  pub items_order : plain.order_of items ≡ order_of choices needs
-  items_order = ap plain.order_of are.made ∙ made_order choices (order_of choices needs) are.seats are.are_seats.as_many (order_found choices needs)
+  pub items_order : plain.order_of items ≡ seat_order choices needs
+  items_order = ap plain.order_of are.made ∙ made_order choices (seat_order choices needs) are.seats are.are_seats.as_many (order_found choices needs)
 
-  items_long : length items ≡ length (order_of choices needs)
+  items_long : length items ≡ length (seat_order choices needs)
   items_long = sym (length-map items (λ (item : Item). item.instance)) ∙ ap length items_order
 
   pub items_few : length items ≤ length needs
@@ -150,13 +150,13 @@ module _ (choices : List (List ℕ × Choice)) (needs : List Fact) (edges : List
 
   needs_within : (item : Item) (n : ℕ) → Contains items item → Contains item.needs n → n < length items
   needs_within item n h at =
-      let m = item_made choices (order_of choices needs) are.seats item (subst (λ l. Contains l item) are.made h) in
+      let m = item_made choices (seat_order choices needs) are.seats item (subst (λ l. Contains l item) are.made h) in
       let listed : Contains (in_order number_key m.seat.needs.keys) n = subst (λ (k : Item). Contains k.needs n) m.is at in
       let seated : Contains m.seat.needs.keys n = contains-in_order number_key m.seat.needs.keys n listed in
-      let same = are.are_seats.needs_same m.place (slice_get_within (order_of choices needs) m.place m.instance m.at) in
-      let linked = linked_is (order_of choices needs) needs edges m.place n (same.to n (subst (λ o. Contains (needs_of_seat o) n) (sym m.seated) seated)) in
-      let there = place_is (order_of choices needs) linked.y n linked.to in
-      let within : n < length (order_of choices needs) = slice_get_within (order_of choices needs) n there.instance there.at in
+      let same = are.are_seats.needs_same m.place (slice_get_within (seat_order choices needs) m.place m.instance m.at) in
+      let linked = linked_is (seat_order choices needs) needs edges m.place n (same.to n (subst (λ o. Contains (needs_of_seat o) n) (sym m.seated) seated)) in
+      let there = place_is (seat_order choices needs) linked.y n linked.to in
+      let within : n < length (seat_order choices needs) = slice_get_within (seat_order choices needs) n there.instance there.at in
       let long = items_long in
       omega (arith, within, long)
 

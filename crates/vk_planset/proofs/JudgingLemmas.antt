@@ -1,65 +1,46 @@
 -- What the plan can't serve, fact by fact.
 use Rattle.std.proofs.Common.{◌≡◌, ◌<◌, ◌≤◌, ◌+◌, ℕ, zero, suc, Bool, true, false, cond, List, [], ◌∷◌, ◌++◌, length, take, get_or, map, filter, inl, inr, refl, ap, ap₂, sym, ◌∙◌, subst, arith}
-use Rattle.std.specs.Prelude.{Option, Some, None, IfSome, Result, Ok, Err, IfOk, flat_map, option_to_list, bytes_eq, slice_get}
+use Rattle.std.specs.Prelude.{Option, Some, None, flat_map, option_map, option_and_then, option_to_list, bytes_eq, position, slice_get}
 use Rattle.std.specs.Map.{lookup}
-use Rattle.std.specs.List.{Contains}
+use Rattle.std.specs.List.{Contains, position_or_len}
 use Rattle.std.proofs.lemmas.List.{append-nil, append_assoc, length-map, take_more, take_all}
+use Rattle.std.proofs.lemmas.Grind.{common_steps}
+use Rattle.std.proofs.lemmas.List.Quantifiers.{position-Some}
+use Rattle.std.proofs.lemmas.List.Sums.{fails_before_first}
 use Rattle.std.proofs.lemmas.Map.Entries.{place_from_lookup}
-use Rattle.std.proofs.lemmas.Option.{slice_get_within, get_or_from_slice_get}
+use Rattle.std.proofs.lemmas.Option.{slice_get_within, slice_get-get_or, get_or_from_slice_get}
 use Rattle.std.proofs.lemmas.Slice.Eq.{bytes_eq-Decides}
-use Rattle.vk_spec.specs.Manifests.{Manifest}
-use Rattle.vk_spec.specs.Conditions.{Condition}
-use Rattle.vk_spec.specs.Pages.{Given, Wrong}
 use Rattle.vk_spec.specs.Settings.{Setting, Instance}
-use Rattle.vk_spec.specs.Versions.{Version, Ask, IsOrder, ask_of}
-use Rattle.vk_spec.specs.Catalogues.{SaysManifest}
-use Rattle.vk_spec.proofs.ListLemmas.{contains_nothing, contains_cases}
-use Rattle.vk_spec.proofs.OptionLemmas.{of_each}
+use Rattle.vk_spec.specs.Versions.{IsOrder, ask_of}
+use Rattle.vk_spec.proofs.ListLemmas.{contains_nothing, contains_cases, contains-flat_map}
 use Rattle.vk_version.proofs.TestLemmas.{at_most-IsOrder}
-use Rattle.vk_resolution.specs.Givens.{Pages, manifest_at}
-use Rattle.vk_resolution.specs.Settings.{Who, root, inst}
-use Rattle.vk_resolution.specs.Asking.{Fact, need, floor, visit, is_among}
+use Rattle.vk_resolution.specs.Givens.{Pages}
+use Rattle.vk_resolution.specs.Settings.{root, inst}
+use Rattle.vk_resolution.specs.Asking.{Fact, need, floor, visit, is_among, same_fact}
 use Rattle.vk_resolution.specs.Consequences.{Inputs}
 use Rattle.vk_resolution.specs.Choices.{chosen_of}
 use Rattle.vk_resolution.specs.Faults as plain
-use Rattle.vk_resolution.specs.Faults.{judged, judged_at, judged_chosen, judged_need, judged_on_line, third_faults_of}
+use Rattle.vk_resolution.specs.Faults.{judged_need, judged_on_line, third_faults_of}
 use Rattle.vk_resolution.specs.Planner.{inputs_of}
 use Rattle.vk_resolution.specs.Reasons.{Reason, facts_of, fact_at, line_of}
 use Rattle.vk_resolution.specs.Selections.{Choice, IsChoices}
-use Rattle.vk_resolution.proofs.Members.{contains_map, map_contains}
+use Rattle.vk_resolution.proofs.Members.{contains_map, map_contains, contains_filter, empty_is, no_is_false, true_false}
+use Rattle.vk_resolution.proofs.FactLemmas.{same_fact-Decides, among_contains, contains_among}
 use Rattle.vk_resolution.proofs.Uniqueness.{get_contains}
 use Rattle.vk_resolution.proofs.LineLemmas.{at_line, at_contains}
 use Rattle.vk_resolution.proofs.ChoiceLemmas.{needed_given}
 use Rattle.vk_resolution.proofs.SelectionLemmas.{choices_list_ports, choices_have_no_conflict, needed_has_choice}
+use Rattle.vk_model.specs.declared.facts.Fact as code_fact
 use Rattle.vk_model.specs.declared.reasons.Reason as code_reason
 use Rattle.vk_model.specs.FactViews.{fact_view, reason_view, reasons_view}
 use Rattle.vk_choices.specs.declared.chosen.Choice as code
 use Rattle.vk_choices.specs.ChoiceViews.{choice_view}
 use Rattle.vk_choices.specs.Clear.{IsClear}
-use Rattle.vk_planset.specs.Judging.{judged_given, judged_choice, judged_fact, judged_where}
-
--- ---- what one call tells
-
-pub judged_there : (o : Option Pages) (s : Setting) (who : Who) (i : Instance) (f : List ℕ) (v : Version) (a : Ask) (m : Manifest Condition) (n : ℕ) (fs : List plain.Fault)
-    → who ≡ inst i → a ≡ ask_of v → fs ≡ judged s who f (Some v) m n → IfSome o (λ pages. SaysManifest a (pages i.port) (Ok m))
-    → IfSome o (λ pages. fs ≡ judged_at (inputs_of s pages) i f v (manifest_at pages i.port (ask_of v)) n)
-judged_there None s who i f v a m n fs same ask is says = tt
-judged_there (Some pages) s who i f v a m n fs same ask is says =
-    is ∙ ap (λ w. judged s w f (Some v) m n) same
-    ∙ ap (λ r. judged_at (inputs_of s pages) i f v r n) (says ∙ ap (manifest_at pages i.port) ask)
-
-pub where_not : (o : Option Pages) (s : Setting) (choices : List (List ℕ × code.Choice)) (needs : List Fact) (x : Fact) (n : ℕ) → is_among needs x ≡ false → IfSome o (λ pages. [] ≡ judged_where (inputs_of s pages) choices needs x n)
-where_not o s choices needs x n e = of_each o (λ pages. sym (ap (λ b. cond b (judged_fact (inputs_of s pages) choices x n) []) e))
-
-where_needed : (o : Option Pages) (s : Setting) (choices : List (List ℕ × code.Choice)) (needs : List Fact) (x : Fact) (n : ℕ) (fs : List plain.Fault) → is_among needs x ≡ true
-    → IfSome o (λ pages. fs ≡ judged_fact (inputs_of s pages) choices x n) → IfSome o (λ pages. fs ≡ judged_where (inputs_of s pages) choices needs x n)
-where_needed None s choices needs x n fs e is = tt
-where_needed (Some pages) s choices needs x n fs e is = is ∙ sym (ap (λ b. cond b (judged_fact (inputs_of s pages) choices x n) []) e)
-
-pub result_needed : {A E : Type 0} (result : Result A E) (view : A → List plain.Fault) (o : Option Pages) (s : Setting) (choices : List (List ℕ × code.Choice)) (needs : List Fact) (x : Fact) (n : ℕ) → is_among needs x ≡ true
-    → IfOk result (λ r. IfSome o (λ pages. view r ≡ judged_fact (inputs_of s pages) choices x n)) → IfOk result (λ r. IfSome o (λ pages. view r ≡ judged_where (inputs_of s pages) choices needs x n))
-result_needed (Ok r) view o s choices needs x n e is = where_needed o s choices needs x n (view r) e is
-result_needed (Err e) view o s choices needs x n among is = tt
+use Rattle.vk_rules.specs.Flaws.{flaw_faults}
+use Rattle.vk_rules.specs.declared.flaws.Flaw.{Flaw}
+use Rattle.vk_planned.specs.Flaws.{flaw_lines, flaw_in, HasFlaw, AreFlaws}
+use Rattle.vk_planset.specs.Judging.{IsJudged, flaw_of, flaw_told}
+use Rattle.vk_planset.proofs.OrderLemmas.{position_view}
 
 -- ---- choices as they are kept
 
@@ -104,21 +85,49 @@ module _ (inputs : Inputs) (order : IsOrder inputs.at_most) (reasons : List Reas
       let e = contains_map choice_view entries c.0 c.1 in
       lookup_there i.port entries e.0 e.1 (ap (λ (k : Choice). k.port) e.2 ∙ c.2)
 
-  given_by : (i : Instance) (f : List ℕ) (v : Version) (given : Result Given Wrong) (n : ℕ) → ((g : Given) × (given ≡ Ok g)) → judged_given inputs i f v given n ≡ judged_at inputs i f v (manifest_at inputs.pages i.port (ask_of v)) n
-  given_by i f v (Ok g) n h = refl
-  given_by i f v (Err wrong) n (g, e) = (cc)
-
-  -- a fact is judged by the choices as it is by the facts
-  pub judged_same : (x : Fact) (n : ℕ) → Contains (facts_of reasons) x → judged_fact inputs entries x n ≡ judged_need inputs (facts_of reasons) x n
-  judged_same (need (root t) f) n h = refl
-  judged_same (need (inst i) f) n h =
+  -- a flaw is told with the version of the choice
+  pub told_same : (x : Fact) (flaw : Option Flaw) (n : ℕ) → Contains (facts_of reasons) x → flaw_lines inputs (facts_of reasons) x flaw n ≡ flaw_told entries x flaw n
+  told_same (need (root t) f) flaw n h = refl
+  told_same (need (inst i) f) flaw n h =
       let c = needed_found i f h in
       let is = found_is inputs (facts_of reasons) entries are i.port c.0 c.1 in
-      ap (λ o. judged_choice inputs i f o n) c.1
-      ∙ given_by i f c.0.version (inputs.pages i.port).given n (needed_given inputs (facts_of reasons) clear.clear i f h)
-      ∙ ap (λ o. judged_chosen inputs i f o n) (sym is.chosen)
-  judged_same (floor p a) n h = refl
-  judged_same (visit i f a) n h = refl
+      ap (λ o. flaw_faults (inst i) f o n flaw) (is.chosen ∙ sym (ap (option_map (λ (k : code.Choice). k.version)) c.1))
+  told_same (floor p a) flaw n h = refl
+  told_same (visit i f a) flaw n h = refl
+
+-- ---- the flaw that is kept of a fact
+
+pub found_flaw : (keys : List code_fact.Fact) (flaws : List (Option Flaw)) (x : code_fact.Fact) (o : Option ℕ) → o ≡ position (λ k. same_fact (fact_view x) (fact_view k)) keys → flaw_of (map fact_view keys) flaws (fact_view x) ≡ option_and_then (λ m. flaw_in (slice_get flaws m)) o
+found_flaw keys flaws x o e = ap (option_and_then (λ m. flaw_in (slice_get flaws m))) (sym (e ∙ position_view fact_view (same_fact (fact_view x)) keys))
+
+pub no_flaw : (entries : List (List ℕ × code.Choice)) (x : Fact) (n : ℕ) → flaw_told entries x None n ≡ []
+no_flaw entries (need who f) n = refl
+no_flaw entries (floor p a) n = refl
+no_flaw entries (visit i f a) n = refl
+
+none_before : (p : Fact → Bool) (xs : List Fact) (k : ℕ) (d : Fact) → position p xs ≡ None → k < length xs → p (get_or xs k d) ≡ false
+none_before p xs k d e within =
+    let past : length xs ≤ position_or_len p xs = grind (arith, common_steps) in
+    fails_before_first p xs k d (omega arith)
+
+-- a fact isn't among the needs, and none is kept of it, or it stands at a place, and what is kept is there
+pub data IsKept (needs : List Fact) (flaws : List (Option Flaw)) (x : Fact) : Type 0 where
+  nowhere : is_among needs x ≡ false → flaw_of needs flaws x ≡ None → IsKept needs flaws x
+  at_place : (m : ℕ) → slice_get needs m ≡ Some x → flaw_of needs flaws x ≡ flaw_in (slice_get flaws m) → IsKept needs flaws x
+
+kept_by : (needs : List Fact) (flaws : List (Option Flaw)) (x : Fact) (o : Option ℕ) → position (same_fact x) needs ≡ o → IsKept needs flaws x
+kept_by needs flaws x None e = nowhere
+    (no_is_false (is_among needs x) (λ among. (
+    let h = among_contains needs x among in
+    true_false (same_fact x (get_or needs h.0 x)) ((same_fact-Decides x (get_or needs h.0 x)).1 (sym h.2)) (none_before (same_fact x) needs h.0 x e h.1)
+    )))
+    (ap (option_and_then (λ m. flaw_in (slice_get flaws m))) e)
+kept_by needs flaws x (Some m) e =
+    let r = position-Some (same_fact x) needs m x e in
+    at_place m (slice_get-get_or needs m x r.0 ∙ ap Some (sym ((same_fact-Decides x (get_or needs m x)).0 r.1))) (ap (option_and_then (λ m. flaw_in (slice_get flaws m))) e)
+
+pub kept : (needs : List Fact) (flaws : List (Option Flaw)) (x : Fact) → IsKept needs flaws x
+kept needs flaws x = kept_by needs flaws x (position (same_fact x) needs) refl
 
 -- ---- the facts of reasons, one more
 
@@ -150,40 +159,64 @@ facts_more reasons n r within is =
     take_more facts n (fact_view r.fact) (slice_get_within facts n (fact_view r.fact) at)
     ∙ ap (λ y. take n facts ++ y ∷ []) (get_or_from_slice_get facts n (fact_view r.fact) (fact_view r.fact) at)
 
-module _ (s : Setting) (reasons : List code_reason.Reason) (entries : List (List ℕ × code.Choice)) (needs : List Fact) (n : ℕ) (r : code_reason.Reason) (within : n < length reasons) (is : r ≡ get_or reasons n r) where
+module _ (s : Setting) (pages : Pages) (reasons : List code_reason.Reason) (entries : List (List ℕ × code.Choice)) (needs : List Fact) (edges : List (ℕ × ℕ)) (flaws : List (Option Flaw)) (judged : IsJudged (inputs_of s pages) (reasons_view reasons) entries needs edges flaws) where
+  abbrev inputs : Inputs
+  inputs = inputs_of s pages
+
   abbrev facts : List Fact
   facts = facts_of (reasons_view reasons)
 
-  abbrev x : Fact
-  x = fact_view r.fact
+  module _ (n : ℕ) (r : code_reason.Reason) (within : n < length reasons) (is : r ≡ get_or reasons n r) where
+    abbrev x : Fact
+    x = fact_view r.fact
 
-  on_its_line : (pages : Pages) (line : ℕ) → line ≡ n + 1 → IsClear (inputs_of s pages) (reasons_view reasons) → IsChoices (inputs_of s pages) facts (map choice_view entries) → judged_fact (inputs_of s pages) entries x line ≡ judged_on_line (inputs_of s pages) facts x
-  on_its_line pages line e clear are =
-      let up : line ≡ suc n = omega (arith, e) in
-      let at : fact_at facts (suc n) ≡ Some x = line_found reasons n r within is in
-      judged_same (inputs_of s pages) at_most-IsOrder (reasons_view reasons) clear entries are x line (at_contains facts (suc n) x at)
-      ∙ ap (judged_need (inputs_of s pages) facts x) up
-      ∙ sym (append-nil (judged_need (inputs_of s pages) facts x (suc n)))
-      ∙ ap (λ o. flat_map (judged_need (inputs_of s pages) facts x) (option_to_list o)) (sym (at_line facts clear.are_reasons.facts.least.forced.distinct x (suc n) at))
+    there : fact_at facts (suc n) ≡ Some x
+    there = line_found reasons n r within is
 
-  more_on : (pages : Pages) (line : ℕ) (old new told : List plain.Fault) → line ≡ n + 1 → IsClear (inputs_of s pages) (reasons_view reasons) → IsChoices (inputs_of s pages) facts (map choice_view entries)
-      → new ≡ old ++ told → old ≡ third_so_far (inputs_of s pages) facts needs n → told ≡ judged_where (inputs_of s pages) entries needs x line → new ≡ third_so_far (inputs_of s pages) facts needs (n + 1)
-  more_on pages line old new told e clear are put so_far judged_is =
-      put ∙ ap₂ (λ a b. a ++ b) so_far (judged_is ∙ ap (λ l. cond (is_among needs x) l []) (on_its_line pages line e clear are))
-      ∙ sym (filter_push (is_among needs) (judged_on_line (inputs_of s pages) facts) (take n facts) x)
-      ∙ ap (λ l. flat_map (judged_on_line (inputs_of s pages) facts) (filter (is_among needs) l)) (sym (facts_more reasons n r within is))
+    on_its_line : (flaw : Option Flaw) → HasFlaw inputs facts x flaw → judged_on_line inputs facts x ≡ flaw_told entries x flaw (suc n)
+    on_its_line flaw has =
+        ap (λ o. flat_map (judged_need inputs facts x) (option_to_list o)) (at_line facts judged.clear.are_reasons.facts.least.forced.distinct x (suc n) there)
+        ∙ append-nil (judged_need inputs facts x (suc n)) ∙ has (suc n)
+        ∙ told_same inputs at_most-IsOrder (reasons_view reasons) judged.clear entries judged.chosen x flaw (suc n) (at_contains facts (suc n) x there)
 
-  pub third_more : (o : Option Pages) (line : ℕ) (old new told : List plain.Fault) → line ≡ n + 1 → IfSome o (λ pages. IsClear (inputs_of s pages) (reasons_view reasons)) → IfSome o (λ pages. IsChoices (inputs_of s pages) facts (map choice_view entries))
-      → new ≡ old ++ told → IfSome o (λ pages. old ≡ third_so_far (inputs_of s pages) facts needs n) → IfSome o (λ pages. told ≡ judged_where (inputs_of s pages) entries needs x line) → IfSome o (λ pages. new ≡ third_so_far (inputs_of s pages) facts needs (n + 1))
-  third_more None line old new told e clear are put so_far judged_is = tt
-  third_more (Some pages) line old new told e clear are put so_far judged_is = more_on pages line old new told e clear are put so_far judged_is
+    -- what is told of a fact is what the third phase has of it
+    told_is : IsKept needs flaws x → flaw_told entries x (flaw_of needs flaws x) (suc n) ≡ cond (is_among needs x) (judged_on_line inputs facts x) []
+    told_is (nowhere not_among none) =
+        ap (λ f. flaw_told entries x f (suc n)) none ∙ no_flaw entries x (suc n)
+        ∙ sym (ap (λ b. cond b (judged_on_line inputs facts x) []) not_among)
+    told_is (at_place m at same) =
+        ap (λ f. flaw_told entries x f (suc n)) same ∙ sym (on_its_line (flaw_in (slice_get flaws m)) (judged.have.each m x at))
+        ∙ sym (ap (λ b. cond b (judged_on_line inputs facts x) []) (contains_among needs x (get_contains needs m x at)))
+
+    pub third_more : (line : ℕ) (old new told : List plain.Fault) → line ≡ n + 1 → new ≡ old ++ told → told ≡ flaw_told entries x (flaw_of needs flaws x) line → old ≡ third_so_far inputs facts needs n → new ≡ third_so_far inputs facts needs (n + 1)
+    third_more line old new told e put tells so_far =
+        let up : line ≡ suc n = omega (arith, e) in
+        put ∙ ap₂ (λ a b. a ++ b) so_far (tells ∙ ap (flaw_told entries x (flaw_of needs flaws x)) up ∙ told_is (kept needs flaws x))
+        ∙ sym (filter_push (is_among needs) (judged_on_line inputs facts) (take n facts) x)
+        ∙ ap (λ l. flat_map (judged_on_line inputs facts) (filter (is_among needs) l)) (sym (facts_more reasons n r within is))
 
 facts_length : (reasons : List code_reason.Reason) → length (facts_of (reasons_view reasons)) ≡ length reasons
 facts_length reasons = length-map (reasons_view reasons) (λ r. r.fact) ∙ length-map reasons reason_view
 
-pub third_all : (o : Option Pages) (s : Setting) (reasons : List code_reason.Reason) (needs : List Fact) (n : ℕ) (fs : List plain.Fault) → length reasons ≤ n
-    → IfSome o (λ pages. fs ≡ third_so_far (inputs_of s pages) (facts_of (reasons_view reasons)) needs n) → IfSome o (λ pages. fs ≡ third_faults_of (inputs_of s pages) (facts_of (reasons_view reasons)) needs)
-third_all None s reasons needs n fs done is = tt
-third_all (Some pages) s reasons needs n fs done is =
-    is ∙ ap (λ l. flat_map (judged_on_line (inputs_of s pages) (facts_of (reasons_view reasons))) (filter (is_among needs) l))
+pub third_all : (inputs : Inputs) (reasons : List code_reason.Reason) (needs : List Fact) (n : ℕ) (fs : List plain.Fault) → length reasons ≤ n → fs ≡ third_so_far inputs (facts_of (reasons_view reasons)) needs n → fs ≡ third_faults_of inputs (facts_of (reasons_view reasons)) needs
+third_all inputs reasons needs n fs done is =
+    is ∙ ap (λ l. flat_map (judged_on_line inputs (facts_of (reasons_view reasons))) (filter (is_among needs) l))
     (take_all n (facts_of (reasons_view reasons)) (subst (λ m. m ≤ n) (sym (facts_length reasons)) done))
+
+-- where no flaw is kept, the third phase has no line
+module _ (inputs : Inputs) (facts needs : List Fact) (flaws : List (Option Flaw)) (have : AreFlaws inputs facts needs flaws) (none : (m : ℕ) → flaw_in (slice_get flaws m) ≡ None) where
+  unflawed : (x : Fact) (n : ℕ) → flaw_lines inputs facts x None n ≡ []
+  unflawed (need (root t) f) n = refl
+  unflawed (need (inst i) f) n = refl
+  unflawed (floor p a) n = refl
+  unflawed (visit i f a) n = refl
+
+  pub none_third : third_faults_of inputs facts needs ≡ []
+  none_third = empty_is (third_faults_of inputs facts needs) (λ fault h. (
+      let r = contains-flat_map (judged_on_line inputs facts) (filter (is_among needs) facts) fault h in
+      let line = contains-flat_map (judged_need inputs facts r.0) (option_to_list (line_of facts r.0)) fault r.2 in
+      let k = among_contains needs r.0 (contains_filter (is_among needs) facts r.0 r.1).1 in
+      let at : slice_get needs k.0 ≡ Some r.0 = slice_get-get_or needs k.0 r.0 k.1 ∙ ap Some k.2 in
+      let clear : judged_need inputs facts r.0 line.0 ≡ [] = have.each k.0 r.0 at line.0 ∙ ap (λ f. flaw_lines inputs facts r.0 f line.0) (none k.0) ∙ unflawed r.0 line.0 in
+      contains_nothing fault (subst (λ l. Contains l fault) clear line.2)
+      ))

@@ -71,9 +71,9 @@ order_is f xs set sorted same moved sorted_is distinct =
 
 -- ---- places
 
-prefix_view : (test : plain_instance.Instance → Bool) (ks : List Instance) → prefix_len (λ k. not (test (instance_view k))) ks ≡ prefix_len (λ i. not (test i)) (map instance_view ks)
-prefix_view test [] = refl
-prefix_view test (k ∷ ks) = ap (λ n. cond (not (test (instance_view k))) (1 + n) 0) (prefix_view test ks)
+prefix_view : {X Y : Type 0} (view : X → Y) (test : Y → Bool) (ks : List X) → prefix_len (λ k. not (test (view k))) ks ≡ prefix_len (λ i. not (test i)) (map view ks)
+prefix_view view test [] = refl
+prefix_view view test (k ∷ ks) = ap (λ n. cond (not (test (view k))) (1 + n) 0) (prefix_view view test ks)
 
-pub position_view : (test : plain_instance.Instance → Bool) (ks : List Instance) → position (λ k. test (instance_view k)) ks ≡ position test (map instance_view ks)
-position_view test ks = ap₂ (λ m n. cond (nat_lt m n) (Some m) None) (prefix_view test ks) (sym (length-map ks instance_view))
+pub position_view : {X Y : Type 0} (view : X → Y) (test : Y → Bool) (ks : List X) → position (λ k. test (view k)) ks ≡ position test (map view ks)
+position_view view test ks = ap₂ (λ m n. cond (nat_lt m n) (Some m) None) (prefix_view view test ks) (sym (length-map ks view))

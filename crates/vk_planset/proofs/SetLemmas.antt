@@ -1,6 +1,6 @@
 -- The planned set.
 use Rattle.std.proofs.Common.{◌≡◌, ◌≢◌, ◌⊎◌, ◌<◌, ℕ, Bool, true, false, cond, ◌++◌, List, [], ◌∷◌, length, map, filter, inl, inr, refl, ap, sym, ◌∙◌, subst, arith}
-use Rattle.std.specs.Prelude.{Option, Some, None, IfSome, Result, Ok, Err, is_some, flat_map, option_to_list, ◌↔◌}
+use Rattle.std.specs.Prelude.{Option, Some, None, IfSome, Result, Ok, Err, IfOk, OnOk, is_some, flat_map, option_to_list, ◌↔◌}
 use Rattle.std.specs.List.{Contains}
 use Rattle.vk_base.specs.Stops.{stop_fault_in}
 use Rattle.vk_base.specs.declared.stops.Stop.{Stop}
@@ -31,10 +31,12 @@ use Rattle.vk_choices.specs.ChoiceViews.{choice_view}
 use Rattle.vk_choices.specs.Clear.{IsClear}
 use Rattle.vk_resolution.proofs.Members.{true_or_false, true_false, no_is_false}
 use Rattle.vk_resolution.proofs.FactLemmas.{among_contains, contains_among, instance_key-IsKey}
-use Rattle.vk_planned.specs.Graphs.{IsGraph}
+use Rattle.vk_rules.specs.declared.flaws.Flaw.{Flaw}
+use Rattle.vk_planned.specs.Flaws.{AreFlaws}
+use Rattle.vk_planset.specs.Judging.{IsJudged}
 use Rattle.vk_planset.specs.declared.sets.PlanSetFault.{PlanSetFault}
 use Rattle.vk_planset.specs.Members.{HaveSame}
-use Rattle.vk_planset.specs.Places.{has_choice, chosen_in, order_of, place_of}
+use Rattle.vk_planset.specs.Places.{has_choice, chosen_in, seat_order, place_of}
 use Rattle.vk_planset.specs.Seats.{features_in, features_of_seat, needs_of_seat, seated_features, seated_needs}
 use Rattle.vk_planset.specs.Items.{made}
 use Rattle.vk_planset.specs.Assembled.{AreAssembled, IsPlannedGraph, IsTold}
@@ -80,40 +82,62 @@ third_on inputs facts planned needs (x ∷ xs) are =
 pub third_needs : (inputs : Inputs) (facts planned needs : List Fact) → AreNeeds planned needs → third_faults_of inputs facts needs ≡ third_faults_of inputs facts planned
 third_needs inputs facts planned needs are = third_on inputs facts planned needs facts are
 
-pub clean_nothing : (o : Option Pages) (s : Setting) (facts needs : List Fact) (edges : List (ℕ × ℕ)) (clean : Bool) (fs : List plain.Fault) → fs ≡ [] → clean ≡ true
-    → IfSome o (λ pages. IsPlannedGraph (inputs_of s pages) facts needs edges clean) → IfSome o (λ pages. fs ≡ third_faults_of (inputs_of s pages) facts needs)
-clean_nothing None s facts needs edges clean fs none e graph = tt
-clean_nothing (Some pages) s facts needs edges clean fs none e graph = none ∙ sym (third_needs (inputs_of s pages) facts graph.planned needs graph.graph.all ∙ graph.third e)
-
-third_of : (o : Option Pages) (s : Setting) (facts needs : List Fact) (edges : List (ℕ × ℕ)) (clean : Bool) (fs lines : List plain.Fault)
-    → IfSome o (λ pages. IsPlannedGraph (inputs_of s pages) facts needs edges clean) → IfSome o (λ pages. fs ≡ third_faults_of (inputs_of s pages) facts needs) → IsTold fs lines → IfSome o (λ pages. AreThird (inputs_of s pages) facts lines)
-third_of None s facts needs edges clean fs lines graph is told = tt
-third_of (Some pages) s facts needs edges clean fs lines graph is told =
-    let same : fs ≡ third_faults_of (inputs_of s pages) facts graph.planned = is ∙ third_needs (inputs_of s pages) facts graph.planned needs graph.graph.all in record {
-      planned = graph.planned;
-      is_planned = graph.graph.is_planned;
+pub third_of : (inputs : Inputs) (facts needs : List Fact) (edges : List (ℕ × ℕ)) (lines : List plain.Fault) → IsPlannedGraph inputs facts needs edges → IsTold (third_faults_of inputs facts needs) lines → AreThird inputs facts lines
+third_of inputs facts needs edges lines graph told =
+    let same : third_faults_of inputs facts needs ≡ third_faults_of inputs facts graph.0 = third_needs inputs facts graph.0 needs graph.1.all in record {
+      planned = graph.0;
+      is_planned = graph.1.is_planned;
       some = subst (λ l. l ≢ []) same told.some;
       told = told.told ∙ ap (lines_of fault_line) same;
     }
 
-told_by : (o : Option Pages) (s : Setting) (facts needs : List Fact) (edges : List (ℕ × ℕ)) (clean : Bool) (fs : List plain.Fault) (fault : Option PlanSetFault)
-    → IfSome o (λ pages. IsPlannedGraph (inputs_of s pages) facts needs edges clean) → IfSome o (λ pages. fs ≡ third_faults_of (inputs_of s pages) facts needs)
-    → IfSome fault (λ f. IsTold fs (lines_in f)) → IfSome fault (λ f. IfSome o (λ pages. AreThird (inputs_of s pages) facts (lines_in f)))
-told_by o s facts needs edges clean fs None graph is told = tt
-told_by o s facts needs edges clean fs (Some f) graph is told = third_of o s facts needs edges clean fs (lines_in f) graph is told
+-- what is told of some faults, where they are the third phase's
+module _ (reasons : List Reason) (entries : List (List ℕ × Choice)) (needs : List Fact) (edges : List (ℕ × ℕ)) (flaws : List (Option Flaw)) where
+  abbrev Judged : Setting → Pages → Type 0
+  Judged s pages = IsJudged (inputs_of s pages) reasons entries needs edges flaws
 
-pub told_third : {A : Type 0} (result : Result A (Stop PlanSetFault)) (o : Option Pages) (s : Setting) (facts needs : List Fact) (edges : List (ℕ × ℕ)) (clean : Bool) (fs : List plain.Fault)
-    → IfSome o (λ pages. IsPlannedGraph (inputs_of s pages) facts needs edges clean) → IfSome o (λ pages. fs ≡ third_faults_of (inputs_of s pages) facts needs)
-    → OnFaults result (IsTold fs) → OnFaults result (λ lines. IfSome o (λ pages. AreThird (inputs_of s pages) facts lines))
-told_third (Ok x) o s facts needs edges clean fs graph is told = tt
-told_third (Err e) o s facts needs edges clean fs graph is told = told_by o s facts needs edges clean fs (stop_fault_in e) graph is told
+  abbrev third : Setting → Pages → List plain.Fault
+  third s pages = third_faults_of (inputs_of s pages) (facts_of reasons) needs
+
+  module _ (fs : List plain.Fault) (same : (s : Setting) (pages : Pages) → Judged s pages → fs ≡ third s pages) where
+    pub clear_on : {A : Type 0} (result : Result A (Stop PlanSetFault)) → OnOk result (fs ≡ []) → OnOk result ((s : Setting) (pages : Pages) → Judged s pages → third s pages ≡ [])
+    clear_on (Ok x) none = λ s pages judged. sym (same s pages judged) ∙ none
+    clear_on (Err e) none = tt
+
+    faults_by : (fault : Option PlanSetFault) → IfSome fault (λ f. IsTold fs (lines_in f)) → IfSome fault (λ f. (s : Setting) (pages : Pages) → Judged s pages → AreThird (inputs_of s pages) (facts_of reasons) (lines_in f))
+    faults_by None told = tt
+    faults_by (Some f) told = λ s pages judged. third_of (inputs_of s pages) (facts_of reasons) needs edges (lines_in f) judged.graph (subst (λ l. IsTold l (lines_in f)) (same s pages judged) told)
+
+    pub faults_on : {A : Type 0} (result : Result A (Stop PlanSetFault)) → OnFaults result (IsTold fs) → OnFaults result (λ lines. (s : Setting) (pages : Pages) → Judged s pages → AreThird (inputs_of s pages) (facts_of reasons) lines)
+    faults_on (Ok x) told = tt
+    faults_on (Err e) told = faults_by (stop_fault_in e) told
+
+  -- where the pages are told
+  module _ (s : Setting) where
+    pub judged_on : (o : Option Pages) → IfSome o (λ pages. IsClear (inputs_of s pages) reasons) → IfSome o (λ pages. IsChoices (inputs_of s pages) (facts_of reasons) (map choice_view entries))
+        → IfSome o (λ pages. IsPlannedGraph (inputs_of s pages) (facts_of reasons) needs edges) → IfSome o (λ pages. AreFlaws (inputs_of s pages) (facts_of reasons) needs flaws) → IfSome o (Judged s)
+    judged_on None clear chosen graph have = tt
+    judged_on (Some pages) clear chosen graph have = record { clear = clear; chosen = chosen; graph = graph; have = have }
+
+    on_pages : (Q : Setting → Pages → Type 0) (o : Option Pages) → IfSome o (Judged s) → ((s : Setting) (pages : Pages) → Judged s pages → Q s pages) → IfSome o (Q s)
+    on_pages Q None judged all = tt
+    on_pages Q (Some pages) judged all = all s pages judged
+
+    pub set_on_pages : {A E : Type 0} (Q : A → Setting → Pages → Type 0) (result : Result A E) (o : Option Pages) → IfSome o (Judged s) → IfOk result (λ x. (s : Setting) (pages : Pages) → Judged s pages → Q x s pages) → IfOk result (λ x. IfSome o (Q x s))
+    set_on_pages Q (Ok x) o judged all = on_pages (Q x) o judged all
+    set_on_pages Q (Err e) o judged all = tt
+
+    third_by : (fault : Option PlanSetFault) (o : Option Pages) → IfSome o (Judged s) → IfSome fault (λ f. (s : Setting) (pages : Pages) → Judged s pages → AreThird (inputs_of s pages) (facts_of reasons) (lines_in f))
+        → IfSome fault (λ f. IfSome o (λ pages. AreThird (inputs_of s pages) (facts_of reasons) (lines_in f)))
+    third_by None o judged all = tt
+    third_by (Some f) o judged all = on_pages (λ s pages. AreThird (inputs_of s pages) (facts_of reasons) (lines_in f)) o judged all
+
+    pub third_on_pages : {A : Type 0} (result : Result A (Stop PlanSetFault)) (o : Option Pages) → IfSome o (Judged s) → OnFaults result (λ lines. (s : Setting) (pages : Pages) → Judged s pages → AreThird (inputs_of s pages) (facts_of reasons) lines)
+        → OnFaults result (λ lines. IfSome o (λ pages. AreThird (inputs_of s pages) (facts_of reasons) lines))
+    third_on_pages (Ok x) o judged all = tt
+    third_on_pages (Err e) o judged all = third_by (stop_fault_in e) o judged all
 
 -- ---- the set
-
-pub planned_graph : (o : Option Pages) (s : Setting) (facts needs : List Fact) (edges : List (ℕ × ℕ)) (clean : Bool) → IfSome o (λ pages. (planned : List Fact) × IsGraph (inputs_of s pages) facts planned needs edges)
-    → IfSome o (λ pages. (planned : List Fact) → IsPlanned (inputs_of s pages) facts planned → clean ≡ true → third_faults_of (inputs_of s pages) facts planned ≡ []) → IfSome o (λ pages. IsPlannedGraph (inputs_of s pages) facts needs edges clean)
-planned_graph None s facts needs edges clean graph third = tt
-planned_graph (Some pages) s facts needs edges clean graph third = record { planned = graph.0; graph = graph.1; third = third graph.0 graph.1.is_planned }
 
 needed_need : (x : Fact) (i : Instance) → Contains (needed_in x) i → is_need x ≡ true
 needed_need (need who f) i h = refl
@@ -126,9 +150,9 @@ all_chosen entries (need (inst i) f) each = ap (λ b. cond b (i ∷ []) []) (eac
 all_chosen entries (floor p a) each = refl
 all_chosen entries (visit i f a) each = refl
 
-module _ (s : Setting) (pages : Pages) (reasons : List Reason) (entries : List (List ℕ × Choice)) (needs : List Fact) (edges : List (ℕ × ℕ)) (clean : Bool) (items : List Item)
+module _ (s : Setting) (pages : Pages) (reasons : List Reason) (entries : List (List ℕ × Choice)) (needs : List Fact) (edges : List (ℕ × ℕ)) (items : List Item)
     (clear : IsClear (inputs_of s pages) reasons) (choices : IsChoices (inputs_of s pages) (facts_of reasons) (map choice_view entries))
-    (graph : IsPlannedGraph (inputs_of s pages) (facts_of reasons) needs edges clean) (are : AreAssembled entries needs edges items) (small : length needs < 4294967296) where
+    (graph : IsPlannedGraph (inputs_of s pages) (facts_of reasons) needs edges) (are : AreAssembled entries needs edges items) (small : length needs < 4294967296) where
   abbrev inputs : Inputs
   inputs = inputs_of s pages
 
@@ -136,20 +160,20 @@ module _ (s : Setting) (pages : Pages) (reasons : List Reason) (entries : List (
   facts = facts_of reasons
 
   abbrev order : List Instance
-  order = order_of entries needs
+  order = seat_order entries needs
 
   in_facts : (x : Fact) → Contains needs x → Contains facts x
-  in_facts x h = (plan_stays_within inputs at_most-IsOrder facts graph.planned clear.are_reasons.facts.least clear.clear graph.graph.is_planned).within x ((graph.graph.all x).0 h).0
+  in_facts x h = (plan_stays_within inputs at_most-IsOrder facts graph.0 clear.are_reasons.facts.least clear.clear graph.1.is_planned).within x ((graph.1.all x).0 h).0
 
   chosen_each : (x : Fact) → Contains needs x → chosen_in entries x ≡ needed_in x
   chosen_each x h = all_chosen entries x (λ i f e. ap is_some (needed_found inputs at_most-IsOrder reasons clear entries choices i f (subst (Contains facts) e (in_facts x h))).1)
 
-  order_is : order ≡ instances_of graph.planned
+  order_is : order ≡ instances_of graph.0
   order_is =
       ap (in_order instance_key) (flat_map_on (chosen_in entries) needed_in needs chosen_each)
-      ∙ order_one instance_key instance_key-IsKey (flat_map needed_in needs) (flat_map needed_in graph.planned) (record {
-        to = λ i h. (let r = contains-flat_map needed_in needs i h in flat_map-contains needed_in graph.planned r.0 i ((graph.graph.all r.0).0 r.1).0 r.2);
-        from = λ i h. (let r = contains-flat_map needed_in graph.planned i h in flat_map-contains needed_in needs r.0 i ((graph.graph.all r.0).1 (r.1, needed_need r.0 i r.2)) r.2);
+      ∙ order_one instance_key instance_key-IsKey (flat_map needed_in needs) (flat_map needed_in graph.0) (record {
+        to = λ i h. (let r = contains-flat_map needed_in needs i h in flat_map-contains needed_in graph.0 r.0 i ((graph.1.all r.0).0 r.1).0 r.2);
+        from = λ i h. (let r = contains-flat_map needed_in graph.0 i h in flat_map-contains needed_in needs r.0 i ((graph.1.all r.0).1 (r.1, needed_need r.0 i r.2)) r.2);
       })
 
   few : length order < 4294967296
@@ -158,36 +182,29 @@ module _ (s : Setting) (pages : Pages) (reasons : List Reason) (entries : List (
   distinct : NoRepeats order
   distinct = ascends-NoRepeats instance_key order (in_order-ascends instance_key (flat_map (chosen_in entries) needs))
 
-  made_is : (m : Item) (is : IsMade entries order are.seats m) → IsItem inputs facts graph.planned order (made is.instance is.seat is.choice)
+  made_is : (m : Item) (is : IsMade entries order are.seats m) → IsItem inputs facts graph.0 order (made is.instance is.seat is.choice)
   made_is m is =
       let found = found_is inputs facts entries choices is.instance.port is.choice is.found in
       let within = slice_get_within order is.place is.instance is.at in
       record {
         version = found.chosen;
         line = found.line;
-        features = features_are inputs facts graph.planned needs edges graph.graph order distinct few is.place is.instance is.at (features_in is.seat)
+        features = features_are inputs facts graph.0 needs edges graph.1 order distinct few is.place is.instance is.at (features_in is.seat)
             (subst (λ o. HaveSame (features_of_seat o) (seated_features order needs is.place)) is.seated (are.are_seats.features_same is.place within));
-        needs = needs_are inputs facts graph.planned needs edges graph.graph order distinct few is.place is.instance is.at is.seat.needs.keys
+        needs = needs_are inputs facts graph.0 needs edges graph.1 order distinct few is.place is.instance is.at is.seat.needs.keys
             (subst (λ o. HaveSame (needs_of_seat o) (seated_needs (map (place_of order) needs) edges is.place)) is.seated (are.are_seats.needs_same is.place within));
       }
 
-  each_is : (item : Item) → Contains items item → IsItem inputs facts graph.planned (plain_plan.order_of items) item
+  each_is : (item : Item) → Contains items item → IsItem inputs facts graph.0 (plain_plan.order_of items) item
   each_is item h =
       let m = item_made entries order are.seats item (subst (λ l. Contains l item) are.made h) in
-      subst (λ l. IsItem inputs facts graph.planned l item) (sym (items_order entries needs edges items are))
-      (subst (IsItem inputs facts graph.planned order) (sym m.is) (made_is item m))
+      subst (λ l. IsItem inputs facts graph.0 l item) (sym (items_order entries needs edges items are))
+      (subst (IsItem inputs facts graph.0 order) (sym m.is) (made_is item m))
 
-  set_on : third_faults_of inputs facts needs ≡ [] → IsSet inputs facts items
+  pub set_on : third_faults_of inputs facts needs ≡ [] → IsSet inputs facts items
   set_on third = record {
-    planned = graph.planned;
-    is_planned = graph.graph.is_planned;
-    clear = sym (third_needs inputs facts graph.planned needs graph.graph.all) ∙ third;
+    planned = graph.0;
+    is_planned = graph.1.is_planned;
+    clear = sym (third_needs inputs facts graph.0 needs graph.1.all) ∙ third;
     set = record { order = items_order entries needs edges items are ∙ order_is; each = each_is };
   }
-
-pub set_is : (o : Option Pages) (s : Setting) (reasons : List Reason) (entries : List (List ℕ × Choice)) (needs : List Fact) (edges : List (ℕ × ℕ)) (clean : Bool) (items : List Item)
-    → IfSome o (λ pages. IsClear (inputs_of s pages) reasons) → IfSome o (λ pages. IsChoices (inputs_of s pages) (facts_of reasons) (map choice_view entries))
-    → IfSome o (λ pages. IsPlannedGraph (inputs_of s pages) (facts_of reasons) needs edges clean) → IfSome o (λ pages. third_faults_of (inputs_of s pages) (facts_of reasons) needs ≡ [])
-    → AreAssembled entries needs edges items → length needs < 4294967296 → IfSome o (λ pages. IsSet (inputs_of s pages) (facts_of reasons) items)
-set_is None s reasons entries needs edges clean items clear choices graph third are small = tt
-set_is (Some pages) s reasons entries needs edges clean items clear choices graph third are small = set_on s pages reasons entries needs edges clean items clear choices graph are small third

@@ -5,5 +5,5 @@ pub mod Members
 pub mod Places
 pub mod Seats
 pub mod Items
-pub mod Judging
 pub mod Assembled
+pub mod Judging

@@ -17,8 +17,8 @@ abbrev pub chosen_in : List (List ℕ × Choice) → Fact → List Instance
 chosen_in choices x = filter (has_choice choices) (needed_in x)
 
 -- the instances of needs whose ports have choices, by port and triplet
-abbrev pub order_of : List (List ℕ × Choice) → List Fact → List Instance
-order_of choices needs = in_order instance_key (flat_map (chosen_in choices) needs)
+abbrev pub seat_order : List (List ℕ × Choice) → List Fact → List Instance
+seat_order choices needs = in_order instance_key (flat_map (chosen_in choices) needs)
 
 -- a place that fits into 32 bits
 abbrev pub fitting : ℕ → Option ℕ

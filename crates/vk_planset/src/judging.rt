@@ -1,36 +1,24 @@
 //! The third phase: what the plan can't serve.
-ghost use Rattle.std.specs.Prelude.{◌≡◌, ◌++◌, ◌∷◌, ◌<◌, ◌^◌, [], None, Some, IfOk, OnOk};
-ghost use Rattle.std.specs.Prelude.{bytes_eq, length, map, option_map};
-ghost use Rattle.std.specs.Map.{lookup};
-ghost use Rattle.vk_spec.specs.Catalogues.{OnPage, OnPages, OnlyAsked};
-ghost use Rattle.vk_spec.specs.Catalogues.{CanAskManifest, CanAskVersion};
-ghost use Rattle.vk_spec.specs.Versions.{ask_of};
+ghost use Rattle.std.specs.Prelude.{◌≡◌, ◌++◌, ◌∷◌, ◌<◌, ◌^◌, [], Some, IfOk, OnOk};
+ghost use Rattle.std.specs.Prelude.{length, map, option_map, slice_get};
+ghost use Rattle.vk_spec.specs.Settings as plain;
 ghost use Rattle.vk_base.specs.FeatureViews.{feature_view};
-ghost use Rattle.vk_base.specs.Stops.{was_out};
-ghost use Rattle.vk_resolution.specs.Settings as plain_who;
-ghost use Rattle.vk_resolution.specs.Asking.{is_among};
-ghost use Rattle.vk_resolution.specs.Givens.{manifest_at};
-ghost use Rattle.vk_resolution.specs.Faults.{judged, judged_at, third_faults_of};
+ghost use Rattle.vk_resolution.specs.Faults.{third_faults_of};
+ghost use Rattle.vk_resolution.specs.Givens.{Pages};
 ghost use Rattle.vk_resolution.specs.Planner.{inputs_of};
 ghost use Rattle.vk_resolution.specs.Reasons.{facts_of};
-ghost use Rattle.vk_resolution.specs.Selections.{IsChoices};
 ghost use Rattle.vk_model.specs.FactViews.{fact_view, reasons_view, who_view};
 ghost use Rattle.vk_model.specs.FaultViews.{fault_view};
-ghost use Rattle.vk_model.specs.SettingViews.{instance_view, setting_view};
-ghost use Rattle.vk_model.specs.Views.{manifest_view};
 ghost use Rattle.vk_rules.specs.Flaws.{flaw_faults};
-ghost use Rattle.vk_choices.specs.ChoiceViews.{choices_view};
-ghost use Rattle.vk_choices.specs.Clear.{IsClear};
-ghost use Rattle.vk_planset.specs.Judging.{faults_in, judged_choice, judged_fact};
-ghost use Rattle.vk_planset.specs.Judging.{judged_given, judged_where};
+ghost use Rattle.vk_planned.specs.Flaws.{flaw_in};
+ghost use Rattle.vk_planset.specs.Judging.{IsJudged, faults_in, flaw_of, flaw_told, version_told};
 
-use indexmap::IndexSet;
 use std::alloc::Global;
-use vk_base::{FeatureName, Instance, Memory, Outage};
-use vk_catalogue::Catalogue;
+use vk_base::{FeatureName, Memory};
 use vk_choices::Choices;
-use vk_model::{Fact, Fault, Manifest, Reason, Setting, Who};
-use vk_rules::{Flaw, Rules};
+use vk_model::{Fact, Fault, Reason, Who};
+use vk_planned::Planned;
+use vk_rules::Flaw;
 use vk_version::Version;
 
 fn copy_of(who: &Who) -> Result<Who, Memory>
@@ -81,171 +69,68 @@ fn fault_of(
     }
 }
 
-// What is wrong with a needed feature of a manifest, on the line of the need.
-fn judge_by(
-    rules: &Rules<'_>,
-    who: &Who,
-    feature: &FeatureName,
-    version: Option<&Version>,
-    manifest: &Manifest,
-    line: u32,
-) -> Result<Option<Fault>, Memory>
-    ensures { IfOk result (λ o. faults_in o ≡ judged (setting_view rules.now) (who_view who.now)
-        (feature_view feature.now) (option_map (λ w. w.now) version.entry)
-        (manifest_view manifest.now) line) }
+// The version that is told with a need: that of its port's choice.
+fn version_told<'a>(choices: &'a Choices, who: &Who) -> Option<&'a Version>
+    ensures { option_map (λ v. v.now) result
+        ≡ version_told choices.now.ports.entries (who_view who.now) }
 {
-    match rules.flaw(who, feature, manifest) {
-        Some(flaw) => Ok(Some(fault_of(flaw, who, feature, version, line)?)),
-        None => Ok(None),
+    match who {
+        Who::Root(_) => None,
+        Who::Inst(inst) => Some(&choices.of(&inst.port)?.version),
     }
 }
 
-// What is wrong with a needed feature of a version that is there.
-fn judge_listed<C: Catalogue>(
-    cat: &mut C,
-    rules: &Rules<'_>,
-    who: &Who,
-    inst: &Instance,
-    feature: &FeatureName,
-    version: &Version,
-    line: u32,
-) -> Result<Option<Fault>, Outage>
-    requires who { who_view who.now ≡ plain_who.inst (instance_view inst.now) }
-    requires can { OnPage inst.now.port (CanAskManifest (ask_of version.now)) (C.state cat.old) }
-    ensures asked { OnlyAsked (was_out result) (C.state cat.old) (C.state cat.new) }
-    ensures judged { IfOk result (λ o. OnPages (λ pages. faults_in o
-        ≡ judged_at (inputs_of (setting_view rules.now) pages) (instance_view inst.now)
-        (feature_view feature.now) version.now
-        (manifest_at pages inst.now.port (ask_of version.now)) line) (C.state cat.old)) }
-{
-    match cat.manifest(&inst.port, version.ask())? {
-        Ok(manifest) => Ok(judge_by(rules, who, feature, Some(version), &manifest, line)?),
-        Err(_) => Ok(None),
-    }
-}
-
-// What is wrong with a needed feature of a version, if it is there.
-fn judge_row<C: Catalogue>(
-    cat: &mut C,
-    rules: &Rules<'_>,
-    who: &Who,
-    inst: &Instance,
-    feature: &FeatureName,
-    version: &Version,
-    line: u32,
-) -> Result<Option<Fault>, Outage>
-    requires who { who_view who.now ≡ plain_who.inst (instance_view inst.now) }
-    requires can { OnPage inst.now.port CanAskVersion (C.state cat.old) }
-    ensures asked { OnlyAsked (was_out result) (C.state cat.old) (C.state cat.new) }
-    ensures judged { IfOk result (λ o. OnPages (λ pages. faults_in o
-        ≡ judged_at (inputs_of (setting_view rules.now) pages) (instance_view inst.now)
-        (feature_view feature.now) version.now
-        (manifest_at pages inst.now.port (ask_of version.now)) line) (C.state cat.old)) }
-{
-    match cat.version(&inst.port, version.ask())? {
-        Some(_) => judge_listed(cat, rules, who, inst, feature, version, line),
-        None => Ok(None),
-    }
-}
-
-// What is wrong with a needed feature of a version, where its port has a given one.
-fn judge_at<C: Catalogue>(
-    cat: &mut C,
-    rules: &Rules<'_>,
-    who: &Who,
-    inst: &Instance,
-    feature: &FeatureName,
-    version: &Version,
-    line: u32,
-) -> Result<Option<Fault>, Outage>
-    requires { who_view who.now ≡ plain_who.inst (instance_view inst.now) }
-    ensures asked { OnlyAsked (was_out result) (C.state cat.old) (C.state cat.new) }
-    ensures judged { IfOk result (λ o. OnPages (λ pages. faults_in o
-        ≡ judged_given (inputs_of (setting_view rules.now) pages) (instance_view inst.now)
-        (feature_view feature.now) version.now (pages inst.now.port).given line)
-        (C.state cat.old)) }
-{
-    match cat.given(&inst.port)? {
-        Ok(_) => judge_row(cat, rules, who, inst, feature, version, line),
-        Err(_) => Ok(None),
-    }
-}
-
-// What is wrong with a needed feature of an instance, by the version that is chosen for its port.
-fn judge_chosen<C: Catalogue>(
-    cat: &mut C,
-    rules: &Rules<'_>,
-    choices: &Choices,
-    who: &Who,
-    inst: &Instance,
-    feature: &FeatureName,
-    line: u32,
-) -> Result<Option<Fault>, Outage>
-    requires { who_view who.now ≡ plain_who.inst (instance_view inst.now) }
-    ensures asked { OnlyAsked (was_out result) (C.state cat.old) (C.state cat.new) }
-    ensures judged { IfOk result (λ o. OnPages (λ pages. faults_in o
-        ≡ judged_choice (inputs_of (setting_view rules.now) pages) (instance_view inst.now)
-        (feature_view feature.now) (lookup (bytes_eq inst.now.port) choices.now.ports.entries)
-        line) (C.state cat.old)) }
-{
-    match choices.of(&inst.port) {
-        Some(choice) => judge_at(cat, rules, who, inst, feature, &choice.version, line),
-        None => Ok(None),
-    }
-}
-
-// What is wrong with a need.
-fn judge<C: Catalogue>(
-    cat: &mut C,
-    setting: &Setting,
-    rules: &Rules<'_>,
-    choices: &Choices,
-    fact: &Fact,
-    line: u32,
-) -> Result<Option<Fault>, Outage>
-    requires { rules.now ≡ setting.now }
-    ensures asked { OnlyAsked (was_out result) (C.state cat.old) (C.state cat.new) }
-    ensures judged { IfOk result (λ o. OnPages (λ pages. faults_in o
-        ≡ judged_fact (inputs_of (setting_view setting.now) pages) choices.now.ports.entries
-        (fact_view fact.now) line) (C.state cat.old)) }
+// A flaw of a fact, on the line of the fact.
+fn tell_flaw(choices: &Choices, flaw: Flaw, fact: &Fact, line: u32) -> Result<Option<Fault>, Memory>
+    ensures { IfOk result (λ o. faults_in o ≡ flaw_told choices.now.ports.entries
+        (fact_view fact.now) (Some flaw) line) }
 {
     match fact {
-        Fact::Need { who, feature } => match who {
-            Who::Root(_) => Ok(judge_by(rules, who, feature, None, &setting.root, line)?),
-            Who::Inst(inst) => judge_chosen(cat, rules, choices, who, inst, feature, line),
-        },
+        Fact::Need { who, feature } => {
+            let version = version_told(choices, who);
+            Ok(Some(fault_of(flaw, who, feature, version, line)?))
+        }
         Fact::Floor { .. } => Ok(None),
         Fact::Visit { .. } => Ok(None),
     }
 }
 
-// Whether a fact is among the needs.
-fn is_among(needs: &IndexSet<Fact>, fact: &Fact) -> bool
-    ensures { result ≡ is_among (map fact_view needs.now.keys) (fact_view fact.now) }
+// The flaw at a place, if there is one.
+fn flaw_in(flaws: &[Option<Flaw>], place: usize) -> Option<Flaw>
+    ensures { result ≡ flaw_in (slice_get flaws.now place) }
 {
-    needs.contains(fact)
+    match flaws.get(place) {
+        Some(flaw) => *flaw,
+        None => None,
+    }
 }
 
-// What is wrong with a fact, if it is among the needs.
-fn judge_needed<C: Catalogue>(
-    cat: &mut C,
-    setting: &Setting,
-    rules: &Rules<'_>,
+// The flaw of a fact, if it is a need that has one.
+fn flaw_of(planned: &Planned, fact: &Fact) -> Option<Flaw>
+    ensures { result ≡ flaw_of (map fact_view planned.now.needs.keys) planned.now.flaws.items
+        (fact_view fact.now) }
+{
+    match planned.needs.get_index_of(fact) {
+        Some(place) => flaw_in(planned.flaws.as_slice(), place),
+        None => None,
+    }
+}
+
+// What is told of a fact.
+fn judge(
     choices: &Choices,
-    needs: &IndexSet<Fact>,
+    planned: &Planned,
     fact: &Fact,
     line: u32,
-) -> Result<Option<Fault>, Outage>
-    requires { rules.now ≡ setting.now }
-    ensures asked { OnlyAsked (was_out result) (C.state cat.old) (C.state cat.new) }
-    ensures judged { IfOk result (λ o. OnPages (λ pages. faults_in o
-        ≡ judged_where (inputs_of (setting_view setting.now) pages) choices.now.ports.entries
-        (map fact_view needs.now.keys) (fact_view fact.now) line) (C.state cat.old)) }
+) -> Result<Option<Fault>, Memory>
+    ensures { IfOk result (λ o. faults_in o ≡ flaw_told choices.now.ports.entries
+        (fact_view fact.now) (flaw_of (map fact_view planned.now.needs.keys)
+        planned.now.flaws.items (fact_view fact.now)) line) }
 {
-    if is_among(needs, fact) {
-        return judge(cat, setting, rules, choices, fact, line);
+    match flaw_of(planned, fact) {
+        Some(flaw) => tell_flaw(choices, flaw, fact, line),
+        None => Ok(None),
     }
-    Ok(None)
 }
 
 // Pushes a fault, if there is one.
@@ -260,30 +145,25 @@ fn push_fault(fault: Option<Fault>, faults: &mut Vec<Fault>) -> Result<(), Memor
 }
 
 /// What is wrong with the needs among the facts, each on its line, in the order of lines.
-pub(crate) fn third_faults<C: Catalogue>(
+pub(crate) fn third_faults(
     alloc: Global,
-    cat: &mut C,
-    setting: &Setting,
     reasons: &[Reason],
     choices: &Choices,
-    needs: &IndexSet<Fact>,
-) -> Result<Vec<Fault>, Outage>
+    planned: &Planned,
+) -> Result<Vec<Fault>, Memory>
     requires small { length reasons.now < 2 ^ 32 }
-    requires clear { OnPages (λ pages. IsClear (inputs_of (setting_view setting.now) pages)
-        (reasons_view reasons.now)) (C.state cat.old) }
-    requires choices { OnPages (λ pages. IsChoices (inputs_of (setting_view setting.now) pages)
-        (facts_of (reasons_view reasons.now)) (choices_view choices.now)) (C.state cat.old) }
-    ensures asked { OnlyAsked (was_out result) (C.state cat.old) (C.state cat.new) }
-    ensures faults { IfOk result (λ faults. OnPages (λ pages. map fault_view faults.items
-        ≡ third_faults_of (inputs_of (setting_view setting.now) pages)
-        (facts_of (reasons_view reasons.now)) (map fact_view needs.now.keys)) (C.state cat.old)) }
+    ensures { IfOk result (λ faults. (setting : plain.Setting) (pages : Pages)
+        → IsJudged (inputs_of setting pages) (reasons_view reasons.now)
+        choices.now.ports.entries (map fact_view planned.now.needs.keys) planned.now.edges.items
+        planned.now.flaws.items
+        → map fault_view faults.items ≡ third_faults_of (inputs_of setting pages)
+        (facts_of (reasons_view reasons.now)) (map fact_view planned.now.needs.keys)) }
 {
-    let rules = Rules::new(alloc, setting)?;
     let mut faults = Vec::new(alloc);
     let mut line = 0;
     for reason in reasons {
         line += 1;
-        let fault = judge_needed(cat, setting, &rules, choices, needs, &reason.fact, line)?;
+        let fault = judge(choices, planned, &reason.fact, line)?;
         push_fault(fault, &mut faults)?;
     }
     Ok(faults)

@@ -8,7 +8,7 @@ ghost use Rattle.vk_model.specs.FactViews.{fact_view};
 ghost use Rattle.vk_model.specs.SettingViews.{instance_view};
 ghost use Rattle.vk_rules.specs.Offs.{is_same};
 ghost use Rattle.vk_planset.specs.Members.{HasMore, HaveSame};
-ghost use Rattle.vk_planset.specs.Places.{chosen_in, fitting, has_choice, order_of, place_of};
+ghost use Rattle.vk_planset.specs.Places.{chosen_in, fitting, has_choice, place_of, seat_order};
 
 use indexmap::IndexSet;
 use std::alloc::Global;
@@ -110,7 +110,7 @@ pub(crate) fn order_of(
     needs: &[Fact],
 ) -> Result<IndexSet<Instance>, Memory>
     ensures { IfOk result (λ order. map instance_view order.keys
-        ≡ order_of choices.now.ports.entries (map fact_view needs.now)) }
+        ≡ seat_order choices.now.ports.entries (map fact_view needs.now)) }
 {
     let mut order = instances_of(alloc, choices, needs)?;
     order.sort_unstable()?;

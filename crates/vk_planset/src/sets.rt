@@ -1,10 +1,12 @@
 //! The planned set of choices.
-ghost use Rattle.std.specs.Prelude.{◌≡◌, ◌+◌, ◌<◌, ◌≤◌, ◌^◌, [], false, List};
-ghost use Rattle.std.specs.Prelude.{IfOk, OnOk, length, map};
+ghost use Rattle.std.specs.Prelude.{◌≡◌, ◌+◌, ◌<◌, ◌≤◌, ◌^◌, ℕ, [], false, true, List, None};
+ghost use Rattle.std.specs.Prelude.{IfOk, OnOk, length, map, slice_get};
 ghost use Rattle.vk_spec.specs.Catalogues.{OnlyAsked, OnPages};
-ghost use Rattle.vk_base.specs.Stops.{has_failed, was_out};
+ghost use Rattle.vk_spec.specs.Settings as plain_setting;
+ghost use Rattle.vk_base.specs.Stops.{has_failed};
 ghost use Rattle.vk_resolution.specs.Asking as plain;
 ghost use Rattle.vk_resolution.specs.Faults.{third_faults_of};
+ghost use Rattle.vk_resolution.specs.Givens.{Pages};
 ghost use Rattle.vk_resolution.specs.Planner.{inputs_of};
 ghost use Rattle.vk_resolution.specs.Planning.{IsPlanned};
 ghost use Rattle.vk_resolution.specs.Reasons.{facts_of};
@@ -16,7 +18,9 @@ ghost use Rattle.vk_worklist.specs.Ticks.{ticks};
 ghost use Rattle.vk_choices.specs.ChoiceViews.{choices_view};
 ghost use Rattle.vk_choices.specs.Clear.{IsClear};
 ghost use Rattle.vk_order.specs.Sets.{AreItems};
-ghost use Rattle.vk_planset.specs.Assembled.{AreAssembled, IsPlannedGraph, IsTold};
+ghost use Rattle.vk_planned.specs.Flaws.{flaw_in};
+ghost use Rattle.vk_planset.specs.Assembled.{AreAssembled, IsTold};
+ghost use Rattle.vk_planset.specs.Judging.{IsJudged};
 ghost use Rattle.vk_planset.specs.Sets.{AreThird, IsSet, OnFaults};
 
 use crate::items::items_of;
@@ -25,12 +29,13 @@ use crate::orders::order_of;
 use crate::seats::seats_of;
 use std::alloc::Global;
 use std::sync::ledger::Ledger;
-use vk_base::{List, Memory, Outage, Steps, Stop};
+use vk_base::{List, Memory, Steps, Stop};
 use vk_catalogue::Catalogue;
 use vk_choices::Choices;
 use vk_fault_lines::sorted;
 use vk_model::{Fault, PlanSet, Reason, Setting};
 use vk_planned::{Planned, plan_needs};
+use vk_rules::Flaw;
 
 /// Why there is no planned set.
 #[derive(Drop)]
@@ -63,34 +68,37 @@ fn assembled(
     })
 }
 
-// The faults of the third phase, if any may be there.
-fn faults_of<C: Catalogue>(
+// Whether no flaw is kept.
+fn none_kept(flaws: &[Option<Flaw>]) -> bool
+    ensures { result ≡ true → (m : ℕ) → flaw_in (slice_get flaws.now m) ≡ None }
+{
+    for flaw in flaws {
+        if flaw.is_some() {
+            return false;
+        }
+    }
+    true
+}
+
+// The faults of the third phase. Mostly there are none, and no line is looked at.
+fn faults_of(
     alloc: Global,
-    cat: &mut C,
-    setting: &Setting,
     reasons: &[Reason],
     choices: &Choices,
     planned: &Planned,
-) -> Result<Vec<Fault>, Outage>
+) -> Result<Vec<Fault>, Memory>
     requires small { length reasons.now < 2 ^ 32 }
-    requires clear { OnPages (λ pages. IsClear (inputs_of (setting_view setting.now) pages)
-        (reasons_view reasons.now)) (C.state cat.old) }
-    requires choices { OnPages (λ pages. IsChoices (inputs_of (setting_view setting.now) pages)
-        (facts_of (reasons_view reasons.now)) (choices_view choices.now)) (C.state cat.old) }
-    requires planned { OnPages (λ pages. IsPlannedGraph
-        (inputs_of (setting_view setting.now) pages) (facts_of (reasons_view reasons.now))
-        (map fact_view planned.now.needs.keys) planned.now.edges.items planned.now.clean)
-        (C.state cat.old) }
-    ensures asked { OnlyAsked (was_out result) (C.state cat.old) (C.state cat.new) }
-    ensures faults { IfOk result (λ faults. OnPages (λ pages. map fault_view faults.items
-        ≡ third_faults_of (inputs_of (setting_view setting.now) pages)
-        (facts_of (reasons_view reasons.now)) (map fact_view planned.now.needs.keys))
-        (C.state cat.old)) }
+    ensures { IfOk result (λ faults. (setting : plain_setting.Setting) (pages : Pages)
+        → IsJudged (inputs_of setting pages) (reasons_view reasons.now)
+        choices.now.ports.entries (map fact_view planned.now.needs.keys) planned.now.edges.items
+        planned.now.flaws.items
+        → map fault_view faults.items ≡ third_faults_of (inputs_of setting pages)
+        (facts_of (reasons_view reasons.now)) (map fact_view planned.now.needs.keys)) }
 {
-    if planned.clean {
+    if none_kept(&planned.flaws) {
         return Ok(Vec::new(alloc));
     }
-    third_faults(alloc, cat, setting, reasons, choices, &planned.needs)
+    third_faults(alloc, reasons, choices, planned)
 }
 
 // Tells the faults, if there are any.
@@ -106,33 +114,55 @@ fn tell(alloc: Global, faults: Vec<Fault>) -> Result<(), Stop<PlanSetFault>>
 }
 
 // That the plan can serve all that is needed.
-fn check<C: Catalogue>(
+fn check(
     alloc: Global,
-    cat: &mut C,
-    setting: &Setting,
     reasons: &[Reason],
     choices: &Choices,
     planned: &Planned,
 ) -> Result<(), Stop<PlanSetFault>>
     requires small { length reasons.now < 2 ^ 32 }
-    requires clear { OnPages (λ pages. IsClear (inputs_of (setting_view setting.now) pages)
-        (reasons_view reasons.now)) (C.state cat.old) }
-    requires choices { OnPages (λ pages. IsChoices (inputs_of (setting_view setting.now) pages)
-        (facts_of (reasons_view reasons.now)) (choices_view choices.now)) (C.state cat.old) }
-    requires planned { OnPages (λ pages. IsPlannedGraph
-        (inputs_of (setting_view setting.now) pages) (facts_of (reasons_view reasons.now))
-        (map fact_view planned.now.needs.keys) planned.now.edges.items planned.now.clean)
-        (C.state cat.old) }
-    ensures clear { OnOk result (OnPages (λ pages. third_faults_of
-        (inputs_of (setting_view setting.now) pages) (facts_of (reasons_view reasons.now))
-        (map fact_view planned.now.needs.keys) ≡ []) (C.state cat.old)) }
-    ensures faults { OnFaults result (λ lines. OnPages (λ pages. AreThird
-        (inputs_of (setting_view setting.now) pages) (facts_of (reasons_view reasons.now))
-        lines) (C.state cat.old)) }
-    ensures asked { OnlyAsked (has_failed result) (C.state cat.old) (C.state cat.new) }
+    ensures clear { OnOk result ((setting : plain_setting.Setting) (pages : Pages)
+        → IsJudged (inputs_of setting pages) (reasons_view reasons.now)
+        choices.now.ports.entries (map fact_view planned.now.needs.keys) planned.now.edges.items
+        planned.now.flaws.items
+        → third_faults_of (inputs_of setting pages) (facts_of (reasons_view reasons.now))
+        (map fact_view planned.now.needs.keys) ≡ []) }
+    ensures faults { OnFaults result (λ lines. (setting : plain_setting.Setting) (pages : Pages)
+        → IsJudged (inputs_of setting pages) (reasons_view reasons.now)
+        choices.now.ports.entries (map fact_view planned.now.needs.keys) planned.now.edges.items
+        planned.now.flaws.items
+        → AreThird (inputs_of setting pages) (facts_of (reasons_view reasons.now)) lines) }
+    ensures calm { has_failed result ≡ false }
 {
-    let faults = faults_of(alloc, cat, setting, reasons, choices, planned)?;
+    let faults = faults_of(alloc, reasons, choices, planned)?;
     tell(alloc, faults)
+}
+
+// The planned set, or what it can't serve.
+fn set_of(
+    alloc: Global,
+    reasons: &[Reason],
+    choices: &Choices,
+    planned: &Planned,
+) -> Result<PlanSet, Stop<PlanSetFault>>
+    requires small { length reasons.now < 2 ^ 32 }
+    ensures set { IfOk result (λ s. (setting : plain_setting.Setting) (pages : Pages)
+        → IsJudged (inputs_of setting pages) (reasons_view reasons.now)
+        choices.now.ports.entries (map fact_view planned.now.needs.keys) planned.now.edges.items
+        planned.now.flaws.items
+        → IsSet (inputs_of setting pages) (facts_of (reasons_view reasons.now))
+        (map item_view s.items)) }
+    ensures items { IfOk result (λ s. AreItems (map item_view s.items)) }
+    ensures few { IfOk result (λ s. length s.items < 2 ^ 32) }
+    ensures faults { OnFaults result (λ lines. (setting : plain_setting.Setting) (pages : Pages)
+        → IsJudged (inputs_of setting pages) (reasons_view reasons.now)
+        choices.now.ports.entries (map fact_view planned.now.needs.keys) planned.now.edges.items
+        planned.now.flaws.items
+        → AreThird (inputs_of setting pages) (facts_of (reasons_view reasons.now)) lines) }
+    ensures calm { has_failed result ≡ false }
+{
+    check(alloc, reasons, choices, planned)?;
+    Ok(assembled(alloc, choices, planned, reasons.len())?)
 }
 
 /// An item for each planned instance, in the order of instances: its version, the line of its
@@ -168,6 +198,5 @@ pub fn plan_set<C: Catalogue, L: Ledger>(
     ensures asked { OnlyAsked (has_failed result) (C.state cat.old) (C.state cat.new) }
 {
     let planned = plan_needs(alloc, cat, setting, reasons, choices, steps)?;
-    check(alloc, cat, setting, reasons, choices, &planned)?;
-    Ok(assembled(alloc, choices, &planned, reasons.len())?)
+    set_of(alloc, reasons, choices, &planned)
 }

@@ -16,7 +16,7 @@ returns-clause-asked g c =
     may_asks c.args.basis.now (who_view c.args.who.now) (instance_view c.args.inst.now) (feature_view c.args.feature.now) c.requires.who (setting_view c.args.basis.now.rules) (ap setting_view c.requires.ruled) (found_view c.in_ok-found.found)
     (facts_view c.in_ok-expand_found.field-0.asked) (g.C.Catalogue.state c.args.cat.now).pages c.in_ok-expand_found.ensures.asked c.requires.sound c.requires.needed c.in_ok-found.ensures.found
 
-pub returns-clause-clean : goal.returns-clause-clean
-returns-clause-clean g c =
+pub returns-clause-flaw : goal.returns-clause-flaw
+returns-clause-flaw g c =
     may_judge c.args.basis.now (who_view c.args.who.now) (instance_view c.args.inst.now) (feature_view c.args.feature.now) c.requires.who (setting_view c.args.basis.now.rules) (ap setting_view c.requires.ruled) (found_view c.in_ok-found.found)
-    c.in_ok-expand_found.field-0.clean (g.C.Catalogue.state c.args.cat.now).pages c.in_ok-expand_found.ensures.clean c.requires.sound c.requires.needed c.in_ok-found.ensures.found
+    c.in_ok-expand_found.field-0.flaw (g.C.Catalogue.state c.args.cat.now).pages c.in_ok-expand_found.ensures.flaw c.requires.sound c.requires.needed c.in_ok-found.ensures.found

@@ -8,4 +8,4 @@ use Rattle.vk_planset.proofs.orders.place_of.Goals as goal
 
 pub returns-in-Some : goal.returns-in-Some
 returns-in-Some c =
-    c.place_in.ensures ∙ ap (option_and_then fitting) (position_view (same_instance (instance_view c.in-Some.inst.now)) c.args.order.now.keys) ∙ ap (place_among (map instance_view c.args.order.now.keys)) c.in-Some.ensures
+    c.place_in.ensures ∙ ap (option_and_then fitting) (position_view instance_view (same_instance (instance_view c.in-Some.inst.now)) c.args.order.now.keys) ∙ ap (place_among (map instance_view c.args.order.now.keys)) c.in-Some.ensures
