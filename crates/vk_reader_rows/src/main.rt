@@ -1,7 +1,9 @@
 //! Answers rows about what is read of one text: names, paths, tokens, decimals, versions,
-//! platform expressions, triplet files, JSON documents and what is read of those.
+//! platform expressions, triplet files, JSON documents and what is read of those, and the words of
+//! command lines.
 #![tactic(auto)]
 
+mod command_lines;
 mod configurations;
 mod documents;
 mod expressions;

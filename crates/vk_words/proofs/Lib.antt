@@ -1,3 +1,6 @@
 mod NumberLemmas
 mod ArgumentLemmas
 mod GivenLemmas
+mod FirstFaultLemmas
+mod StepLemmas
+mod OnceLemmas

@@ -7,3 +7,5 @@ pub mod Commands
 pub mod FaultTexts
 -- what functions say besides
 pub mod WordViews
+-- what the laws say
+pub mod Laws

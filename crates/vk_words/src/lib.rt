@@ -6,6 +6,7 @@
 mod arguments;
 mod commands;
 mod faults;
+pub mod laws;
 mod options;
 mod values;
 
