@@ -17,7 +17,7 @@ pub struct FileTree<R> {
     calls: u64,
 }
 
-// What stands at a path.
+// What stands at a path: at most one byte more than the limit.
 enum Found {
     Absent,
     Long,
@@ -29,27 +29,53 @@ fn is_absent(e: &io::Error) -> bool {
     e.kind() == ErrorKind::NotFound || e.kind() == ErrorKind::NotADirectory
 }
 
-// A folder counts as absent, and so does a link, which isn't followed.
-fn find<R: Files + Alloc<A = Global>>(rt: &R, path: &str, limit: u64) -> io::Result<Found> {
-    let kind = match fs::symlink_metadata(rt, path) {
-        Ok(kind) => kind,
-        Err(e) => {
-            return if is_absent(&e) {
-                Ok(Found::Absent)
-            } else {
-                Err(e)
-            };
-        }
-    };
-    if !kind.is_file() {
-        return Ok(Found::Absent);
+// How long the file at a path is. A folder counts as none, and so does a link, which isn't
+// followed.
+fn file_size<R: Files>(rt: &R, path: &str) -> io::Result<Option<u64>> {
+    match fs::symlink_metadata(rt, path) {
+        Ok(found) if found.is_file() => Ok(Some(found.len())),
+        Ok(_) => Ok(None),
+        Err(e) if is_absent(&e) => Ok(None),
+        Err(e) => Err(e),
     }
-    let file = fs::open(rt, path)?;
-    let mut bytes = Vec::new(rt.alloc());
-    let _ = file.take(limit.saturating_add(1)).read_to_end(&mut bytes)?;
-    if bytes.len() as u64 > limit {
+}
+
+// One read, which gives nothing where a signal interrupts it.
+fn read_once<F: Read>(file: &mut F, room: &mut [u8]) -> io::Result<usize> {
+    match file.read(room) {
+        Err(e) if e.kind() == ErrorKind::Interrupted => Ok(0),
+        read => read,
+    }
+}
+
+// The first bytes of a file that was this long a moment ago, at most so many. A read with room for
+// one more that gives just these has met the end; else the file changed, and is read to its end.
+fn read_bytes<F: Read + Drop>(
+    alloc: Global,
+    mut file: F,
+    size: usize,
+    most: u64,
+) -> io::Result<Vec<u8>> {
+    let mut bytes = Vec::from_elem(alloc, 0, size.saturating_add(1))?;
+    let count = read_once(&mut file, &mut bytes)?;
+    bytes.truncate(count);
+    if count != size {
+        let rest = most.saturating_sub(count as u64);
+        let _ = file.take(rest).read_to_end(&mut bytes)?;
+    }
+    Ok(bytes)
+}
+
+fn find<R: Files + Alloc<A = Global>>(rt: &R, path: &str, limit: u64) -> io::Result<Found> {
+    let Some(size) = file_size(rt, path)? else {
+        return Ok(Found::Absent);
+    };
+    if size > limit {
         return Ok(Found::Long);
     }
+    let file = fs::open(rt, path)?;
+    let most = limit.saturating_add(1);
+    let bytes = read_bytes(rt.alloc(), file, size as usize, most)?;
     Ok(Found::Bytes(bytes))
 }
 

@@ -14,4 +14,4 @@ mod row_manifests;
 mod settling;
 mod worlds;
 
-pub use worlds::World;
+pub use worlds::{Parts, Readings, World};

@@ -31,6 +31,22 @@ pub struct World<T: Tree> {
     library: Library,
 }
 
+/// What a world had read of its tree.
+#[derive(Drop)]
+pub struct Readings {
+    library: Library,
+}
+
+/// A world taken apart.
+#[derive(Drop)]
+pub struct Parts<T> {
+    /// The tree.
+    pub tree: T,
+    /// What was read of it. Freeing it takes as long as making it did, so that a program that ends
+    /// had better forget it.
+    pub read: Readings,
+}
+
 impl<T: Tree> Model for World<T> {
     ghost use Rattle.vk_world.specs.Worlds.{WorldView, learned_view, IsSound};
     ghost use Rattle.vk_expr.specs.contracts.exprs.Expr as expr;
@@ -82,8 +98,22 @@ impl<T: Tree> World<T> {
         ensures tree { result ≡ self.tree }
         ensures read { IsReadSince (state_of T.state self).origin (T.state result) }
     {
+        self.into_parts().tree
+    }
+
+    /// The tree as it stands, as `into_tree` answers it, and what was read of it, which a program
+    /// that ends need not free. Takes no memory.
+    pub fn into_parts(self) -> Parts<T>
+        ensures tree { result.tree ≡ self.tree }
+        ensures read { IsReadSince (state_of T.state self).origin (T.state result.tree) }
+    {
         self.library.files.known();
-        self.tree
+        Parts {
+            tree: self.tree,
+            read: Readings {
+                library: self.library,
+            },
+        }
     }
 
     /// The folder where a version of a port stands; `None` exactly where that version wasn't
