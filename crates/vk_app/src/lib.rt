@@ -9,4 +9,4 @@ mod requests;
 mod resolutions;
 mod runs;
 
-pub use runs::{Ran, run};
+pub use runs::{Ran, Spent, run};

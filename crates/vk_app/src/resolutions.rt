@@ -21,13 +21,14 @@ use vk_opening::{Opened, Start};
 use vk_resolve::resolve;
 use vk_tree::Tree;
 use vk_worklist::CloseFault;
-use vk_world::World;
+use vk_world::{Parts, Readings, World};
 
-/// What a project comes to, and the tree as it stands.
+/// What a project comes to, the tree as it stands, and what was read of it.
 #[derive(Drop)]
 pub struct Resolution<T> {
     pub outcome: Result<Outcome, Stop<CloseFault>>,
     pub tree: T,
+    pub read: Option<Readings>,
 }
 
 // What a setting and the pages of a world come to, with a count of steps.
@@ -58,9 +59,11 @@ fn resolved_on<T: Tree>(alloc: Global, setting: &Setting, start: Start, tree: T)
 {
     let mut world = World::on(alloc, start, tree);
     let outcome = resolved_by::<T, Brand>(alloc, setting, &mut world, Blank::new(1));
+    let Parts { tree, read } = world.into_parts();
     Resolution {
         outcome,
-        tree: world.into_tree(),
+        tree,
+        read: Some(read),
     }
 }
 
@@ -76,6 +79,7 @@ fn resolved_from<T: Tree>(alloc: Global, opened: Opened, tree: T) -> Resolution<
         Opened::Refused(early) => Resolution {
             outcome: Ok(Outcome::Early(early)),
             tree,
+            read: None,
         },
     }
 }
@@ -91,6 +95,7 @@ pub fn resolved<T: Tree>(alloc: Global, project: &Project, mut tree: T) -> Resol
         Err(outage) => Resolution {
             outcome: Err(Stop::from(outage)),
             tree,
+            read: None,
         },
     }
 }

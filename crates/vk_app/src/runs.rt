@@ -18,6 +18,7 @@ use vk_report::report_bytes;
 use vk_tree::{Sink, Tree};
 use vk_words::{WordFault, fault_text};
 use vk_worklist::CloseFault;
+use vk_world::Readings;
 
 /// How a run ended, and the tree as it stands.
 #[derive(Drop)]
@@ -27,13 +28,23 @@ pub struct Ran<T> {
     pub status: u8,
     /// The tree that was moved in.
     pub tree: T,
+    /// What the run made and is done with.
+    pub spent: Spent,
 }
 
-// How a run ends, before that is told, and the tree as it stands.
+/// What a run read and what it came to. A program that ends need not free it.
+#[derive(Drop)]
+pub struct Spent {
+    _read: Option<Readings>,
+    _outcome: Option<Result<Outcome, Stop<CloseFault>>>,
+}
+
+// How a run ends, before that is told, the tree as it stands, and what is done with.
 #[derive(Drop)]
 struct Ended<T> {
     end: End,
     tree: T,
+    spent: Spent,
 }
 
 // What memory ran out for has an end of its own.
@@ -81,8 +92,8 @@ fn end_of_outcome(alloc: Global, outcome: &Outcome) -> Result<End, Memory>
     Ok(End::Printed(status_of(outcome), report))
 }
 
-fn end_of_stop(alloc: Global, project: &Project, stop: Stop<CloseFault>) -> End
-    ensures { EndsWith (shown_of project.now (Err stop)) (end_view result) }
+fn end_of_stop(alloc: Global, project: &Project, stop: &Stop<CloseFault>) -> End
+    ensures { EndsWith (shown_of project.now (Err stop.now)) (end_view result) }
 {
     match stop {
         Stop::Fault(_) => or_memory(end_of_limit(alloc, project.max_facts)),
@@ -94,12 +105,12 @@ fn end_of_stop(alloc: Global, project: &Project, stop: Stop<CloseFault>) -> End
 fn end_of_resolved(
     alloc: Global,
     project: &Project,
-    outcome: Result<Outcome, Stop<CloseFault>>,
+    outcome: &Result<Outcome, Stop<CloseFault>>,
 ) -> End
-    ensures { EndsWith (shown_of project.now outcome) (end_view result) }
+    ensures { EndsWith (shown_of project.now outcome.now) (end_view result) }
 {
     match outcome {
-        Ok(outcome) => or_memory(end_of_outcome(alloc, &outcome)),
+        Ok(outcome) => or_memory(end_of_outcome(alloc, outcome)),
         Err(stop) => end_of_stop(alloc, project, stop),
     }
 }
@@ -108,10 +119,18 @@ fn end_of_plan<T: Tree>(alloc: Global, project: &Project, tree: T) -> Ended<T>
     ensures { EndsAs (Ok project.now) (end_view result.end) (T.state tree)
         (T.state result.tree) }
 {
-    let Resolution { outcome, tree } = resolved(alloc, project, tree);
-    Ended {
-        end: end_of_resolved(alloc, project, outcome),
+    let Resolution {
+        outcome,
         tree,
+        read,
+    } = resolved(alloc, project, tree);
+    Ended {
+        end: end_of_resolved(alloc, project, &outcome),
+        tree,
+        spent: Spent {
+            _read: read,
+            _outcome: Some(outcome),
+        },
     }
 }
 
@@ -134,6 +153,10 @@ fn end_of<T: Tree>(alloc: Global, words: &List<Word>, tree: T) -> Ended<T>
         Err(unread) => Ended {
             end: end_of_words(alloc, unread),
             tree,
+            spent: Spent {
+                _read: None,
+                _outcome: None,
+            },
         },
     }
 }
@@ -154,7 +177,11 @@ pub fn run<T: Tree, O: Sink, E: Sink>(
         (record { tree = T.state tree; out = O.state out.old; err = E.state err.old })
         (record { tree = T.state result.tree; out = O.state out.new; err = E.state err.new }) }
 {
-    let Ended { end, tree } = end_of(alloc, words, tree);
+    let Ended { end, tree, spent } = end_of(alloc, words, tree);
     let status = tell(&end, out, err);
-    Ran { status, tree }
+    Ran {
+        status,
+        tree,
+        spent,
+    }
 }

@@ -69,7 +69,7 @@ fn run_line<R: Files + Alloc<A = Global>, W: Write>(
         return tree;
     };
     let _ = say_line(out, line);
-    let Ran { status, tree } = run(alloc, &words, tree, out, err);
+    let Ran { status, tree, .. } = run(alloc, &words, tree, out, err);
     let _ = say_status(out, status);
     tree
 }

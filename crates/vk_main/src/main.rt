@@ -5,10 +5,10 @@
 ghost use Rattle.std.specs.Prelude.{◌<◌, ◌^◌, length, IfOk};
 
 use std::alloc::Global;
-use std::env;
 use std::io::ErrorKind;
 use std::process::ExitCode;
-use vk_app::run;
+use std::{env, mem};
+use vk_app::{Ran, run};
 use vk_base::{List, Memory, Text, Word};
 use vk_real::{FileTree, OutSink};
 use vk_tree::send;
@@ -55,8 +55,15 @@ fn main(rt: HostRuntime) -> ExitCode {
     let mut err = OutSink::new(rt.stderr());
     match words_of(&rt) {
         Ok(words) => {
-            let ran = run(alloc, &words, FileTree::new(rt), &mut out, &mut err);
-            ExitCode::from(ran.status)
+            let Ran { status, spent, .. } = run(
+                alloc,
+                &words,
+                FileTree::new(rt),
+                &mut out,
+                &mut err,
+            );
+            mem::forget(spent);
+            ExitCode::from(status)
         }
         Err(_) => match send(&mut err, b"memory\n") {
             Ok(()) => ExitCode::from(3),

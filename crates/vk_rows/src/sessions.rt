@@ -19,7 +19,7 @@ use crate::runs::{ROOM, Room, Sinks, room_of, tell_ended, words_of};
 use crate::workspaces::{Workspace, done};
 use crate::{page_rows, sink_rows, tree_rows};
 use std::alloc::Global;
-use vk_app::run;
+use vk_app::{Ran, run};
 use vk_base::{List, Memory, Unread, Word};
 use vk_catalogue::MemCatalogue;
 use vk_model::Project;
@@ -106,9 +106,9 @@ impl Session {
             return Err(Unread::Fault(NoRow));
         }
         let tree = self.files.take_tree(alloc)?;
-        let ran = run(alloc, words, tree, &mut sinks.out, &mut sinks.err);
-        self.files.tree = ran.tree;
-        Ok(ran.status)
+        let Ran { status, tree, .. } = run(alloc, words, tree, &mut sinks.out, &mut sinks.err);
+        self.files.tree = tree;
+        Ok(status)
     }
 
     fn run_words(&mut self, words: &List<Word>, reply: &mut Reply) {

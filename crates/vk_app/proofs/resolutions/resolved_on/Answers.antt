@@ -9,8 +9,8 @@ use Rattle.vk_app.proofs.resolutions.resolved_on.Goals as goal
 
 pub returns : goal.returns
 returns g c = record {
-  only = tree_read_once (start_view c.args.start) (paths_of (opened_files c.args.start)) g.T.Tree.state c.on-world.result c.resolved_by-outcome.new.world c.args.tree c.into_tree.result
-      c.on-world.ensures.tree c.into_tree.ensures.tree c.on-world.ensures.origin c.resolved_by-outcome.ensures.asked c.into_tree.ensures.read;
+  only = tree_read_once (start_view c.args.start) (paths_of (opened_files c.args.start)) g.T.Tree.state c.on-world.result c.resolved_by-outcome.new.world c.args.tree c.into_parts-tree.result.tree
+      c.on-world.ensures.tree c.into_parts-tree.ensures.tree c.on-world.ensures.origin c.resolved_by-outcome.ensures.asked c.into_parts-tree.ensures.read;
   content = pages_told (start_view c.args.start) (g.T.Tree.state c.args.tree).told (state_of g.T.Tree.state c.on-world.result).pages
       (λ pages. Resolves (Settles (setting_view c.args.setting.now) pages) c.resolved_by-outcome.result) c.on-world.ensures.pages c.resolved_by-outcome.ensures.content;
 }
