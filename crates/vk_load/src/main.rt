@@ -1,10 +1,11 @@
 //! Plans large projects over catalogues in memory: reads a shape and a number of ports a line, as
-//! `chain 20` or `side 20`, and tells how many facts and how many items there are. How long the
-//! closing took, and how long the whole plan, goes to standard error, in microseconds, so that what
-//! the program prints is always the same.
+//! `chain 20`, `side 20` or `ring 20`, and tells how many facts and how many items there are, none
+//! where the project is refused. How long the closing took, and how long the whole plan, goes to
+//! standard error, in microseconds, so that what the program prints is always the same.
 #![tactic(auto)]
 
 mod chains;
+mod rings;
 mod runs;
 mod sides;
 
@@ -26,10 +27,12 @@ fn facts_of(closure: Option<Closure>) -> Option<usize> {
     Some(closure?.reasons.len())
 }
 
+// A refused project has none.
 fn items_of(outcome: Option<Outcome>) -> Option<usize> {
     match outcome? {
         Outcome::Planned(plan, _) => Some(plan.items.len()),
-        _ => None,
+        Outcome::Refused(_, _) => Some(0),
+        Outcome::Early(_) => None,
     }
 }
 
@@ -113,6 +116,7 @@ fn shape_of(word: &str) -> Option<Shape> {
     match word {
         "chain" => Some(Shape::Chain),
         "side" => Some(Shape::Side),
+        "ring" => Some(Shape::Ring),
         _ => None,
     }
 }

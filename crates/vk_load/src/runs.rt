@@ -2,6 +2,7 @@
 ghost use Rattle.std.specs.Prelude.{◌≡◌, ◌<◌};
 
 use crate::chains::{NoLoad, Unmade, chain, chain_root};
+use crate::rings::{ring, ring_root};
 use crate::sides::{side_by_side, side_root};
 use std::alloc::Global;
 use std::marker::Brand;
@@ -23,6 +24,8 @@ pub enum Shape {
     Chain,
     /// None on another.
     Side,
+    /// Each on the next, and the last two on each other.
+    Ring,
 }
 
 /// A catalogue, and what a plan is made under.
@@ -59,6 +62,7 @@ fn root_of(alloc: Global, shape: Shape, size: u32) -> Result<Manifest, Unmade> {
     match shape {
         Shape::Chain => chain_root(alloc),
         Shape::Side => side_root(alloc, size),
+        Shape::Ring => ring_root(alloc),
     }
 }
 
@@ -66,6 +70,7 @@ fn pages_of(alloc: Global, shape: Shape, size: u32) -> Result<MemCatalogue, Unma
     match shape {
         Shape::Chain => chain(alloc, size),
         Shape::Side => side_by_side(alloc, size),
+        Shape::Ring => ring(alloc, size),
     }
 }
 
