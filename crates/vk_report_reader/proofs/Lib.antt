@@ -1,0 +1,11 @@
+pub mod Found
+pub mod NameForms
+pub mod Numbers
+pub mod PairForms
+pub mod TextForms
+pub mod ChoiceForms
+pub mod Through
+pub mod CauseForms
+pub mod VersionForms
+pub mod Spaced
+pub mod ReasonForms
