@@ -9,3 +9,9 @@ pub mod CauseForms
 pub mod VersionForms
 pub mod Spaced
 pub mod ReasonForms
+pub mod PathForms
+pub mod WordForms
+pub mod FaultForms
+pub mod EarlyForms
+pub mod FeatureForms
+pub mod ItemForms

@@ -57,6 +57,9 @@ unless_reserved false decides none = refl
 core_word : IsName word_rule core
 core_word = rule_from_no_fault word_rule core refl
 
+pub core_token : token_of core ≡ core
+core_token = name_token word_rule core core_word
+
 default_word : IsName word_rule default
 default_word = rule_from_no_fault word_rule default refl
 

@@ -17,7 +17,7 @@ pub cut_says : (c : ℕ) (bs : List ℕ) (r : Option (Bor (List ℕ) × Bor (Lis
     → MatchOption r (Lacks c bs) (λ p. (bs ≡ p.0.now ++ c ∷ p.1.now) × Lacks c p.0.now)
 cut_says c bs r is small = cut_from c bs r (split_parts c bs r is small)
 
-lacks_none : (mark : ℕ) (one other : List ℕ) → Lacks mark (one ++ mark ∷ other) → ⊥
+pub lacks_none : (mark : ℕ) (one other : List ℕ) → Lacks mark (one ++ mark ∷ other) → ⊥
 lacks_none mark [] other lacks = All-head (λ c. c ≢ mark) mark other lacks refl
 lacks_none mark (x ∷ one) other lacks = lacks_none mark one other (All-tail (λ c. c ≢ mark) x (one ++ mark ∷ other) lacks)
 

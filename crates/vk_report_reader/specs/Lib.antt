@@ -5,3 +5,8 @@ pub mod Names
 pub mod Versions
 pub mod Causes
 pub mod Reasons
+pub mod Paths
+pub mod Faults
+pub mod Earlies
+pub mod Features
+pub mod Items

@@ -4,9 +4,14 @@
 
 mod causes;
 mod choices;
+mod earlies;
+mod faults;
+mod features;
 mod forms;
+mod items;
 mod names;
 mod pairs;
+mod paths;
 mod reasons;
 mod texts;
 mod versions;
@@ -14,10 +19,14 @@ mod words;
 
 pub use causes::{FloorCause, NeedCause, VisitCause};
 pub use choices::{Either, Or};
+pub use earlies::AnyEarly;
+pub use features::Features;
 pub use forms::Form;
+pub use items::AnyItem;
 pub use names::{Feature, Number, Port, PortOrRoot, Triplet};
 pub use pairs::Then;
+pub use paths::{Place, ShortPath};
 pub use reasons::AnyReason;
 pub use texts::TokenText;
 pub use versions::{TextAsk, TextVersion, VersionIfAny};
-pub use words::{Known, Word};
+pub use words::{FieldWord, Known, WhyWord, Word};

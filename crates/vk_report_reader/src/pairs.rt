@@ -7,8 +7,8 @@ use crate::forms::Form;
 use std::alloc::Global;
 use vk_base::Memory;
 
-// What stands before the first such mark, and what behind it; `None` exactly where there is none.
-fn cut(text: &str, mark: char) -> Option<(&str, &str)>
+/// What stands before the first such mark, and what behind it; `None` exactly where there is none.
+pub(crate) fn cut(text: &str, mark: char) -> Option<(&str, &str)>
     requires { mark < 128 }
     ensures { MatchOption result (Lacks mark text.now)
         (λ p. (text.now ≡ p.0.now ++ mark ∷ p.1.now) × Lacks mark p.0.now) }

@@ -1,10 +1,16 @@
 //! Words that stand for themselves.
 ghost use Rattle.std.specs.Prelude.{◌≡◌, ◌↔◌, IsTrue};
 ghost use Rattle.std.specs.Fmt.{decimal};
+ghost use Rattle.vk_spec.specs.Pages as plain;
+ghost use Rattle.vk_base.specs.Printed.{field_word};
+ghost use Rattle.vk_json.specs.Words.{HasSmallNumber, word_of};
+ghost use Rattle.vk_model.specs.WrongViews.{field_view};
 
 use crate::forms::Form;
 use std::alloc::Global;
 use vk_base::{Memory, read_u32};
+use vk_json::Why;
+use vk_model::Field;
 
 /// A word.
 #[derive(Drop)]
@@ -59,5 +65,54 @@ impl Form for Known {
             return Ok(Some(()));
         }
         Ok(None)
+    }
+}
+
+/// The word for what is wrong with a file.
+#[derive(Drop)]
+pub struct WhyWord;
+
+impl Form for WhyWord {
+    type Out = Why;
+
+    ghost use Rattle.vk_json.specs.declared.faults.Why.{Why};
+
+    ghost Plain = { Why };
+
+    ghost plain = { λ why. why };
+
+    ghost prints = { λ f. word_of };
+
+    ghost is_right = { λ f. HasSmallNumber };
+
+    fn read(&self, _alloc: Global, text: &str) -> Result<Option<Why>, Memory> {
+        Ok(Why::read(text))
+    }
+}
+
+/// The word of a field.
+#[derive(Drop)]
+pub struct FieldWord;
+
+impl Form for FieldWord {
+    type Out = Field;
+
+    ghost Plain = { plain.Field };
+
+    ghost plain = { field_view };
+
+    ghost prints = { λ f. field_word };
+
+    ghost is_right = { λ f field. Unit {0} };
+
+    fn read(&self, _alloc: Global, text: &str) -> Result<Option<Field>, Memory> {
+        let field = match text {
+            "name" => Field::Name,
+            "class" => Field::Class,
+            "text" => Field::Text,
+            "port-version" => Field::Port,
+            _ => return Ok(None),
+        };
+        Ok(Some(field))
     }
 }
