@@ -15,3 +15,4 @@ pub mod FaultForms
 pub mod EarlyForms
 pub mod FeatureForms
 pub mod ItemForms
+pub mod CycleForms

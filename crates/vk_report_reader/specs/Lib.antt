@@ -10,3 +10,4 @@ pub mod Faults
 pub mod Earlies
 pub mod Features
 pub mod Items
+pub mod Cycles

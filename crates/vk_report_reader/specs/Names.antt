@@ -25,3 +25,6 @@ IsRightInstance i = IsName port_rule i.port × IsName word_rule i.triplet
 abbrev pub IsRightWho : Who → Type 0
 IsRightWho (root triplet) = IsName word_rule triplet
 IsRightWho (inst i) = IsRightInstance i
+
+abbrev pub instance_of : List ℕ → List ℕ → Instance
+instance_of port triplet = record { port = port; triplet = triplet }

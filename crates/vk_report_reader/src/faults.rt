@@ -13,6 +13,7 @@ ghost use Rattle.vk_report_reader.specs.Faults.{IsConflict, conflict_fault, conf
 ghost use Rattle.vk_report_reader.specs.Faults.{IsNoFeature, no_feature_fault, no_feature_parts};
 ghost use Rattle.vk_report_reader.specs.Faults.{IsUnsupported, unsupported_fault, unsupported_parts};
 
+use crate::cycles::Cycle;
 use crate::forms::Form;
 use crate::names::{Feature, Number, Port, PortOrRoot, Triplet};
 use crate::pairs::Then;
@@ -317,5 +318,49 @@ impl Form for Unsupported {
             Some(parts) => Ok(Some(unsupported_fault(parts))),
             None => Ok(None),
         }
+    }
+}
+
+/// A line that says why there is no plan.
+#[derive(Drop)]
+pub struct AnyFault;
+
+impl Form for AnyFault {
+    type Out = Fault;
+
+    ghost Plain = { plain.Fault };
+
+    ghost plain = { fault_view };
+
+    ghost prints = { λ f. fault_line };
+
+    ghost is_right = { λ f. IsRightFault };
+
+    fn read(&self, alloc: Global, text: &str) -> Result<Option<Fault>, Memory> {
+        if let Some(fault) = NoRegistry.read(alloc, text)? {
+            return Ok(Some(fault));
+        }
+        if let Some(fault) = NoBaseline.read(alloc, text)? {
+            return Ok(Some(fault));
+        }
+        if let Some(fault) = BadFile.read(alloc, text)? {
+            return Ok(Some(fault));
+        }
+        if let Some(fault) = NoVersion.read(alloc, text)? {
+            return Ok(Some(fault));
+        }
+        if let Some(fault) = Disagrees.read(alloc, text)? {
+            return Ok(Some(fault));
+        }
+        if let Some(fault) = Conflict.read(alloc, text)? {
+            return Ok(Some(fault));
+        }
+        if let Some(fault) = NoFeature.read(alloc, text)? {
+            return Ok(Some(fault));
+        }
+        if let Some(fault) = Unsupported.read(alloc, text)? {
+            return Ok(Some(fault));
+        }
+        Cycle.read(alloc, text)
     }
 }

@@ -4,6 +4,7 @@
 
 mod causes;
 mod choices;
+mod cycles;
 mod earlies;
 mod faults;
 mod features;
@@ -20,6 +21,7 @@ mod words;
 pub use causes::{FloorCause, NeedCause, VisitCause};
 pub use choices::{Either, Or};
 pub use earlies::AnyEarly;
+pub use faults::AnyFault;
 pub use features::Features;
 pub use forms::Form;
 pub use items::AnyItem;
