@@ -7,11 +7,9 @@ use Rattle.vk_resolution.specs.Lines.{cause_text}
 use Rattle.vk_report_reader.specs.Choices.{either_text, IsRightEither}
 use Rattle.vk_report_reader.specs.Forms.{pair_text, IsRightPair}
 use Rattle.vk_report_reader.specs.Causes.{Cited, IsLine, IsNeedCause, IsFloorCause, IsVisitCause, need_cause, floor_cause, visit_cause}
+use Rattle.vk_report_reader.specs.Places.{Any}
 use Rattle.vk_report_reader.proofs.Numbers.{decimal_lacks}
 use Rattle.vk_report_reader.proofs.Through.{AreParts}
-
-abbrev pub Any : Unit {0} → Type 0
-Any u = Unit {0}
 
 abbrev cited_text : List ℕ → Cited → List ℕ
 cited_text word = pair_text 32 (λ u. word) decimal

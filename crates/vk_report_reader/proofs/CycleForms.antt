@@ -18,7 +18,7 @@ use Rattle.vk_report_reader.specs.Cycles.{CycleParts, IsWalk, cycle_fault, walk_
 use Rattle.vk_report_reader.specs.Faults.{IsCycle, IsRightAnd, IsRightFault}
 use Rattle.vk_report_reader.specs.Forms.{ReadsAs, pair_text, IsRightPair}
 use Rattle.vk_report_reader.specs.Names.{IsRightInstance, instance_of}
-use Rattle.vk_report_reader.proofs.CauseForms.{Any}
+use Rattle.vk_report_reader.specs.Places.{Any}
 use Rattle.vk_report_reader.proofs.NameForms.{name_lacks}
 use Rattle.vk_report_reader.proofs.PairForms.{lacks_none, same_pair}
 use Rattle.vk_report_reader.proofs.Spaced.{spaced2}

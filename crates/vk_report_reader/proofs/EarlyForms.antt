@@ -13,7 +13,7 @@ use Rattle.vk_report_reader.specs.Choices.{either_text, IsRightEither}
 use Rattle.vk_report_reader.specs.Earlies.{EarlyParts, IsRightEarly, early_of}
 use Rattle.vk_report_reader.specs.Forms.{pair_text, IsRightPair}
 use Rattle.vk_report_reader.specs.Paths.{IsPlace, IsRightPath}
-use Rattle.vk_report_reader.proofs.CauseForms.{Any}
+use Rattle.vk_report_reader.specs.Places.{Any}
 use Rattle.vk_report_reader.proofs.NameForms.{name_lacks}
 use Rattle.vk_report_reader.proofs.PathForms.{path_blank, place_blank}
 use Rattle.vk_report_reader.proofs.Spaced.{spaced3}

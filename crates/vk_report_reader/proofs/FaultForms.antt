@@ -23,7 +23,7 @@ use Rattle.vk_report_reader.specs.Paths.{IsPlace, IsRightPath}
 use Rattle.vk_report_reader.specs.Texts.{IsText}
 use Rattle.vk_report_reader.specs.Versions.{IsRightAsk, IsRightIfAny, IsRightVersion}
 use Rattle.vk_report_reader.specs.Faults.{BadFileParts, ConflictParts, DisagreesParts, IsBadFile, IsConflict, IsCycle, IsDisagrees, IsNoBaseline, IsNoFeature, IsNoRegistry, IsNoVersion, IsRightAnd, IsRightFault, IsUnsupported, IsWord, NoBaselineParts, NoFeatureParts, NoRegistryParts, NoVersionParts, UnsupportedParts, bad_file_fault, conflict_fault, disagrees_fault, no_baseline_fault, no_feature_fault, no_registry_fault, no_version_fault, unsupported_fault}
-use Rattle.vk_report_reader.proofs.CauseForms.{Any}
+use Rattle.vk_report_reader.specs.Places.{Any}
 use Rattle.vk_report_reader.proofs.NameForms.{name_lacks}
 use Rattle.vk_report_reader.proofs.Numbers.{decimal_lacks}
 use Rattle.vk_report_reader.proofs.PathForms.{path_blank, place_blank}

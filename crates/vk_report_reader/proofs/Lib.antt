@@ -16,3 +16,5 @@ pub mod EarlyForms
 pub mod FeatureForms
 pub mod ItemForms
 pub mod CycleForms
+pub mod PlaceLemmas
+pub mod ReportForms

@@ -14,7 +14,7 @@ use Rattle.vk_report_reader.specs.Forms.{pair_text, IsRightPair}
 use Rattle.vk_report_reader.specs.Names.{IsPortIfAny, port_or_root}
 use Rattle.vk_report_reader.specs.Reasons.{FloorParts, IsFloor, IsFloorReason, IsNeed, IsNeedReason, IsRightFact, IsVisit, IsVisitReason, NeedParts, VisitParts, floor_reason, need_reason, visit_reason}
 use Rattle.vk_report_reader.specs.Versions.{IsRightAsk}
-use Rattle.vk_report_reader.proofs.CauseForms.{Any}
+use Rattle.vk_report_reader.specs.Places.{Any}
 use Rattle.vk_report_reader.proofs.NameForms.{name_lacks}
 use Rattle.vk_report_reader.proofs.Spaced.{spaced3, spaced4, spaced5}
 use Rattle.vk_report_reader.proofs.Through.{AreParts}

@@ -11,3 +11,6 @@ pub mod Earlies
 pub mod Features
 pub mod Items
 pub mod Cycles
+pub mod Places
+pub mod PlaceViews
+pub mod Cuts
