@@ -1,0 +1,16 @@
+pub mod Forms
+pub mod Choices
+pub mod Texts
+pub mod Names
+pub mod Versions
+pub mod Causes
+pub mod Reasons
+pub mod Paths
+pub mod Faults
+pub mod Earlies
+pub mod Features
+pub mod Items
+pub mod Cycles
+pub mod Places
+pub mod PlaceViews
+pub mod Cuts
