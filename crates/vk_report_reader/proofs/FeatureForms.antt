@@ -112,8 +112,8 @@ named_some : (text first rest : List ℕ) → text ≡ first ++ 44 ∷ rest → 
 named_some text first rest cut is fs read =
     let right : AreFeatures (core ∷ between_commas rest) = (refl, read.1) in
     let same : text ≡ features_text (core ∷ between_commas rest) =
-        cut ∙ ap (λ l. l ++ 44 ∷ rest) is ∙ ap (λ l. core ++ 44 ∷ l) (sym (join_with_byte-slice_split 44 rest))
-        ∙ sym (joined_more core (between_commas rest) (some_commas rest)) ∙ sym (features_plain (core ∷ between_commas rest) right) in
+    cut ∙ ap (λ l. l ++ 44 ∷ rest) is ∙ ap (λ l. core ++ 44 ∷ l) (sym (join_with_byte-slice_split 44 rest))
+    ∙ sym (joined_more core (between_commas rest) (some_commas rest)) ∙ sym (features_plain (core ∷ between_commas rest) right) in
     subst (λ l. (text ≡ features_text l) × AreFeatures l) (sym read.0) (same, right)
 
 -- a right list is `core` alone, or it goes on after a comma
@@ -129,8 +129,8 @@ named_none : (text first rest : List ℕ) → text ≡ first ++ 44 ∷ rest → 
 named_none text first rest cut lacks not_core none fs right e = elim (right_text fs right) [
   | inl alone ↦ not_core (e ∙ alone)
   | inr more ↦
-    let same = same_pair 44 first core rest (join_with_byte 44 more.0) lacks core_lacks (sym cut ∙ e ∙ more.1.0) in
-    none (subst (AreAbove []) (sym (ap between_commas same.1 ∙ above_again [] more.0 more.1.1 more.1.2)) more.1.1)
+      let same = same_pair 44 first core rest (join_with_byte 44 more.0) lacks core_lacks (sym cut ∙ e ∙ more.1.0) in
+      none (subst (AreAbove []) (sym (ap between_commas same.1 ∙ above_again [] more.0 more.1.1 more.1.2)) more.1.1)
 ]
 
 -- what follows the first comma

@@ -124,7 +124,10 @@ impl Form for BadFile {
     ghost is_right = { λ f. IsRightAnd IsBadFile };
 
     fn read(&self, alloc: Global, text: &str) -> Result<Option<Fault>, Memory> {
-        let form = Then(Word("bad-file"), Then(ShortPath, Then(Place, Then(WhyWord, Number))));
+        let form = Then(
+            Word("bad-file"),
+            Then(ShortPath, Then(Place, Then(WhyWord, Number))),
+        );
         match form.read(alloc, text)? {
             Some(parts) => Ok(Some(bad_file_fault(parts))),
             None => Ok(None),
@@ -196,7 +199,13 @@ impl Form for Disagrees {
     ghost is_right = { λ f. IsRightAnd IsDisagrees };
 
     fn read(&self, alloc: Global, text: &str) -> Result<Option<Fault>, Memory> {
-        let form = Then(Word("disagrees"), Then(ShortPath, Then(FieldWord, Then(TokenText, Then(TokenText, Number)))));
+        let form = Then(
+            Word("disagrees"),
+            Then(
+                ShortPath,
+                Then(FieldWord, Then(TokenText, Then(TokenText, Number))),
+            ),
+        );
         match form.read(alloc, text)? {
             Some(parts) => Ok(Some(disagrees_fault(parts))),
             None => Ok(None),
@@ -235,7 +244,13 @@ impl Form for Conflict {
     ghost is_right = { λ f. IsRightAnd IsConflict };
 
     fn read(&self, alloc: Global, text: &str) -> Result<Option<Fault>, Memory> {
-        let form = Then(Word("conflict"), Then(Port, Then(TextVersion, Then(Number, Then(TextVersion, Number)))));
+        let form = Then(
+            Word("conflict"),
+            Then(
+                Port,
+                Then(TextVersion, Then(Number, Then(TextVersion, Number))),
+            ),
+        );
         match form.read(alloc, text)? {
             Some(parts) => Ok(Some(conflict_fault(parts))),
             None => Ok(None),
@@ -243,7 +258,13 @@ impl Form for Conflict {
     }
 }
 
-type NoFeatureParts = ((), (Option<PortName>, (TripletName, (FeatureName, (Option<Version>, u32)))));
+type NoFeatureParts = (
+    (),
+    (
+        Option<PortName>,
+        (TripletName, (FeatureName, (Option<Version>, u32))),
+    ),
+);
 
 fn no_feature_fault(parts: NoFeatureParts) -> Fault
     ensures { fault_view result ≡ no_feature_fault (no_feature_parts parts) }
@@ -274,7 +295,13 @@ impl Form for NoFeature {
     ghost is_right = { λ f. IsRightAnd IsNoFeature };
 
     fn read(&self, alloc: Global, text: &str) -> Result<Option<Fault>, Memory> {
-        let form = Then(Word("no-feature"), Then(PortOrRoot, Then(Triplet, Then(Feature, Then(VersionIfAny, Number)))));
+        let form = Then(
+            Word("no-feature"),
+            Then(
+                PortOrRoot,
+                Then(Triplet, Then(Feature, Then(VersionIfAny, Number))),
+            ),
+        );
         match form.read(alloc, text)? {
             Some(parts) => Ok(Some(no_feature_fault(parts))),
             None => Ok(None),
@@ -282,7 +309,13 @@ impl Form for NoFeature {
     }
 }
 
-type UnsupportedParts = ((), (Option<PortName>, (TripletName, (FeatureName, (Option<Version>, u32)))));
+type UnsupportedParts = (
+    (),
+    (
+        Option<PortName>,
+        (TripletName, (FeatureName, (Option<Version>, u32))),
+    ),
+);
 
 fn unsupported_fault(parts: UnsupportedParts) -> Fault
     ensures { fault_view result ≡ unsupported_fault (unsupported_parts parts) }
@@ -313,7 +346,13 @@ impl Form for Unsupported {
     ghost is_right = { λ f. IsRightAnd IsUnsupported };
 
     fn read(&self, alloc: Global, text: &str) -> Result<Option<Fault>, Memory> {
-        let form = Then(Word("unsupported"), Then(PortOrRoot, Then(Triplet, Then(Feature, Then(VersionIfAny, Number)))));
+        let form = Then(
+            Word("unsupported"),
+            Then(
+                PortOrRoot,
+                Then(Triplet, Then(Feature, Then(VersionIfAny, Number))),
+            ),
+        );
         match form.read(alloc, text)? {
             Some(parts) => Ok(Some(unsupported_fault(parts))),
             None => Ok(None),

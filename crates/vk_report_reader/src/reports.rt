@@ -18,9 +18,7 @@ use vk_model::Outcome;
 pub enum ReportFault {
     /// The first line, counted from 1, that isn't what its place wants: the number of lines and one
     /// more where the report ends too early.
-    Line {
-        n: u32,
-    },
+    Line { n: u32 },
 }
 
 // What stands before the first line feed, and what behind it; `None` where there is none.

@@ -13,5 +13,5 @@ pub returns : goal.returns
 returns c =
     if_ok_then c.at_reason_count.result
     (λ next counted. counts_on _ (WantsAs fault_line IsRightFault (λ x. fault_lines c.args.wanted (map fault_view c.args.faults ++ x ∷ []))) (fault_body (map fault_view c.args.faults)) c.args.line.now (option_map place_view next)
-      (more_false fault_view c.args.faults c.args.wanted (omega (arith, c.if-len-wanted.false, c.len.ensures))) counted)
+    (more_false fault_view c.args.faults c.args.wanted (omega (arith, c.if-len-wanted.false, c.len.ensures))) counted)
     c.at_reason_count.ensures

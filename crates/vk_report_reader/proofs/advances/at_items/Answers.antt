@@ -13,5 +13,5 @@ pub returns : goal.returns
 returns c =
     if_ok_then c.at_reason_count.result
     (λ next counted. counts_on _ (WantsAs (numbered (map item_view c.args.items) item_text) IsRightItem (λ x. items c.args.wanted (map item_view c.args.items ++ x ∷ []))) (plan_body (map item_view c.args.items)) c.args.line.now (option_map place_view next)
-      (more_false item_view c.args.items c.args.wanted (omega (arith, c.if-len-wanted.false, c.len.ensures))) counted)
+    (more_false item_view c.args.items c.args.wanted (omega (arith, c.if-len-wanted.false, c.len.ensures))) counted)
     c.at_reason_count.ensures

@@ -14,7 +14,7 @@ returns-in-Some c =
     let past = more_false reason_view c.args.reasons c.args.wanted (omega (arith, c.if-len-wanted.false, c.len.ensures)) in
     picks_other _ (WantsAs (numbered (map reason_view c.args.reasons) reason_text) IsRightReason (λ x. reasons (body_view c.args.body) c.args.wanted (map reason_view c.args.reasons ++ x ∷ []))) (WantsAs (λ u. codes "end") Any (λ u. finished (outcome_of (body_view c.args.body) (map reason_view c.args.reasons)))) c.args.line.now (finished (outcome_view c.outcome_of.result)) past
     (wants_some (λ u. codes "end") Any c.args.line.now (λ u. finished (outcome_of (body_view c.args.body) (map reason_view c.args.reasons))) tt (finished (outcome_view c.outcome_of.result))
-      (rw c.in-Some.is at c.in_ok-read.ensures) (ap finished c.outcome_of.ensures))
+    (rw c.in-Some.is at c.in_ok-read.ensures) (ap finished c.outcome_of.ensures))
 
 pub returns-in-None : goal.returns-in-None
 returns-in-None c next w =

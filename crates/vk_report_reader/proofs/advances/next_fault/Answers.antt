@@ -10,7 +10,7 @@ pub returns-in_ok-push-in-Some : goal.returns-in_ok-push-in-Some
 returns-in_ok-push-in-Some c =
     picks_one _ (WantsAs fault_line IsRightFault (λ x. fault_lines c.args.wanted (map fault_view c.args.faults ++ x ∷ []))) (WantsCount (fault_body (map fault_view c.args.faults))) c.args.line.now _ (more_true fault_view c.args.faults c.args.wanted c.requires)
     (wants_some fault_line IsRightFault c.args.line.now (λ x. fault_lines c.args.wanted (map fault_view c.args.faults ++ x ∷ [])) (fault_view c.in-Some.fault) (fault_lines c.args.wanted (map fault_view c.push.new.self))
-      (rw c.in-Some.is at c.in_ok-fault.ensures) (put_more fault_view (fault_lines c.args.wanted) c.args.faults c.push.new.self c.in-Some.fault c.in_ok-push-in-Some.ensures.ok))
+    (rw c.in-Some.is at c.in_ok-fault.ensures) (put_more fault_view (fault_lines c.args.wanted) c.args.faults c.push.new.self c.in-Some.fault c.in_ok-push-in-Some.ensures.ok))
 
 pub returns-in-None : goal.returns-in-None
 returns-in-None c next w =

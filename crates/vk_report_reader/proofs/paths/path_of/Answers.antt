@@ -13,6 +13,6 @@ returns c =
     let read = path_found c.args.text.now c.read.result reads c.in_ok-path.field-0 c.in_ok-path.ensures c.in-Some.path c.in-Some.is in
     path_other c.args.text.now c.in-Some.path read
     (λ same.
-      let yes : c.is-2.result ≡ true = c.is-2.ensures.1 (c.in_ok-text.ensures ∙ same ∙ sym c.as_str-2.ensures) in
-      let clash : true ≡ false = sym yes ∙ c.if-is.false in
-      (cc))
+    let yes : c.is-2.result ≡ true = c.is-2.ensures.1 (c.in_ok-text.ensures ∙ same ∙ sym c.as_str-2.ensures) in
+    let clash : true ≡ false = sym yes ∙ c.if-is.false in
+    (cc))

@@ -9,7 +9,7 @@ pub returns-then-ne : goal.returns-then-ne
 returns-then-ne c =
     ends_refused c.args.bytes.now 1 c.refused-then-ne.result c.refused-then-ne.ensures
     (heading_refused c.args.bytes.now c.in-Some.heading.now c.in-Some.rest.now c.in-Some.ensures.0 c.in-Some.ensures.1
-      (other_heading (bytes_eq c.in-Some.heading.now (codes "vcpkg-plan 1")) (bytes_eq-Decides c.in-Some.heading.now (codes "vcpkg-plan 1")) c.if-ne.ensures))
+    (other_heading (bytes_eq c.in-Some.heading.now (codes "vcpkg-plan 1")) (bytes_eq-Decides c.in-Some.heading.now (codes "vcpkg-plan 1")) c.if-ne.ensures))
 
 pub loop-line-init : goal.loop-line-init
 loop-line-init c =
@@ -20,7 +20,7 @@ pub returns-in-None : goal.returns-in-None
 returns-in-None c =
     ends_refused c.args.bytes.now c.loop-line.number c.refused-in-None.result c.refused-in-None.ensures
     (led_refused c.args.bytes.now (place_view c.loop-line.place) c.loop-line.left.now c.in-Some-text_line.line.now c.in-Some-text_line.more.now c.loop-line.number c.loop-line.invariant c.in-Some-text_line.ensures.0 c.in-Some-text_line.ensures.1
-      (rw c.in-None.is at c.in_ok-next.ensures))
+    (rw c.in-None.is at c.in_ok-next.ensures))
 
 pub loop-line-preserved : goal.loop-line-preserved
 loop-line-preserved c =

@@ -18,8 +18,8 @@ pub returns-then-eq-2 : goal.returns-then-eq-2
 returns-then-eq-2 c =
     if_ok_then c.read_named.result
     (λ found. named_read c.args.text.now c.in-Some.first.now c.in-Some.rest.now c.in-Some.ensures.0 c.in-Some.ensures.1
-      (not_from_Decides (bytes_eq c.args.text.now core) (bytes_eq-Decides c.args.text.now core) (sym c.if-eq.ensures))
-      ((bytes_eq-Decides c.in-Some.first.now core).0 (sym c.if-eq-2.ensures)) (option_map (map feature_view) found))
+    (not_from_Decides (bytes_eq c.args.text.now core) (bytes_eq-Decides c.args.text.now core) (sym c.if-eq.ensures))
+    ((bytes_eq-Decides c.in-Some.first.now core).0 (sym c.if-eq-2.ensures)) (option_map (map feature_view) found))
     c.read_named.ensures
 
 pub returns : goal.returns
