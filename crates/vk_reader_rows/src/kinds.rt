@@ -25,6 +25,7 @@ pub enum Kind {
     Manifest { is_root: bool },
     Configuration(OfConfiguration),
     Registry(OfRegistry),
+    Report,
 }
 
 /// What a word stands for in a table.
@@ -42,7 +43,7 @@ pub fn kind_of(words: &str) -> Option<Kind> {
     meaning(&KINDS, words)
 }
 
-const KINDS: [(&str, Kind); 57] = [
+const KINDS: [(&str, Kind); 58] = [
     ("name port", Kind::Name(OfName::Port)),
     ("name triplet", Kind::Name(OfName::Triplet)),
     ("name feature", Kind::Name(OfName::Feature)),
@@ -118,4 +119,5 @@ const KINDS: [(&str, Kind); 57] = [
     ("baseline entry", Kind::Registry(OfRegistry::Entry)),
     ("table read", Kind::Registry(OfRegistry::Table)),
     ("table find", Kind::Registry(OfRegistry::Find)),
+    ("report read", Kind::Report),
 ];

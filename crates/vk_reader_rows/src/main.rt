@@ -1,5 +1,5 @@
 //! Answers rows about what is read of one text: names, paths, tokens, decimals, versions,
-//! platform expressions, triplet files, JSON documents and what is read of those.
+//! platform expressions, triplet files, JSON documents and what is read of those, and reports.
 #![tactic(auto)]
 
 mod configurations;
@@ -11,6 +11,7 @@ mod manifests;
 mod names;
 mod paths;
 mod registries;
+mod reports;
 mod rows;
 mod shows;
 mod tokens;

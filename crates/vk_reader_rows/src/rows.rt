@@ -3,8 +3,8 @@
 
 use crate::kinds::{Kind, kind_of};
 use crate::{
-    configurations, documents, expressions, fields, manifests, names, paths, registries, tokens,
-    triplets, versions,
+    configurations, documents, expressions, fields, manifests, names, paths, registries, reports,
+    tokens, triplets, versions,
 };
 use vk_row_text::{Answering, Reply, cut};
 
@@ -25,6 +25,7 @@ fn answer(kind: Kind, rest: &str, reply: &mut Reply) {
         Kind::Manifest { is_root } => manifests::answer(is_root, rest, reply),
         Kind::Configuration(question) => configurations::answer(question, rest, reply),
         Kind::Registry(question) => registries::answer(question, rest, reply),
+        Kind::Report => reports::answer(rest, reply),
     }
 }
 

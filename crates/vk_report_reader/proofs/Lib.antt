@@ -19,3 +19,4 @@ pub mod CycleForms
 pub mod PlaceLemmas
 pub mod ReportForms
 pub mod WrittenAgain
+pub mod ReadAgain

@@ -45,15 +45,15 @@ regroup a b c d = ap (λ l. l ++ d) (append_assoc a b c) ∙ append_assoc a (b +
 
 -- ---- what stands before a place
 
-abbrev count_line : List ℕ → ℕ → List ℕ
+abbrev pub count_line : List ℕ → ℕ → List ℕ
 count_line word n = ended (word ++ codes " " ++ decimal n)
 
-abbrev body_text : Body → List ℕ
+abbrev pub body_text : Body → List ℕ
 body_text (plan_body xs) = codes "vcpkg-plan 1\nstatus planned\n" ++ count_line (codes "plan") (length xs) ++ numbered_lines item_text 1 xs
 body_text (fault_body xs) = codes "vcpkg-plan 1\nstatus refused\n" ++ count_line (codes "faults") (length xs) ++ flat_map (λ f. ended (fault_line f)) xs
 body_text (early_body early) = codes "vcpkg-plan 1\nstatus refused\nfaults 1\n" ++ ended (early_line early)
 
-abbrev before_place : Place → List ℕ
+abbrev pub before_place : Place → List ℕ
 before_place start = []
 before_place status = codes "vcpkg-plan 1\n"
 before_place item_count = codes "vcpkg-plan 1\nstatus planned\n"
@@ -67,12 +67,12 @@ before_place (finished outcome) = whole_report outcome
 
 -- ---- no more stand than are to come
 
-abbrev IsBody : Body → ℕ → Type 0
+abbrev pub IsBody : Body → ℕ → Type 0
 IsBody (plan_body xs) n = Unit {0}
 IsBody (fault_body xs) n = Unit {0}
 IsBody (early_body early) n = n ≡ 0
 
-abbrev IsReached : Place → Type 0
+abbrev pub IsReached : Place → Type 0
 IsReached start = Unit {0}
 IsReached status = Unit {0}
 IsReached item_count = Unit {0}
@@ -200,7 +200,7 @@ leads_on (reasons body n done) line next reached w = elim (picked (nat_lt (lengt
 ]
 leads_on (finished outcome) line next reached w = absurd w
 
-goes_to : (place to : Place) (lines : List (List ℕ)) → IsReached place → Goes place lines to → before_place place ++ flat_map ended lines ≡ before_place to
+pub goes_to : (place to : Place) (lines : List (List ℕ)) → IsReached place → Goes place lines to → before_place place ++ flat_map ended lines ≡ before_place to
 goes_to place to [] reached goes = append-nil (before_place place) ∙ ap before_place goes
 goes_to place to (line ∷ lines) reached goes =
     let one = leads_on place line goes.0 reached goes.1.0 in
