@@ -26,6 +26,7 @@ pub enum Kind {
     Configuration(OfConfiguration),
     Registry(OfRegistry),
     Words,
+    Report,
 }
 
 /// What a word stands for in a table.
@@ -120,4 +121,5 @@ const KINDS: [(&str, Kind); 58] = [
     ("table read", Kind::Registry(OfRegistry::Table)),
     ("table find", Kind::Registry(OfRegistry::Find)),
     ("words read", Kind::Words),
+    ("report read", Kind::Report),
 ];

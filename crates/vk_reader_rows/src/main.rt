@@ -1,6 +1,6 @@
 //! Answers rows about what is read of one text: names, paths, tokens, decimals, versions,
-//! platform expressions, triplet files, JSON documents and what is read of those, and the words of
-//! command lines.
+//! platform expressions, triplet files, JSON documents and what is read of those, the words of
+//! command lines, and reports.
 #![tactic(auto)]
 
 mod command_lines;
@@ -13,6 +13,7 @@ mod manifests;
 mod names;
 mod paths;
 mod registries;
+mod reports;
 mod rows;
 mod shows;
 mod tokens;

@@ -4,7 +4,7 @@
 use crate::kinds::{Kind, kind_of};
 use crate::{
     command_lines, configurations, documents, expressions, fields, manifests, names, paths,
-    registries, tokens, triplets, versions,
+    registries, reports, tokens, triplets, versions,
 };
 use vk_row_text::{Answering, Reply, cut};
 
@@ -26,6 +26,7 @@ fn answer(kind: Kind, rest: &str, reply: &mut Reply) {
         Kind::Configuration(question) => configurations::answer(question, rest, reply),
         Kind::Registry(question) => registries::answer(question, rest, reply),
         Kind::Words => command_lines::answer(rest, reply),
+        Kind::Report => reports::answer(rest, reply),
     }
 }
 

@@ -18,3 +18,5 @@ pub mod ItemForms
 pub mod CycleForms
 pub mod PlaceLemmas
 pub mod ReportForms
+pub mod WrittenAgain
+pub mod ReadAgain

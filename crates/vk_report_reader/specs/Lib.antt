@@ -14,3 +14,4 @@ pub mod Cycles
 pub mod Places
 pub mod PlaceViews
 pub mod Cuts
+pub mod Showable

@@ -12,6 +12,7 @@ mod faults;
 mod features;
 mod forms;
 mod items;
+pub mod laws;
 mod names;
 mod pairs;
 mod paths;
