@@ -1,4 +1,4 @@
-pub mod Forms
+-- what is promised
 pub mod Choices
 pub mod Texts
 pub mod Names
@@ -10,8 +10,10 @@ pub mod Faults
 pub mod Earlies
 pub mod Features
 pub mod Items
-pub mod Cycles
 pub mod Places
 pub mod PlaceViews
 pub mod Cuts
 pub mod Showable
+-- what functions, laws and examples say besides
+pub mod Forms
+pub mod Cycles
