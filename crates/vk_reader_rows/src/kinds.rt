@@ -44,7 +44,7 @@ pub fn kind_of(words: &str) -> Option<Kind> {
     meaning(&KINDS, words)
 }
 
-const KINDS: [(&str, Kind); 58] = [
+const KINDS: [(&str, Kind); 59] = [
     ("name port", Kind::Name(OfName::Port)),
     ("name triplet", Kind::Name(OfName::Triplet)),
     ("name feature", Kind::Name(OfName::Feature)),
