@@ -170,7 +170,7 @@ walked_parts key (s ∷ ss) all =
     ∙ walked_parts (key ++ s ∷ []) ss (All-tail IsPart s ss all)
     ∙ append_assoc key (s ∷ []) ss
 
-segments_joined : (first : List ℕ) (rest : Path) → All IsPart (first ∷ rest) → segments (join_with_byte 47 (first ∷ rest)) ≡ first ∷ rest
+pub segments_joined : (first : List ℕ) (rest : Path) → All IsPart (first ∷ rest) → segments (join_with_byte 47 (first ∷ rest)) ≡ first ∷ rest
 segments_joined first [] all = segment_last first (All-head IsPart first [] all).no_slash
 segments_joined first (second ∷ rest) all =
     segment_first (join_with_byte 47 (first ∷ second ∷ rest)) first (join_with_byte 47 (second ∷ rest)) refl (All-head IsPart first (second ∷ rest) all).no_slash
@@ -268,7 +268,7 @@ text_whole false ups (first ∷ rest) path =
     subst (Lacks 0) (sym (text_down ups first rest))
     (All-append (λ c. c ≢ 0) (steps_of ups) (join_with_byte 47 (first ∷ rest)) (steps_whole ups) (joined_whole (first ∷ rest) path.each))
 
-joined_some : (first : List ℕ) (rest : Path) → IsPart first → 0 < length (join_with_byte 47 (first ∷ rest))
+pub joined_some : (first : List ℕ) (rest : Path) → IsPart first → 0 < length (join_with_byte 47 (first ∷ rest))
 joined_some [] rest part = absurd (part.some refl)
 joined_some (c ∷ first) [] part = omega arith
 joined_some (c ∷ first) (second ∷ rest) part = omega arith
@@ -314,11 +314,11 @@ some_more b true xs = omega arith
 some_more b false [] = omega arith
 some_more b false (x ∷ xs) = omega arith
 
-segments_some : (text : List ℕ) → 0 < length (segments text)
+pub segments_some : (text : List ℕ) → 0 < length (segments text)
 segments_some [] = omega arith
 segments_some (b ∷ text) = some_more b (b == 47) (segments text)
 
-segments_both : (one other : List ℕ) → segments (one ++ 47 ∷ other) ≡ segments one ++ segments other
+pub segments_both : (one other : List ℕ) → segments (one ++ 47 ∷ other) ≡ segments one ++ segments other
 segments_both [] other = refl
 segments_both (b ∷ one) other =
     ap (λ ss. cond (b == 47) ([] ∷ ss) (onto_first b ss)) (segments_both one other)

@@ -9,5 +9,6 @@ pub mod Printed
 pub mod Stops
 pub mod PathTexts
 pub mod PathHash
+pub mod Parts
 pub mod Decimals
 pub mod Schedules
