@@ -10,7 +10,6 @@ use Rattle.std.specs.Str.{bytes_eq}
 use Rattle.std.proofs.lemmas.List.Splits.{slice_split_none, slice_split_at}
 use Rattle.vk_spec.specs.Paths.{Path, steps_up, anchor, Begins}
 use Rattle.vk_base.specs.Paths.{Lacks, IsPart, IsPathOf, IsPath, lacks, is_part, anchor_of, is_rooted, ups_of, parts_of, climbed, joined, steps_of, front_of}
-use Rattle.vk_base.specs.PathTexts.{later}
 use Rattle.vk_base.specs.PathReading.{with_segment, segments, walked}
 
 rooted_anchor : (rooted : Bool) (ups : ℕ) → (slice_index (anchor rooted ups) 0 == 47) ≡ rooted
@@ -115,10 +114,6 @@ steps_end (suc n) = ap (λ l. 46 ∷ 46 ∷ 47 ∷ l) (steps_end n)
 pub steps_anchor : (ups : ℕ) → 0 < ups → steps_of (ups - 1) ++ 46 ∷ 46 ∷ [] ≡ anchor false ups
 steps_anchor zero some = absurd (omega (arith, some))
 steps_anchor (suc n) some = let before : suc n - 1 ≡ n = omega arith in rw before (steps_end n)
-
-pub joined_first : (first : List ℕ) (rest : Path) → join_with_byte 47 (first ∷ rest) ≡ first ++ later rest
-joined_first first [] = sym (append-nil first)
-joined_first first (second ∷ rest) = ap (λ l. first ++ 47 ∷ l) (joined_first second rest)
 
 -- the steps in front of an unrooted path's parts
 pub front-unrooted : (ups : ℕ) → steps_of ups ≡ front_of (anchor false ups ∷ [])

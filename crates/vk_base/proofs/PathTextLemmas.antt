@@ -1,37 +1,67 @@
 -- The text of a path as it is gone through byte by byte.
-use Rattle.std.proofs.Common.{◌≡◌, ◌-◌, ◌<◌, ◌++◌, ℕ, zero, suc, Bool, true, false, List, [], ◌∷◌}
-use Rattle.std.proofs.Common.{refl, ap, sym, ◌∙◌, arith}
-use Rattle.std.specs.List.{join_with_byte}
-use Rattle.vk_spec.specs.Paths.{Path, steps_up, anchor}
-use Rattle.vk_base.specs.Paths.{IsPath, is_rooted, ups_of, parts_of, steps_of, text_of_path}
-use Rattle.vk_base.specs.PathTexts.{climbing_text, whole_text}
-use Rattle.vk_base.proofs.PathLemmas.{joined_first, key_again}
-use Rattle.vk_base.proofs.PathLaws.{text_down, text_root}
+use Rattle.std.proofs.Common.{◌≡◌, ◌-◌, ◌<◌, ◌++◌, ℕ, zero, suc, true, false, List, [], ◌∷◌, length}
+use Rattle.std.proofs.Common.{refl, ap, sym, ◌∙◌, append_assoc, arith}
+use Rattle.std.specs.List.{All, join_with_byte}
+use Rattle.std.proofs.lemmas.List.Elements.{All-same, All-head}
+use Rattle.vk_spec.specs.Paths.{Path, anchor}
+use Rattle.vk_base.specs.Paths.{IsPart, IsPath, is_rooted, ups_of, parts_of, steps_of, text_of_path}
+use Rattle.vk_base.specs.PathTexts.{left_text, parts_text, climbing_text}
+use Rattle.vk_base.specs.declared.path_texts.Left.{Left}
+use Rattle.vk_base.specs.Tokens.{token_of}
+use Rattle.vk_base.proofs.PathLemmas.{key_again, steps_anchor, steps_next}
+use Rattle.vk_base.proofs.PathLaws.{text_down, text_root, joined_some}
+use Rattle.vk_base.proofs.TokenLemmas.{token-append}
 
-climbing_none : (n : ℕ) → climbing_text n [] ≡ steps_up n
-climbing_none zero = refl
-climbing_none (suc n) = ap (λ l. 46 ∷ 46 ∷ 47 ∷ l) (climbing_none n)
+some_text : (text : List ℕ) → 0 < length text → parts_text text ≡ text
+some_text [] some = absurd (omega (arith, some))
+some_text (b ∷ text) some = refl
 
-climbing_parts : (n : ℕ) (p : List ℕ) (ps : Path) → climbing_text n (p ∷ ps) ≡ steps_of (suc n) ++ join_with_byte 47 (p ∷ ps)
-climbing_parts zero p ps = ap (λ l. 46 ∷ 46 ∷ 47 ∷ l) (sym (joined_first p ps))
-climbing_parts (suc n) p ps = ap (λ l. 46 ∷ 46 ∷ 47 ∷ l) (climbing_parts n p ps)
+some_climbing : (n : ℕ) (text : List ℕ) → 0 < length text → climbing_text n text ≡ steps_of n ++ text
+some_climbing n [] some = absurd (omega (arith, some))
+some_climbing n (b ∷ text) some = refl
 
-text_as : (rooted : Bool) (ups : ℕ) (parts : Path) → text_of_path (anchor rooted ups ∷ parts) ≡ whole_text rooted ups parts
-text_as true ups [] = refl
-text_as true ups (p ∷ ps) = text_root ups p ps
-text_as false zero [] = refl
-text_as false zero (p ∷ ps) = text_down zero p ps
-text_as false (suc n) [] = sym (climbing_none n)
-text_as false (suc n) (p ∷ ps) = text_down (suc n) p ps ∙ sym (climbing_parts n p ps)
+plain_parts : (parts : Path) → All IsPart parts → text_of_path (anchor false 0 ∷ parts) ≡ parts_text (join_with_byte 47 parts)
+plain_parts [] each = refl
+plain_parts (p ∷ ps) each = text_down 0 p ps ∙ sym (some_text (join_with_byte 47 (p ∷ ps)) (joined_some p ps (All-head IsPart p ps each)))
 
-text_of : (key : Path) → IsPath key → text_of_path key ≡ whole_text (is_rooted key) (ups_of key) (parts_of key)
-text_of key path = ap text_of_path (sym (key_again key path)) ∙ text_as (is_rooted key) (ups_of key) (parts_of key)
+climbing_parts : (n : ℕ) (parts : Path) → 0 < n → All IsPart parts → text_of_path (anchor false n ∷ parts) ≡ climbing_text n (join_with_byte 47 parts)
+climbing_parts n [] some each = sym (steps_anchor n some)
+climbing_parts n (p ∷ ps) some each = text_down n p ps ∙ sym (some_climbing n (join_with_byte 47 (p ∷ ps)) (joined_some p ps (All-head IsPart p ps each)))
 
-whole_steps : (n : ℕ) (parts : Path) → 0 < n → whole_text false n parts ≡ climbing_text (n - 1) parts
-whole_steps zero parts some = absurd (omega (arith, some))
-whole_steps (suc n) parts some = let before : suc n - 1 ≡ n = omega arith in rw before refl
+rooted_parts : (ups : ℕ) (parts : Path) → text_of_path (anchor true ups ∷ parts) ≡ 47 ∷ join_with_byte 47 parts
+rooted_parts ups [] = refl
+rooted_parts ups (p ∷ ps) = text_root ups p ps
 
--- one with steps up
-pub text_climbing : (key : Path) → IsPath key → is_rooted key ≡ false → 0 < ups_of key → text_of_path key ≡ climbing_text (ups_of key - 1) (parts_of key)
+each_part : (key : Path) → IsPath key → All IsPart (parts_of key)
+each_part key path = All-same IsPart (parts_of key) path.parts (ap parts_of path.key_is) path.path.each
+
+-- a rooted one, one without steps up, and one with some
+pub text_rooted : (key : Path) → IsPath key → is_rooted key ≡ true → text_of_path key ≡ 47 ∷ join_with_byte 47 (parts_of key)
+text_rooted key path e =
+    ap text_of_path (sym (key_again key path)) ∙ ap (λ b. text_of_path (anchor b (ups_of key) ∷ parts_of key)) e ∙ rooted_parts (ups_of key) (parts_of key)
+
+pub text_plain : (key : Path) → IsPath key → is_rooted key ≡ false → ups_of key ≡ 0 → text_of_path key ≡ parts_text (join_with_byte 47 (parts_of key))
+text_plain key path e none =
+    ap text_of_path (sym (key_again key path))
+    ∙ ap (λ b. text_of_path (anchor b (ups_of key) ∷ parts_of key)) e
+    ∙ ap (λ n. text_of_path (anchor false n ∷ parts_of key)) none
+    ∙ plain_parts (parts_of key) (each_part key path)
+
+pub text_climbing : (key : Path) → IsPath key → is_rooted key ≡ false → 0 < ups_of key → text_of_path key ≡ climbing_text (ups_of key) (join_with_byte 47 (parts_of key))
 text_climbing key path e some =
-    text_of key path ∙ ap (λ b. whole_text b (ups_of key) (parts_of key)) e ∙ whole_steps (ups_of key) (parts_of key) some
+    ap text_of_path (sym (key_again key path))
+    ∙ ap (λ b. text_of_path (anchor b (ups_of key) ∷ parts_of key)) e
+    ∙ climbing_parts (ups_of key) (parts_of key) some (each_part key path)
+
+steps_token : (n : ℕ) → token_of (steps_of n) ≡ steps_of n
+unfolding token_of
+steps_token zero = refl
+steps_token (suc n) = ap (λ t. 46 ∷ 46 ∷ 47 ∷ t) (steps_token n)
+
+-- the token of what is left, piece by piece
+pub left_token : (l : Left) → token_of l.bytes.now ++ (steps_of l.steps ++ token_of l.rest.now) ≡ token_of (left_text l)
+left_token l =
+    ap (λ t. token_of l.bytes.now ++ (t ++ token_of l.rest.now)) (sym (steps_token l.steps))
+    ∙ ap (λ t. token_of l.bytes.now ++ t) (sym (token-append (steps_of l.steps) l.rest.now))
+    ∙ sym (token-append l.bytes.now (steps_of l.steps ++ l.rest.now))
+    ∙ ap token_of (sym (append_assoc l.bytes.now (steps_of l.steps) l.rest.now))

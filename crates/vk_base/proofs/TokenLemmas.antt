@@ -11,7 +11,6 @@ use Rattle.percent_encoding.specs.AsciiSet.{contains, should_percent_encode}
 use Rattle.percent_encoding.specs.Percent.{percent_encode, encode_byte, percent_encode_byte, percent_decode}
 use Rattle.percent_encoding.proofs.PercentLemmas.{round_trip}
 use Rattle.vk_base.specs.declared.tokens.TheConstants.{ESCAPED}
-use Rattle.vk_base.specs.PathTexts.{later}
 use Rattle.vk_base.specs.Tokens.{token_of, token_byte, is_escaped, IsByte, IsPlain}
 
 -- the set holds the ASCII bytes that are escaped
@@ -72,27 +71,3 @@ token_plain (b ∷ bytes) all =
 pub token-append : (one other : List ℕ) → token_of (one ++ other) ≡ token_of one ++ token_of other
 unfolding token_of
 token-append one other = flat_map-append token_byte one other
-
-slash_token : (bytes : List ℕ) → token_of (47 ∷ bytes) ≡ 47 ∷ token_of bytes
-unfolding token_of
-slash_token bytes = refl
-
-empty_token : token_of [] ≡ []
-unfolding token_of
-empty_token = refl
-
--- a slash and one segment more are printed
-pub token_next : (done s : List ℕ) (all more : List (List ℕ)) (whole : List ℕ) → all ≡ s ∷ more
-    → done ++ token_of (later all) ≡ whole → ((done ++ 47 ∷ []) ++ token_of s) ++ token_of (later more) ≡ whole
-token_next done s all more whole all_is so_far =
-    append_assoc (done ++ 47 ∷ []) (token_of s) (token_of (later more))
-    ∙ append_assoc done (47 ∷ []) (token_of s ++ token_of (later more))
-    ∙ ap (λ l. done ++ 47 ∷ l) (sym (token-append s (later more)))
-    ∙ ap (λ l. done ++ l) (sym (slash_token (s ++ later more)))
-    ∙ ap (λ a. done ++ token_of (later a)) (sym all_is)
-    ∙ so_far
-
--- all are
-pub token_end : (done : List ℕ) (all : List (List ℕ)) (whole : List ℕ) → all ≡ [] → done ++ token_of (later all) ≡ whole → done ≡ whole
-token_end done all whole none so_far =
-    sym (append-nil done) ∙ ap (λ l. done ++ l) (sym empty_token) ∙ ap (λ a. done ++ token_of (later a)) (sym none) ∙ so_far

@@ -75,10 +75,11 @@ impl Parts {
         count(self.joined.as_str())
     }
 
-    // Puts a part at the end.
+    // Puts a part at the end. When memory runs out, they stay as they were.
     pub(crate) fn push(&mut self, part: &str) -> Result<(), AllocError>
         requires { IsPart part.now }
-        ensures { OnOk result (self.new ≡ self.old ++ part.now ∷ []) }
+        ensures ok { OnOk result (self.new ≡ self.old ++ part.now ∷ []) }
+        ensures err { OnErr result (self.new ≡ self.old) }
     {
         push_part(&mut self.joined, part)
     }

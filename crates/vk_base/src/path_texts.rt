@@ -1,51 +1,39 @@
 //! The text of a path byte by byte, and the order that texts give to paths.
-ghost use Rattle.std.specs.Prelude.{◌≡◌, ◌<◌, ◌-◌, ◌∷◌, [], Some, MatchOption};
-ghost use Rattle.std.specs.List.{join_with_byte};
+ghost use Rattle.std.specs.Prelude.{◌≡◌, ◌<◌, ◌∷◌, [], Some, MatchOption};
 ghost use Rattle.std.specs.Cmp.Lexicographic.{slice_cmp};
 ghost use Rattle.std.specs.Ordering.{nat_cmp};
-ghost use Rattle.vk_base.specs.Paths.{text_of_path};
+ghost use Rattle.vk_base.specs.Paths.{steps_of, text_of_path};
 ghost use Rattle.vk_base.specs.Printed.{path_text};
-ghost use Rattle.vk_base.specs.PathTexts.{later, left_text, segments_in};
+ghost use Rattle.vk_base.specs.PathTexts.{left_text};
 ghost use Rattle.vk_base.specs.PathTexts.{parts_text, climbing_text, end_order};
 
 use crate::paths::TreePath;
-use crate::texts::Text;
 use crate::tokens::TokenOf;
 use std::cmp::Ordering;
 use std::fmt;
 
-// What is left of a path's text: these bytes, then so many steps and after them the parts, each
-// after a slash.
+// What is left of a path's text: these bytes, then so many steps up, and then a text.
 #[derive(Clone, Copy)]
 struct Left<'a> {
     bytes: &'a [u8],
-    step: &'a [u8],
     steps: u32,
-    parts: &'a [Text],
+    rest: &'a [u8],
 }
 
 impl<'a> Left<'a> {
-    // What comes after the next slash.
-    fn segment(&mut self) -> Option<&'a [u8]>
-        ensures { MatchOption result (segments_in self.old ≡ [])
-            (λ s. segments_in self.old ≡ s.now ∷ segments_in self.new) }
+    // Goes on to what comes after the bytes.
+    fn refill(&mut self)
+        requires { self.old.bytes.now ≡ [] }
+        ensures same { left_text self.new ≡ left_text self.old }
+        ensures some { self.new.bytes.now ≡ [] → left_text self.new ≡ [] }
     {
         if self.steps > 0 {
             self.steps -= 1;
-            return Some(self.step);
+            self.bytes = b"../";
+            return;
         }
-        let (first, rest) = self.parts.split_first()?;
-        self.parts = rest;
-        Some(first.as_bytes())
-    }
-
-    // The next slash, after which a segment stands.
-    fn slash(&mut self) -> Option<u8>
-        ensures { MatchOption result (later (segments_in self.old) ≡ [])
-            (λ b. later (segments_in self.old) ≡ b ∷ left_text self.new) }
-    {
-        self.bytes = self.segment()?;
-        Some(b'/')
+        self.bytes = self.rest;
+        self.rest = b"";
     }
 
     // The next byte.
@@ -53,66 +41,42 @@ impl<'a> Left<'a> {
         ensures { MatchOption result (left_text self.old ≡ [])
             (λ b. left_text self.old ≡ b ∷ left_text self.new) }
     {
-        match self.bytes.split_first() {
-            None => self.slash(),
-            Some((first, rest)) => {
-                self.bytes = rest;
-                Some(*first)
-            }
+        if self.bytes.is_empty() {
+            self.refill();
         }
+        let (first, rest) = self.bytes.split_first()?;
+        self.bytes = rest;
+        Some(*first)
     }
 }
 
 // The text of parts that nothing stands before: `.` where there are none.
-fn parts_left(parts: &[Text]) -> Left<'_>
+fn parts_left(parts: &str) -> Left<'_>
     ensures { left_text result ≡ parts_text parts.now }
 {
-    match parts.split_first() {
-        None => Left {
-            bytes: b".",
-            step: b"",
-            steps: 0,
-            parts,
-        },
-        Some((first, rest)) => Left {
-            bytes: first.as_bytes(),
-            step: b"",
-            steps: 0,
-            parts: rest,
-        },
-    }
-}
-
-// The text of parts after a slash, and of `/` where there are none.
-fn rooted_left(parts: &[Text]) -> Left<'_>
-    ensures { left_text result ≡ 47 ∷ join_with_byte 47 parts.now }
-{
-    match parts.split_first() {
-        None => Left {
-            bytes: b"/",
-            step: b"",
-            steps: 0,
-            parts,
-        },
-        Some(_) => Left {
-            bytes: b"",
-            step: b"",
-            steps: 0,
-            parts,
-        },
+    Left {
+        bytes: if parts.is_empty() { b"." } else { b"" },
+        steps: 0,
+        rest: parts.as_bytes(),
     }
 }
 
 // The text of so many steps up and then these parts.
-fn steps_left(steps: u32, parts: &[Text]) -> Left<'_>
+fn steps_left(steps: u32, parts: &str) -> Left<'_>
     requires { 0 < steps }
-    ensures { left_text result ≡ climbing_text (steps - 1) parts.now }
+    ensures { left_text result ≡ climbing_text steps parts.now }
 {
+    if parts.is_empty() {
+        return Left {
+            bytes: b"",
+            steps: steps - 1,
+            rest: b"..",
+        };
+    }
     Left {
-        bytes: b"..",
-        step: b"..",
-        steps: steps - 1,
-        parts,
+        bytes: b"",
+        steps,
+        rest: parts.as_bytes(),
     }
 }
 
@@ -121,12 +85,16 @@ fn all_left(path: &TreePath) -> Left<'_>
     ensures { left_text result ≡ text_of_path path.now }
 {
     if path.is_rooted() {
-        return rooted_left(path.parts());
+        return Left {
+            bytes: b"/",
+            steps: 0,
+            rest: path.parts_text().as_bytes(),
+        };
     }
     if path.steps_up() == 0 {
-        return parts_left(path.parts());
+        return parts_left(path.parts_text());
     }
-    steps_left(path.steps_up(), path.parts())
+    steps_left(path.steps_up(), path.parts_text())
 }
 
 // The order of what is left of two texts.
@@ -174,11 +142,22 @@ impl fmt::Display for PathToken<'_> {
     ghost output = { λ p. Some (path_text p.0.now) };
 
     fn fmt<W: fmt::Write>(&self, f: &mut fmt::Formatter<W>) -> fmt::Result {
-        let mut left = all_left(self.0);
-        TokenOf(left.bytes).fmt(f)?;
-        while let Some(segment) = left.segment() {
-            f.write_str("/")?;
-            TokenOf(segment).fmt(f)?;
+        let left = all_left(self.0);
+        let (front, rest) = (TokenOf(left.bytes), TokenOf(left.rest));
+        write!(f, "{front}{}{rest}", StepsUp(left.steps))
+    }
+}
+
+// So many times `../`.
+#[derive(Clone, Copy)]
+struct StepsUp(u32);
+
+impl fmt::Display for StepsUp {
+    ghost output = { λ s. Some (steps_of s.0) };
+
+    fn fmt<W: fmt::Write>(&self, f: &mut fmt::Formatter<W>) -> fmt::Result {
+        for _ in 0..self.0 {
+            f.write_str("../")?;
         }
         Ok(())
     }

@@ -1,6 +1,6 @@
 ghost use Rattle.std.specs.Prelude.{◌≡◌, ◌≢◌, ◌↔◌, ◌==◌, ◌<◌, ◌≤◌, ◌+◌, ◌-◌, ◌^◌, ◌++◌, ◌∷◌, ◌⊎◌};
 ghost use Rattle.std.specs.Prelude.{[]};
-ghost use Rattle.std.specs.Prelude.{List, ℕ, Ok, length, slice_index, take, true};
+ghost use Rattle.std.specs.Prelude.{List, ℕ, Ok, bytes_eq, drop, length, slice_index, take, true};
 ghost use Rattle.std.specs.Prelude.{IfOk, OnOk, OnErr, IsTrue};
 ghost use Rattle.std.proofs.Common.{rules, refl};
 ghost use Rattle.std.proofs.lemmas.Slice.Eq.{slice_eq-Decides, bytes_eq-Decides};
@@ -20,8 +20,8 @@ ghost use Rattle.vk_base.specs.PathReading.{checked, segments, stays, climbs, wi
 ghost use Rattle.vk_base.specs.PathReading.{start_of, path_of};
 ghost use Rattle.vk_base.specs.Stops.{fault_in};
 
-use crate::lists::List;
 use crate::memory::Memory;
+use crate::parts::{Parts, PathParts};
 use crate::stops::Unread;
 use crate::texts::Text;
 use std::alloc::{AllocError, Global};
@@ -47,7 +47,7 @@ pub enum PathFault {
 pub struct TreePath {
     rooted: bool,
     ups: u32,
-    parts: List<Text>,
+    parts: Parts,
 }
 
 impl Model for TreePath {
@@ -70,7 +70,7 @@ impl TreePath {
         TreePath {
             rooted: false,
             ups: 0,
-            parts: List::new(alloc),
+            parts: Parts::new(alloc),
         }
     }
 
@@ -97,13 +97,39 @@ impl TreePath {
         self.ups
     }
 
-    /// Its parts, borrowed.
-    pub fn parts(&self) -> &[Text]
-        ensures parts { result.now ≡ parts_of self.now }
-        ensures key { anchor (is_rooted self.now) (ups_of self.now) ∷ result.now ≡ self.now }
+    /// How many parts it has. Takes no memory.
+    pub fn part_count(&self) -> usize
+        ensures { result ≡ length (parts_of self.now) }
+    {
+        self.parts.len()
+    }
+
+    /// Its parts, one by one, each borrowed. Takes no memory.
+    pub fn parts(&self) -> PathParts<'_>
+        ensures parts { result ≡ parts_of self.now }
+        ensures key { anchor (is_rooted self.now) (ups_of self.now) ∷ result ≡ self.now }
         ensures path { IsPath self.now }
     {
-        self.parts.as_slice()
+        self.parts.iter()
+    }
+
+    /// Its parts with `/` between, borrowed.
+    pub fn parts_text(&self) -> &str
+        ensures parts { result.now ≡ join_with_byte 47 (parts_of self.now) }
+        ensures path { IsPath self.now }
+    {
+        self.parts.as_str()
+    }
+
+    /// Whether its last two parts are these. Takes no memory.
+    pub fn ends_in(&self, folder: &str, file: &str) -> bool
+        ensures ends { result ≡ pointwise bytes_eq
+            (drop (length (parts_of self.now) - 2) (parts_of self.now))
+            (folder.now ∷ file.now ∷ []) }
+        ensures key { anchor (is_rooted self.now) (ups_of self.now) ∷ parts_of self.now
+            ≡ self.now }
+    {
+        self.parts.ends_in(folder, file)
     }
 
     /// Whether this path begins the other: it is rooted as that is, has the same steps up, and its
@@ -112,7 +138,7 @@ impl TreePath {
         ensures { IsTrue result ↔ Begins self.now other.now }
     {
         same_anchor(self.rooted, self.ups, other.rooted, other.ups)
-            && is_front(self.parts.as_slice(), other.parts.as_slice())
+            && self.parts.begins(&other.parts)
     }
 
     /// Whether one of the two begins the other. Takes no memory.
@@ -126,13 +152,10 @@ impl TreePath {
     pub fn prefix(&self, alloc: Global, count: usize) -> Result<TreePath, Memory>
         ensures { IfOk result (λ p. p ≡ take (count + 1) self.now) }
     {
-        let mut parts = List::new(alloc);
-        let kept = count.min(self.parts.len());
-        push_all(&mut parts, &self.parts.as_slice()[..kept])?;
         Ok(TreePath {
             rooted: self.rooted,
             ups: self.ups,
-            parts,
+            parts: self.parts.kept(alloc, count)?,
         })
     }
 
@@ -144,13 +167,10 @@ impl TreePath {
         if !folder.begins(self) {
             return Ok(None);
         }
-        let rest = after(self.parts.as_slice(), folder.parts.as_slice());
-        let mut parts = List::new(alloc);
-        push_all(&mut parts, rest)?;
         Ok(Some(TreePath {
             rooted: false,
             ups: 0,
-            parts,
+            parts: self.parts.after(alloc, &folder.parts)?,
         }))
     }
 
@@ -162,23 +182,10 @@ impl TreePath {
         if more.rooted {
             return Ok(more.clone()?);
         }
-        let mut path = self.climbed(alloc, more.ups)?;
-        push_all(&mut path.parts, more.parts.as_slice())?;
-        Ok(path)
-    }
-
-    // So many steps up from here.
-    fn climbed(&self, alloc: Global, more: u32) -> Result<TreePath, Memory>
-        requires { ups_of self.now + more < 2 ^ 32 }
-        ensures { IfOk result (λ p. p ≡ climbed self.now more) }
-    {
-        let kept = self.parts.len().saturating_sub(more as usize);
-        let mut parts = List::new(alloc);
-        push_all(&mut parts, &self.parts.as_slice()[..kept])?;
         Ok(TreePath {
             rooted: self.rooted,
-            ups: ups_left(self.rooted, self.ups, self.parts.len(), more),
-            parts,
+            ups: ups_left(self.rooted, self.ups, self.parts.len(), more.ups),
+            parts: self.parts.join(alloc, more.ups as usize, &more.parts)?,
         })
     }
 
@@ -188,13 +195,10 @@ impl TreePath {
         requires { IsTrue (is_part part.now) }
         ensures { IfOk result (λ p. p ≡ self.now ++ part.now ∷ []) }
     {
-        let mut parts = List::new(alloc);
-        push_all(&mut parts, self.parts.as_slice())?;
-        parts.push(Text::from_str(alloc, part)?)?;
         Ok(TreePath {
             rooted: self.rooted,
             ups: self.ups,
-            parts,
+            parts: self.parts.child(alloc, part)?,
         })
     }
 
@@ -207,7 +211,7 @@ impl TreePath {
             return anchor_text(alloc, self.rooted, self.ups);
         }
         let mut text = front_text(alloc, self.rooted, self.ups)?;
-        push_joined(&mut text, self.parts.as_slice())?;
+        text.push_str(self.parts.as_str())?;
         Ok(text)
     }
 
@@ -218,13 +222,13 @@ impl TreePath {
         ensures ups { ups_of self.new ≤ ups_of self.old + 1 }
     {
         self.ups = ups_left(self.rooted, self.ups, self.parts.len(), 1);
-        let _ = self.parts.pop();
+        self.parts.pop();
     }
 
     // One part down.
-    fn push(&mut self, part: Text) -> Result<(), Memory>
-        requires { IsPart part }
-        ensures place { OnOk result (self.new ≡ self.old ++ part ∷ []) }
+    fn push(&mut self, part: &str) -> Result<(), Memory>
+        requires { IsPart part.now }
+        ensures place { OnOk result (self.new ≡ self.old ++ part.now ∷ []) }
         ensures ups { OnOk result (ups_of self.new ≤ ups_of self.old + 1) }
     {
         self.parts.push(part)?;
@@ -232,7 +236,7 @@ impl TreePath {
     }
 
     // Goes where a segment says.
-    fn go(&mut self, alloc: Global, segment: &str) -> Result<(), Memory>
+    fn go(&mut self, segment: &str) -> Result<(), Memory>
         requires slash { Lacks 47 segment.now }
         requires zero { Lacks 0 segment.now }
         requires small { ups_of self.old + 1 < 2 ^ 32 }
@@ -246,7 +250,7 @@ impl TreePath {
             self.climb();
             return Ok(());
         }
-        self.push(Text::from_str(alloc, segment)?)
+        self.push(segment)
     }
 }
 
@@ -261,31 +265,6 @@ fn ups_left(rooted: bool, ups: u32, parts: usize, more: u32) -> u32
         return 0;
     }
     ups + (more as usize).saturating_sub(parts) as u32
-}
-
-// Puts copies at the end.
-fn push_all(parts: &mut List<Text>, more: &[Text]) -> Result<(), Memory>
-    ensures { OnOk result (parts.new ≡ parts.old ++ more.now) }
-{
-    for part in more {
-        parts.push(part.clone()?)?;
-    }
-    Ok(())
-}
-
-// Whether the one list begins the other.
-fn is_front(front: &[Text], parts: &[Text]) -> bool
-    ensures { IsTrue result ↔ Begins front.now parts.now }
-{
-    parts.starts_with(front)
-}
-
-// What stands after those that these begin with.
-fn after<'a>(parts: &'a [Text], front: &[Text]) -> &'a [Text]
-    requires { Begins front.now parts.now }
-    ensures { parts.now ≡ front.now ++ result.now }
-{
-    &parts[front.len()..]
 }
 
 // So many times `../`.
@@ -322,21 +301,6 @@ fn front_text(alloc: Global, rooted: bool, ups: u32) -> Result<Text, Memory>
         return Ok(Text::from_str(alloc, "/")?);
     }
     steps_text(alloc, ups)
-}
-
-// Puts the parts at the end, with `/` between.
-fn push_joined(text: &mut Text, parts: &[Text]) -> Result<(), Memory>
-    ensures { OnOk result (text.new ≡ text.old ++ join_with_byte 47 parts.now) }
-{
-    let Some((first, rest)) = parts.split_first() else {
-        return Ok(());
-    };
-    text.push_str(first.as_str())?;
-    for part in rest {
-        text.push_str("/")?;
-        text.push_str(part.as_str())?;
-    }
-    Ok(())
 }
 
 fn zero_at(bytes: &[u8]) -> Option<usize>
@@ -392,14 +356,14 @@ fn walk(alloc: Global, text: &str) -> Result<TreePath, Memory>
     let mut path = TreePath {
         rooted: begins_rooted(text.as_bytes()),
         ups: 0,
-        parts: List::new(alloc),
+        parts: Parts::with_room(alloc, text.len())?,
     };
     let mut rest = text;
     while let Some((segment, after)) = rest.split_once('/') {
-        path.go(alloc, segment)?;
+        path.go(segment)?;
         rest = after;
     }
-    path.go(alloc, rest)?;
+    path.go(rest)?;
     Ok(path)
 }
 
@@ -445,7 +409,8 @@ impl PartialEq for TreePath {
     ghost laws = { Prim.search (comparing, rules) };
 
     fn eq(&self, other: &TreePath) -> bool {
-        same_anchor(self.rooted, self.ups, other.rooted, other.ups) && self.parts == other.parts
+        same_anchor(self.rooted, self.ups, other.rooted, other.ups)
+            && self.parts.is_same(&other.parts)
     }
 }
 
@@ -464,7 +429,7 @@ impl Ord for TreePath {
 
     fn cmp(&self, other: &TreePath) -> Ordering {
         match anchor_cmp(self.rooted, self.ups, other.rooted, other.ups) {
-            Ordering::Equal => self.parts.cmp(&other.parts),
+            Ordering::Equal => self.parts.order(&other.parts),
             differ => differ,
         }
     }
@@ -491,7 +456,7 @@ impl Hash for TreePath {
     fn hash<H: Hasher>(&self, state: &mut H) {
         self.is_rooted().hash(state);
         self.steps_up().hash(state);
-        self.parts().hash(state);
+        self.parts_text().hash(state);
     }
 }
 

@@ -10,7 +10,7 @@ ups_left-self-inside-requires-clause-small c =
 
 pub returns-clause-place : goal.returns-clause-place
 returns-clause-place c =
-    rw (c.ups_left-self-inside.ensures.place, c.pop.ensures.rest, c.len.ensures)
+    rw (c.ups_left-self-inside.ensures.place, c.pop.ensures, c.len.ensures)
     (sym (climbed-key c.self.inside.rooted c.self.inside.ups c.self.inside.parts 1 c.self.invariant.root) ∙ ap (λ k. climbed k 1) c.self.view_is)
 
 pub returns-clause-ups : goal.returns-clause-ups

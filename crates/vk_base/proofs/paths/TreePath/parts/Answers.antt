@@ -6,7 +6,7 @@ use Rattle.vk_base.proofs.paths.TreePath.parts.Goals as goal
 
 pub returns-clause-key : goal.returns-clause-key
 returns-clause-key c =
-    ap (λ l. anchor (is_rooted c.args.self.now) (ups_of c.args.self.now) ∷ l) (c.as_slice.ensures ∙ ap parts_of c.self.view_is)
+    ap (λ l. anchor (is_rooted c.args.self.now) (ups_of c.args.self.now) ∷ l) (c.iter.ensures ∙ ap parts_of c.self.view_is)
     ∙ key_again c.args.self.now (path_from c.self.inside.rooted c.self.inside.ups c.self.inside.parts c.args.self.now c.self.view_is c.self.invariant)
 
 pub returns-clause-path : goal.returns-clause-path
