@@ -1,5 +1,5 @@
 -- The text of a path as it is gone through byte by byte.
-use Rattle.std.proofs.Common.{◌≡◌, ◌-◌, ◌<◌, ◌++◌, ℕ, zero, suc, true, false, List, [], ◌∷◌, length}
+use Rattle.std.proofs.Common.{◌≡◌, ◌<◌, ◌++◌, ℕ, zero, suc, true, false, List, [], ◌∷◌, length}
 use Rattle.std.proofs.Common.{refl, ap, sym, ◌∙◌, append_assoc, arith}
 use Rattle.std.specs.List.{All, join_with_byte}
 use Rattle.std.proofs.lemmas.List.Elements.{All-same, All-head}
@@ -8,7 +8,7 @@ use Rattle.vk_base.specs.Paths.{IsPart, IsPath, is_rooted, ups_of, parts_of, ste
 use Rattle.vk_base.specs.PathTexts.{left_text, parts_text, climbing_text}
 use Rattle.vk_base.specs.declared.path_texts.Left.{Left}
 use Rattle.vk_base.specs.Tokens.{token_of}
-use Rattle.vk_base.proofs.PathLemmas.{key_again, steps_anchor, steps_next}
+use Rattle.vk_base.proofs.PathLemmas.{key_again, steps_anchor}
 use Rattle.vk_base.proofs.PathLaws.{text_down, text_root, joined_some}
 use Rattle.vk_base.proofs.TokenLemmas.{token-append}
 

@@ -239,7 +239,7 @@ fn cut_last(text: &str) -> Option<(&str, &str)>
     requires { All IsPart (parts_in text.now) }
     ensures parts { MatchOption result (length (parts_in text.now) < 2)
         (λ cut. (parts_in text.now ≡ parts_in cut.0.now ++ cut.1.now ∷ [])
-            × (0 < length (parts_in cut.0.now))) }
+        × (0 < length (parts_in cut.0.now))) }
     ensures split { MatchOption result (length (parts_in text.now) < 2)
         (λ cut. text.now ≡ cut.0.now ++ 47 ∷ cut.1.now) }
 {

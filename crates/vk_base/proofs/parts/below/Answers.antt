@@ -1,4 +1,4 @@
-use Rattle.std.proofs.Common.{◌<◌, length, sym, ◌∙◌}
+use Rattle.std.proofs.Common.{sym, ◌∙◌}
 use Rattle.std.specs.Prelude.{Some, None}
 use Rattle.vk_base.proofs.PartLemmas.{some_bytes, strip_says, other_front, below_either}
 use Rattle.vk_base.proofs.parts.below.Goals as goal

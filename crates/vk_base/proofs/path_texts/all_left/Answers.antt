@@ -1,4 +1,4 @@
-use Rattle.std.proofs.Common.{◌≡◌, ◌<◌, ◌∷◌, true, false, ap, sym, ◌∙◌, arith}
+use Rattle.std.proofs.Common.{◌≡◌, ◌<◌, ◌∷◌, false, ap, sym, ◌∙◌, arith}
 use Rattle.vk_base.specs.Paths.{is_rooted, ups_of}
 use Rattle.vk_base.specs.PathTexts.{parts_text}
 use Rattle.vk_base.proofs.PathTextLemmas.{text_rooted, text_plain, text_climbing}

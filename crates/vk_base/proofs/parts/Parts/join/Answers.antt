@@ -12,8 +12,8 @@ invariant_of-result c =
     let front = take (length parts - c.args.fewer) parts in
     All-same IsPart (parts_in (string_bytes c.in_ok-both.field-0)) (front ++ more)
     (
-      c.in_ok-both.ensures
-          ∙ ap (λ ps. ps ++ parts_in c.as_str-2.result.now) (c.without-front.ensures ∙ ap (λ t. take (length (parts_in t) - c.args.fewer) (parts_in t)) c.as_str.ensures.value)
-          ∙ ap (λ t. front ++ parts_in t) c.as_str-2.ensures.value
+    c.in_ok-both.ensures
+    ∙ ap (λ ps. ps ++ parts_in c.as_str-2.result.now) (c.without-front.ensures ∙ ap (λ t. take (length (parts_in t) - c.args.fewer) (parts_in t)) c.as_str.ensures.value)
+    ∙ ap (λ t. front ++ parts_in t) c.as_str-2.ensures.value
     )
     (All-append IsPart front more (All-take IsPart (length parts - c.args.fewer) parts c.self.invariant) c.more.invariant)

@@ -1,6 +1,5 @@
-use Rattle.std.proofs.Common.{◌++◌, ap, sym, ◌∙◌, append_assoc}
+use Rattle.std.proofs.Common.{ap, ◌∙◌}
 use Rattle.std.proofs.Output.{has_written_of_eq}
-use Rattle.vk_base.specs.Paths.{steps_of}
 use Rattle.vk_base.specs.Tokens.{token_of}
 use Rattle.vk_base.proofs.PathTextLemmas.{left_token}
 use Rattle.vk_base.proofs.path_texts.PathTokenDisplay.fmt.Goals as goal

@@ -16,7 +16,7 @@ returns c =
     let ups = ups-fields c.more.inside.rooted steps c.more.inside.parts c.args.more.now c.more.view_is c.more.invariant.root in
     rw (c.ups_left.ensures.place, c.in_ok-join.ensures, c.len.ensures)
     (
-      ap (λ k. k ++ c.more.inside.parts) (sym (climbed-key c.self.inside.rooted c.self.inside.ups c.self.inside.parts steps c.self.invariant.root) ∙ ap (λ k. climbed k steps) c.self.view_is)
-          ∙ ap (λ ps. climbed c.args.self.now steps ++ ps) (ap parts_of c.more.view_is)
-          ∙ sym (joined_down c.args.self.now c.args.more.now steps plain (sym ups))
+    ap (λ k. k ++ c.more.inside.parts) (sym (climbed-key c.self.inside.rooted c.self.inside.ups c.self.inside.parts steps c.self.invariant.root) ∙ ap (λ k. climbed k steps) c.self.view_is)
+    ∙ ap (λ ps. climbed c.args.self.now steps ++ ps) (ap parts_of c.more.view_is)
+    ∙ sym (joined_down c.args.self.now c.args.more.now steps plain (sym ups))
     )
