@@ -387,6 +387,7 @@ fn are(one: &str, two: &str, folder: &str, file: &str) -> bool
 }
 
 /// The parts of a path that are still to come, each borrowed. Contracts see their list.
+#[derive(Drop)]
 pub struct PathParts<'a> {
     rest: &'a str,
 }

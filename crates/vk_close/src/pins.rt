@@ -1,7 +1,5 @@
 //! Which ports are pinned: those with an overlay or an override.
-ghost use Rattle.std.specs.Prelude.{◌≡◌, ◌-◌, ◌∷◌, [], ℕ, List, IfOk, Ok, Err, bytes_eq};
-ghost use Rattle.std.specs.Prelude.{drop, length, map};
-ghost use Rattle.std.specs.Cmp.Lexicographic.{pointwise};
+ghost use Rattle.std.specs.Prelude.{◌≡◌, ℕ, List, IfOk, Ok, Err, map};
 ghost use Rattle.std.specs.List.{list_any};
 ghost use Rattle.vk_spec.specs.Manifests as plain;
 ghost use Rattle.vk_spec.specs.Pages.{has_override, is_overlay_file, is_pinned_by};
@@ -13,7 +11,7 @@ use crate::names::copy_of;
 use indexmap::IndexSet;
 use std::alloc::Global;
 use std::marker::Model;
-use vk_base::{Memory, PortName, Text, TreePath};
+use vk_base::{Memory, PortName, TreePath};
 use vk_model::{Given, Override, Wrong};
 
 /// The overrides of a root, ready to be looked up by port. Contracts see the overrides.
@@ -65,22 +63,11 @@ impl<'a> Overrides<'a> {
     }
 }
 
-// Whether a path ends in these two parts.
-fn ends_in(parts: &[Text], folder: &str, file: &str) -> bool
-    ensures { result ≡ pointwise bytes_eq (drop (length parts.now - 2) parts.now)
-        (folder.now ∷ file.now ∷ []) }
-{
-    match parts {
-        [.., one, two] => one.as_str() == folder && two.as_str() == file,
-        _ => false,
-    }
-}
-
 // Whether a file is the manifest in an overlay's folder for the port.
 fn is_overlay_file(port: &PortName, path: &TreePath) -> bool
     ensures { result ≡ is_overlay_file port.now path.now }
 {
-    ends_in(path.parts(), port.as_str(), "vcpkg.json")
+    path.ends_in(port.as_str(), "vcpkg.json")
 }
 
 /// Whether a port without a given version is pinned all the same.

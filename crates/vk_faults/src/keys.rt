@@ -2,7 +2,7 @@
 ghost use Rattle.std.specs.Prelude.{◌≡◌, ◌++◌, ◌∷◌, [], IfOk, OnOk};
 
 use std::alloc::Global;
-use vk_base::{List, Memory, Text, TreePath};
+use vk_base::{List, Memory, PathParts, TreePath};
 
 /// Parts, each the bytes of a text or one number. Keys are ordered part by part.
 pub(crate) type Key = List<List<u32>>;
@@ -51,11 +51,12 @@ pub(crate) fn push_path(alloc: Global, key: &mut Key, path: &TreePath) -> Result
     push_parts(alloc, key, path.parts())
 }
 
-// Puts texts at the end.
-fn push_parts(alloc: Global, key: &mut Key, parts: &[Text]) -> Result<(), Memory>
-    ensures { OnOk result (key.new ≡ key.old ++ parts.now) }
+// Puts the parts that are left at the end.
+fn push_parts(alloc: Global, key: &mut Key, parts: PathParts<'_>) -> Result<(), Memory>
+    ensures { OnOk result (key.new ≡ key.old ++ parts) }
 {
-    for part in parts {
+    let mut left = parts;
+    while let Some(part) = left.next() {
         push_text(alloc, key, part.as_bytes())?;
     }
     Ok(())

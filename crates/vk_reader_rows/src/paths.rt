@@ -50,7 +50,7 @@ fn parts(rest: &str, reply: &mut Reply) {
     });
     reply.push_number(u64::from(path.steps_up()));
     reply.push(" steps up, ");
-    reply.push_number(path.parts().len() as u64);
+    reply.push_number(path.part_count() as u64);
     reply.push(" parts");
 }
 
