@@ -24,11 +24,7 @@ use Rattle.vk_pages.specs.Pages.{page_of}
 use Rattle.vk_app.specs.Requests.{Request}
 use Rattle.vk_app.specs.Resolutions.{Resolution, early, resolved, too_many, IsSettingOf, Settles, SettlesOpened, ComesFrom, ComesTo}
 use Rattle.vk_app.specs.Answers.{Shown, shown_for, IsAnswerTo}
-
--- what went through gave a value, and the next step did too
-bind_ok : {A B F : Type 0} (read : Result A F) (next : A → Result B F) (y : B) → (read >>= next) ≡ Ok y → (x : A) × (read ≡ Ok x) × (next x ≡ Ok y)
-bind_ok (Ok x) next y e = (x, refl, e)
-bind_ok (Err f) next y e = (cc)
+use Rattle.vk_spec.proofs.ReadingLemmas.{bind_ok}
 
 -- the settings of an opening are one but for what is off, and allow as many requirements as the project
 pub record HasForm (project : Project) (opening : Opening) : Type 0 where

@@ -22,12 +22,9 @@ use Rattle.vk_fields.specs.Wording.{name_word}
 use Rattle.vk_fields.specs.Saying.{said_here}
 use Rattle.vk_manifest.specs.Manifests.{feature_at, features_in, dependencies_in, supports_in}
 use Rattle.vk_manifest.specs.Names.{feature_names}
+use Rattle.vk_spec.proofs.ReadingLemmas.{bind_ok}
 
 -- ---- what a reading that gave a value gave on the way
-
-bind_ok : {A B F : Type 0} (x : Result A F) (f : A → Result B F) (y : B) → (x >>= f) ≡ Ok y → (a : A) × (x ≡ Ok a) × (f a ≡ Ok y)
-bind_ok (Ok a) f y e = (a, refl, e)
-bind_ok (Err g) f y e = (cc)
 
 inside_ok : {A : Type 0} (step : List ℕ) (r : Result A FileFault) (y : A) → inside step r ≡ Ok y → r ≡ Ok y
 inside_ok step (Ok x) y e = e

@@ -193,8 +193,9 @@ fn fit(items: &[Item], components: &[Option<u32>]) -> bool
     true
 }
 
-/// Numbers that never fall from what is needed to who needs it. What needs nothing of its own number
-/// is on no cycle. All else is on one: that makes the search short, and no answer rests on it.
+/// Numbers that never fall from what is needed to who needs it. What needs nothing of its own
+/// number is on no cycle. All else is on one: that makes the search short, and no answer rests on
+/// it.
 pub(crate) fn components_of(
     alloc: Global,
     items: &[Item],

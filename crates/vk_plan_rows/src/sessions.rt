@@ -1,7 +1,7 @@
 //! The rows, each a question and its words:
 //! - `group TITLE`, `case TITLE`: a root that asks for nothing, and no pages;
-//! - `root FILE`, `target NAME FILE`, `host NAME FILE`, `features NAME ..`, `no-defaults`, `most N`:
-//!   what a plan is made under; the triplets are the stock ones where no row says;
+//! - `root FILE`, `target NAME FILE`, `host NAME FILE`, `features NAME ..`, `no-defaults` and
+//!   `most N`: what a plan is made under; the triplets are the stock ones where no row says;
 //! - `port NAME GIVEN`: a page; `at FILE`, `bad VERSION WRONG`: a version more of that page;
 //! - `fails N ..`: the catalogue fails at these calls, counted from 1;
 //! - `off`, `close`, `plan`: what is off, what is required, and what that comes to.

@@ -93,7 +93,13 @@ impl<R: Files + Alloc<A = Global>> FileTree<R> {
 }
 
 impl<R: Files + Alloc<A = Global>> Tree for FileTree<R> {
-    ghost state = { λ t. record { told = None; changes = 0; faults = t.faults; calls = t.calls; sure = false } };
+    ghost state = { λ t. record {
+      told = None;
+      changes = 0;
+      faults = t.faults;
+      calls = t.calls;
+      sure = false;
+    } };
 
     fn read(&mut self, path: &TreePath, limit: u64) -> Result<List<u8>, Stop<ReadFault>> {
         self.calls = self.calls.saturating_add(1);

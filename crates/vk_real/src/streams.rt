@@ -25,7 +25,12 @@ impl<W: Write> OutSink<W> {
 }
 
 impl<W: Write> Sink for OutSink<W> {
-    ghost state = { λ s. record { taken = None; faults = s.faults; failures = s.failures; room = 0 } };
+    ghost state = { λ s. record {
+      taken = None;
+      faults = s.faults;
+      failures = s.failures;
+      room = 0;
+    } };
 
     fn put(&mut self, piece: &[u8]) -> Result<usize, SinkFailed> {
         match self.stream.write(piece) {

@@ -36,7 +36,8 @@ use Rattle.vk_registry.specs.Baselines.{IsInOrder, ask_for}
 use Rattle.vk_registry.specs.BaselineViews.{entry_view}
 use Rattle.vk_registry.specs.declared.baselines.BaselineEntry.{BaselineEntry}
 use Rattle.vk_version.specs.AskViews.{ask_view}
-use Rattle.vk_registry.proofs.StepLemmas.{bind_ok, inside_ok, there_ok}
+use Rattle.vk_registry.proofs.StepLemmas.{inside_ok, there_ok}
+use Rattle.vk_spec.proofs.ReadingLemmas.{bind_ok}
 
 abbrev bytes_cmp : List ℕ → List ℕ → Ordering
 bytes_cmp = slice_cmp nat_cmp

@@ -14,7 +14,7 @@ use Rattle.vk_fields.specs.Saying.{said_here}
 use Rattle.vk_fields.specs.Wording.{path_word}
 use Rattle.vk_spec.specs.Fronts.{after}
 use Rattle.vk_registry.specs.Folders.{IsBelow, unless_above, folder_of, folder_at}
-use Rattle.vk_registry.proofs.StepLemmas.{bind_ok}
+use Rattle.vk_spec.proofs.ReadingLemmas.{bind_ok}
 
 by_tests : (path found : Path) (rooted level : Bool) → is_rooted path ≡ rooted
     → eqb (ups_of path) 0 ≡ level

@@ -8,11 +8,7 @@ use Rattle.vk_json.specs.declared.faults.FileFault.{FileFault}
 use Rattle.vk_json.specs.Places.{inside, here, member_step}
 use Rattle.vk_json.specs.Readings.{Reading, wanted}
 use Rattle.vk_json.specs.declared.faults.Why.TheVariants as why
-
-pub bind_ok : {A B F : Type 0} (m : Result A F) (f : A → Result B F) (y : B) → (m >>= f) ≡ Ok y
-    → (x : A) × (m ≡ Ok x) × (f x ≡ Ok y)
-bind_ok (Ok x) f y e = (x, refl, e)
-bind_ok (Err fault) f y e = (cc)
+use Rattle.vk_spec.proofs.ReadingLemmas.{bind_ok}
 
 pub inside_ok : {A : Type 0} (step : List ℕ) (read : Result A FileFault) (x : A)
     → inside step read ≡ Ok x → read ≡ Ok x

@@ -25,7 +25,8 @@ use Rattle.vk_fields.specs.Versions.{version_needed_at}
 use Rattle.vk_registry.specs.Folders.{IsBelow, folder_at}
 use Rattle.vk_registry.specs.Tables.{Row, ask_in, asks_of, row_at, new_ask, row_from}
 use Rattle.vk_registry.specs.Tables.{rows_at, table_at, table_of, IsTable, IsRowAt, HasNoRow}
-use Rattle.vk_registry.proofs.StepLemmas.{bind_ok, inside_ok, wanted_ok, kept_after}
+use Rattle.vk_registry.proofs.StepLemmas.{inside_ok, wanted_ok, kept_after}
+use Rattle.vk_spec.proofs.ReadingLemmas.{bind_ok}
 use Rattle.vk_registry.proofs.AskLemmas.{any_kept}
 use Rattle.vk_registry.proofs.FolderLemmas.{folder_below}
 

@@ -19,7 +19,7 @@ use Rattle.vk_report_reader.specs.Faults.{IsCycle, IsRightAnd, IsRightFault}
 use Rattle.vk_report_reader.specs.Forms.{ReadsAs, pair_text, IsRightPair}
 use Rattle.vk_report_reader.specs.Names.{IsRightInstance, instance_of}
 use Rattle.vk_report_reader.specs.Places.{Any}
-use Rattle.vk_report_reader.proofs.NameForms.{name_lacks}
+use Rattle.vk_report_reader.proofs.NameForms.{name_lacks, name_token}
 use Rattle.vk_report_reader.proofs.PairForms.{lacks_none, same_pair}
 use Rattle.vk_report_reader.proofs.Spaced.{spaced2}
 use Rattle.vk_report_reader.proofs.Through.{AreParts}
@@ -56,10 +56,10 @@ triplet_blank : (i : Instance) → IsRightInstance i → Lacks 32 (token_of i.tr
 triplet_blank i right = name_lacks word_rule 32 i.triplet refl right.1
 
 -- the first instance of a walk, and what follows
-two_text : (i j : Instance) (is : List Instance) → walk_text (i ∷ j ∷ is) ≡ token_of i.port ++ 32 ∷ (token_of i.triplet ++ 32 ∷ walk_text (j ∷ is))
+pub two_text : (i j : Instance) (is : List Instance) → walk_text (i ∷ j ∷ is) ≡ token_of i.port ++ 32 ∷ (token_of i.triplet ++ 32 ∷ walk_text (j ∷ is))
 two_text i j is = append_assoc (token_of i.port ++ 32 ∷ []) (token_of i.triplet) (32 ∷ walk_text (j ∷ is)) ∙ spaced2 (token_of i.port) (token_of i.triplet ++ 32 ∷ walk_text (j ∷ is))
 
-one_text : (i : Instance) → walk_text (i ∷ []) ≡ token_of i.port ++ 32 ∷ token_of i.triplet
+pub one_text : (i : Instance) → walk_text (i ∷ []) ≡ token_of i.port ++ 32 ∷ token_of i.triplet
 one_text i = spaced2 (token_of i.port) (token_of i.triplet)
 
 -- what is left of a walk after an instance that more follows
@@ -74,6 +74,39 @@ later_walk p t more rest is port triplet (j ∷ k ∷ ks) right e =
     let same = same_pair 32 (token_of p) (token_of j.port) (token_of t ++ 32 ∷ more) (token_of j.triplet ++ 32 ∷ walk_text (k ∷ ks)) port (port_blank j one) (sym is ∙ e ∙ two_text j k ks) in
     let rest_same = same_pair 32 (token_of t) (token_of j.triplet) more (walk_text (k ∷ ks)) triplet (triplet_blank j one) same.1 in
     (k ∷ ks, (All-tail IsRightInstance j (k ∷ ks) right, rest_same.1))
+
+instance_is : (i j : Instance) → i.port ≡ j.port → i.triplet ≡ j.triplet → i ≡ j
+instance_is i j port triplet = ap (λ p. instance_of p i.triplet) port ∙ ap (instance_of j.port) triplet
+
+pub instance_apart : (i j : Instance) → IsRightInstance i → IsRightInstance j → token_of i.port ≡ token_of j.port → token_of i.triplet ≡ token_of j.triplet → i ≡ j
+instance_apart i j one other port triplet = instance_is i j
+    (sym (name_token port_rule i.port one.0) ∙ port ∙ name_token port_rule j.port other.0)
+    (sym (name_token word_rule i.triplet one.1) ∙ triplet ∙ name_token word_rule j.triplet other.1)
+
+-- one instance isn't two
+one_not_two : (i j k : Instance) (ks : List Instance) → IsRightInstance i → IsRightInstance j → walk_text (i ∷ []) ≡ walk_text (j ∷ k ∷ ks) → ⊥
+one_not_two i j k ks one other e =
+    let same = same_pair 32 (token_of i.port) (token_of j.port) (token_of i.triplet) (token_of j.triplet ++ 32 ∷ walk_text (k ∷ ks)) (port_blank i one) (port_blank j other) (sym (one_text i) ∙ e ∙ two_text j k ks) in
+    lacks_none 32 (token_of j.triplet) (walk_text (k ∷ ks)) (subst (Lacks 32) same.1 (triplet_blank i one))
+
+-- no two walks have one text
+pub walk_apart : (x y : List Instance) → IsWalk x → IsWalk y → walk_text x ≡ walk_text y → x ≡ y
+walk_apart [] y left right e = absurd left
+walk_apart (i ∷ is) [] left right e = absurd right
+walk_apart (i ∷ []) (j ∷ []) left right e =
+    let one = All-head IsRightInstance i [] left in
+    let other = All-head IsRightInstance j [] right in
+    let same = same_pair 32 (token_of i.port) (token_of j.port) (token_of i.triplet) (token_of j.triplet) (port_blank i one) (port_blank j other) (sym (one_text i) ∙ e ∙ one_text j) in
+    ap (λ x. x ∷ []) (instance_apart i j one other same.0 same.1)
+walk_apart (i ∷ []) (j ∷ k ∷ ks) left right e = absurd (one_not_two i j k ks (All-head IsRightInstance i [] left) (All-head IsRightInstance j (k ∷ ks) right) e)
+walk_apart (i ∷ k ∷ ks) (j ∷ []) left right e = absurd (one_not_two j i k ks (All-head IsRightInstance j [] right) (All-head IsRightInstance i (k ∷ ks) left) (sym e))
+walk_apart (i ∷ k ∷ ks) (j ∷ l ∷ ls) left right e =
+    let one = All-head IsRightInstance i (k ∷ ks) left in
+    let other = All-head IsRightInstance j (l ∷ ls) right in
+    let same = same_pair 32 (token_of i.port) (token_of j.port) _ _ (port_blank i one) (port_blank j other) (sym (two_text i k ks) ∙ e ∙ two_text j l ls) in
+    let later = same_pair 32 (token_of i.triplet) (token_of j.triplet) _ _ (triplet_blank i one) (triplet_blank j other) same.1 in
+    let rest = walk_apart (k ∷ ks) (l ∷ ls) (All-tail IsRightInstance i (k ∷ ks) left) (All-tail IsRightInstance j (l ∷ ls) right) later.1 in
+    rw (instance_apart i j one other same.0 later.0) (ap (λ x. j ∷ x) rest)
 
 put_walk : (walk : List Instance) (i : Instance) → walked (walk ++ i ∷ []) ≡ walked walk ++ (who_text (inst i) ++ 32 ∷ [])
 put_walk walk i = flat_map-append (λ i. who_text (inst i) ++ 32 ∷ []) walk (i ∷ []) ∙ ap (λ l. walked walk ++ l) (append-nil (who_text (inst i) ++ 32 ∷ []))
@@ -134,10 +167,10 @@ steps_text : (i : Instance) (is : List Instance) → flat_map (λ j. codes " " +
 steps_text i [] = ap (λ l. 32 ∷ l) (append-nil (who_text (inst i)))
 steps_text i (j ∷ is) = ap (λ l. 32 ∷ (who_text (inst i) ++ l)) (steps_text j is)
 
-abbrev cycle_text : CycleParts → List ℕ
+abbrev pub cycle_text : CycleParts → List ℕ
 cycle_text = either_text (λ u. codes "cycle") (pair_text 32 (λ u. codes "cycle") walk_text)
 
-abbrev AreCycleParts : CycleParts → Type 0
+abbrev pub AreCycleParts : CycleParts → Type 0
 AreCycleParts = IsRightEither Any (IsRightPair 32 (λ u. codes "cycle") Any IsWalk)
 
 walk_same : (walk : List Instance) → IsWalk walk → codes "cycle" ++ 32 ∷ walk_text walk ≡ fault_line (has_cycle walk)
@@ -152,9 +185,9 @@ cycle_made : (p : CycleParts) → AreCycleParts p → (cycle_text p ≡ fault_li
 cycle_made (inl u) right = (refl, (tt, All-nil IsRightInstance))
 cycle_made (inr p) right = (walk_same p.1 right.2, (tt, walk_all p.1 right.2))
 
-cycle_of : (x : Fault) → IsCycle x → IsRightFault x → (p : CycleParts) × (AreCycleParts p × (fault_line x ≡ cycle_text p))
-cycle_of (has_cycle []) is right = (inl tt, (tt, refl))
-cycle_of (has_cycle (i ∷ walk)) is right = (inr (tt, i ∷ walk), ((tt, lacks_byte 32 (codes "cycle") refl, right), sym (walk_same (i ∷ walk) right)))
+cycle_of : (x : Fault) → IsCycle x → IsRightFault x → (p : CycleParts) × (AreCycleParts p × (fault_line x ≡ cycle_text p) × (x ≡ cycle_fault p))
+cycle_of (has_cycle []) is right = (inl tt, (tt, refl, refl))
+cycle_of (has_cycle (i ∷ walk)) is right = (inr (tt, i ∷ walk), ((tt, lacks_byte 32 (codes "cycle") refl, right), sym (walk_same (i ∷ walk) right), refl))
 cycle_of (troubled (lacks_registry p) n) is right = absurd is
 cycle_of (troubled (lacks_baseline p) n) is right = absurd is
 cycle_of (troubled (unreadable path place word) n) is right = absurd is

@@ -31,7 +31,7 @@ use Rattle.vk_report_reader.proofs.Spaced.{spaced2, spaced3, spaced4}
 use Rattle.vk_report_reader.proofs.TextForms.{text_blank}
 use Rattle.vk_report_reader.proofs.Through.{AreParts}
 use Rattle.vk_report_reader.proofs.VersionForms.{version_blank}
-use Rattle.vk_report_reader.proofs.WordForms.{field_blank, why_blank}
+use Rattle.vk_report_reader.proofs.WordForms.{field_plain, plain_blank, why_blank}
 
 if_any_blank : (version : Option plain.Version) → IsRightIfAny version → Lacks 32 (version_or_none version)
 if_any_blank None right = lacks_byte 32 (codes "-") refl
@@ -84,21 +84,22 @@ judged_spaced (Some p) t f v n = append_assoc (((((token_of p ++ 32 ∷ []) ++ t
 
 -- ---- no-registry
 
-abbrev no_registry_text : NoRegistryParts → List ℕ
+abbrev pub no_registry_text : NoRegistryParts → List ℕ
 no_registry_text = pair_text 32 (λ u. codes "no-registry") (pair_text 32 token_of decimal)
 
-abbrev AreNoRegistryParts : NoRegistryParts → Type 0
+abbrev pub AreNoRegistryParts : NoRegistryParts → Type 0
 AreNoRegistryParts = IsRightPair 32 (λ u. codes "no-registry") Any (IsRightPair 32 token_of (IsName port_rule) IsLine)
 
 no_registry_same : (a : List ℕ) (b : ℕ) → no_registry_text (tt, (a, b)) ≡ fault_line (no_registry_fault (tt, (a, b)))
 no_registry_same a b = refl
 
-no_registry_of : (x : Fault) → IsNoRegistry x → IsRightFault x → (p : NoRegistryParts) × (AreNoRegistryParts p × (fault_line x ≡ no_registry_text p))
+no_registry_of : (x : Fault) → IsNoRegistry x → IsRightFault x → (p : NoRegistryParts) × (AreNoRegistryParts p × (fault_line x ≡ no_registry_text p) × (x ≡ no_registry_fault p))
 no_registry_of (troubled (lacks_registry a) b) is right = (
   (tt, (a, b)),
   (
     (tt, lacks_byte 32 (codes "no-registry") refl, (right.0, name_lacks port_rule 32 a refl right.0, right.1)),
     sym (no_registry_same a b),
+    refl,
   ),
 )
 no_registry_of (troubled (lacks_baseline p) n) is right = absurd is
@@ -118,21 +119,22 @@ no_registry_parts_are = record {
 
 -- ---- no-baseline
 
-abbrev no_baseline_text : NoBaselineParts → List ℕ
+abbrev pub no_baseline_text : NoBaselineParts → List ℕ
 no_baseline_text = pair_text 32 (λ u. codes "no-baseline") (pair_text 32 token_of decimal)
 
-abbrev AreNoBaselineParts : NoBaselineParts → Type 0
+abbrev pub AreNoBaselineParts : NoBaselineParts → Type 0
 AreNoBaselineParts = IsRightPair 32 (λ u. codes "no-baseline") Any (IsRightPair 32 token_of (IsName port_rule) IsLine)
 
 no_baseline_same : (a : List ℕ) (b : ℕ) → no_baseline_text (tt, (a, b)) ≡ fault_line (no_baseline_fault (tt, (a, b)))
 no_baseline_same a b = refl
 
-no_baseline_of : (x : Fault) → IsNoBaseline x → IsRightFault x → (p : NoBaselineParts) × (AreNoBaselineParts p × (fault_line x ≡ no_baseline_text p))
+no_baseline_of : (x : Fault) → IsNoBaseline x → IsRightFault x → (p : NoBaselineParts) × (AreNoBaselineParts p × (fault_line x ≡ no_baseline_text p) × (x ≡ no_baseline_fault p))
 no_baseline_of (troubled (lacks_baseline a) b) is right = (
   (tt, (a, b)),
   (
     (tt, lacks_byte 32 (codes "no-baseline") refl, (right.0, name_lacks port_rule 32 a refl right.0, right.1)),
     sym (no_baseline_same a b),
+    refl,
   ),
 )
 no_baseline_of (troubled (lacks_registry p) n) is right = absurd is
@@ -152,21 +154,25 @@ no_baseline_parts_are = record {
 
 -- ---- bad-file
 
-abbrev bad_file_text : BadFileParts → List ℕ
+abbrev pub bad_file_text : BadFileParts → List ℕ
 bad_file_text = pair_text 32 (λ u. codes "bad-file") (pair_text 32 path_text (pair_text 32 place_text (pair_text 32 word_of decimal)))
 
-abbrev AreBadFileParts : BadFileParts → Type 0
+abbrev pub AreBadFileParts : BadFileParts → Type 0
 AreBadFileParts = IsRightPair 32 (λ u. codes "bad-file") Any (IsRightPair 32 path_text IsRightPath (IsRightPair 32 place_text IsPlace (IsRightPair 32 word_of HasSmallNumber IsLine)))
 
-bad_file_same : (a : Path) (b : List ℕ) (c : Why) (d : ℕ) → bad_file_text (tt, (a, (b, (c, d)))) ≡ fault_line (bad_file_fault (tt, (a, (b, (c, d)))))
-bad_file_same a b c d = sym (ap (λ l. codes "bad-file " ++ l) (append_assoc (((path_text a ++ 32 ∷ []) ++ place_text b) ++ 32 ∷ []) (word_of c) (32 ∷ decimal d) ∙ spaced3 (path_text a) (place_text b) (word_of c ++ 32 ∷ decimal d)))
+pub bad_file_spaced : (a : Path) (b word : List ℕ) (d : ℕ) → codes "bad-file" ++ 32 ∷ (path_text a ++ 32 ∷ (place_text b ++ 32 ∷ (word ++ 32 ∷ decimal d))) ≡ fault_line (troubled (unreadable a b word) d)
+bad_file_spaced a b word d = sym (ap (λ l. codes "bad-file " ++ l) (append_assoc (((path_text a ++ 32 ∷ []) ++ place_text b) ++ 32 ∷ []) word (32 ∷ decimal d) ∙ spaced3 (path_text a) (place_text b) (word ++ 32 ∷ decimal d)))
 
-bad_file_of : (x : Fault) → IsBadFile x → IsRightFault x → (p : BadFileParts) × (AreBadFileParts p × (fault_line x ≡ bad_file_text p))
+bad_file_same : (a : Path) (b : List ℕ) (c : Why) (d : ℕ) → bad_file_text (tt, (a, (b, (c, d)))) ≡ fault_line (bad_file_fault (tt, (a, (b, (c, d)))))
+bad_file_same a b c d = bad_file_spaced a b (word_of c) d
+
+bad_file_of : (x : Fault) → IsBadFile x → IsRightFault x → (p : BadFileParts) × (AreBadFileParts p × (fault_line x ≡ bad_file_text p) × (x ≡ bad_file_fault p))
 bad_file_of (troubled (unreadable a b word) d) is right = (
   (tt, (a, (b, (right.0.2.why, d)))),
   (
     (tt, lacks_byte 32 (codes "bad-file") refl, (right.0.0, path_blank a right.0.0, (right.0.1, place_blank b right.0.1, (right.0.2.small, why_blank right.0.2.why right.0.2.small, right.1)))),
     ap (λ w. fault_line (troubled (unreadable a b w) d)) right.0.2.is ∙ sym (bad_file_same a b right.0.2.why d),
+    ap (λ w. troubled (unreadable a b w) d) right.0.2.is,
   ),
 )
 bad_file_of (troubled (lacks_registry p) n) is right = absurd is
@@ -186,21 +192,22 @@ bad_file_parts_are = record {
 
 -- ---- no-version
 
-abbrev no_version_text : NoVersionParts → List ℕ
+abbrev pub no_version_text : NoVersionParts → List ℕ
 no_version_text = pair_text 32 (λ u. codes "no-version") (pair_text 32 token_of (pair_text 32 version_text decimal))
 
-abbrev AreNoVersionParts : NoVersionParts → Type 0
+abbrev pub AreNoVersionParts : NoVersionParts → Type 0
 AreNoVersionParts = IsRightPair 32 (λ u. codes "no-version") Any (IsRightPair 32 token_of (IsName port_rule) (IsRightPair 32 version_text IsRightAsk IsLine))
 
 no_version_same : (a : List ℕ) (b : plain.Ask) (c : ℕ) → no_version_text (tt, (a, (b, c))) ≡ fault_line (no_version_fault (tt, (a, (b, c))))
 no_version_same a b c = sym (ap (λ l. codes "no-version " ++ l) (append_assoc (token_of a ++ 32 ∷ []) (version_text b) (32 ∷ decimal c) ∙ spaced2 (token_of a) (version_text b ++ 32 ∷ decimal c)))
 
-no_version_of : (x : Fault) → IsNoVersion x → IsRightFault x → (p : NoVersionParts) × (AreNoVersionParts p × (fault_line x ≡ no_version_text p))
+no_version_of : (x : Fault) → IsNoVersion x → IsRightFault x → (p : NoVersionParts) × (AreNoVersionParts p × (fault_line x ≡ no_version_text p) × (x ≡ no_version_fault p))
 no_version_of (troubled (lacks_version a b) c) is right = (
   (tt, (a, (b, c))),
   (
     (tt, lacks_byte 32 (codes "no-version") refl, (right.0.0, name_lacks port_rule 32 a refl right.0.0, (right.0.1, version_blank b right.0.1, right.1))),
     sym (no_version_same a b c),
+    refl,
   ),
 )
 no_version_of (troubled (lacks_registry p) n) is right = absurd is
@@ -220,21 +227,22 @@ no_version_parts_are = record {
 
 -- ---- disagrees
 
-abbrev disagrees_text : DisagreesParts → List ℕ
+abbrev pub disagrees_text : DisagreesParts → List ℕ
 disagrees_text = pair_text 32 (λ u. codes "disagrees") (pair_text 32 path_text (pair_text 32 field_word (pair_text 32 token_of (pair_text 32 token_of decimal))))
 
-abbrev AreDisagreesParts : DisagreesParts → Type 0
+abbrev pub AreDisagreesParts : DisagreesParts → Type 0
 AreDisagreesParts = IsRightPair 32 (λ u. codes "disagrees") Any (IsRightPair 32 path_text IsRightPath (IsRightPair 32 field_word (λ field. Unit {0}) (IsRightPair 32 token_of IsText (IsRightPair 32 token_of IsText IsLine))))
 
 disagrees_same : (a : Path) (b : Field) (c : List ℕ) (d : List ℕ) (e : ℕ) → disagrees_text (tt, (a, (b, (c, (d, e))))) ≡ fault_line (disagrees_fault (tt, (a, (b, (c, (d, e))))))
 disagrees_same a b c d e = sym (ap (λ l. codes "disagrees " ++ l) (append_assoc (((((path_text a ++ 32 ∷ []) ++ field_word b) ++ 32 ∷ []) ++ token_of c) ++ 32 ∷ []) (token_of d) (32 ∷ decimal e) ∙ spaced4 (path_text a) (field_word b) (token_of c) (token_of d ++ 32 ∷ decimal e)))
 
-disagrees_of : (x : Fault) → IsDisagrees x → IsRightFault x → (p : DisagreesParts) × (AreDisagreesParts p × (fault_line x ≡ disagrees_text p))
+disagrees_of : (x : Fault) → IsDisagrees x → IsRightFault x → (p : DisagreesParts) × (AreDisagreesParts p × (fault_line x ≡ disagrees_text p) × (x ≡ disagrees_fault p))
 disagrees_of (troubled (differs a b c d) e) is right = (
   (tt, (a, (b, (c, (d, e))))),
   (
-    (tt, lacks_byte 32 (codes "disagrees") refl, (right.0.0, path_blank a right.0.0, (tt, field_blank b, (right.0.1, text_blank c right.0.1, (right.0.2, text_blank d right.0.2, right.1))))),
+    (tt, lacks_byte 32 (codes "disagrees") refl, (right.0.0, path_blank a right.0.0, (tt, plain_blank (field_word b) (field_plain b), (right.0.1, text_blank c right.0.1, (right.0.2, text_blank d right.0.2, right.1))))),
     sym (disagrees_same a b c d e),
+    refl,
   ),
 )
 disagrees_of (troubled (lacks_registry p) n) is right = absurd is
@@ -254,21 +262,22 @@ disagrees_parts_are = record {
 
 -- ---- conflict
 
-abbrev conflict_text : ConflictParts → List ℕ
+abbrev pub conflict_text : ConflictParts → List ℕ
 conflict_text = pair_text 32 (λ u. codes "conflict") (pair_text 32 token_of (pair_text 32 (λ v. version_text (ask_of v)) (pair_text 32 decimal (pair_text 32 (λ v. version_text (ask_of v)) decimal))))
 
-abbrev AreConflictParts : ConflictParts → Type 0
+abbrev pub AreConflictParts : ConflictParts → Type 0
 AreConflictParts = IsRightPair 32 (λ u. codes "conflict") Any (IsRightPair 32 token_of (IsName port_rule) (IsRightPair 32 (λ v. version_text (ask_of v)) IsRightVersion (IsRightPair 32 decimal IsLine (IsRightPair 32 (λ v. version_text (ask_of v)) IsRightVersion IsLine))))
 
 conflict_same : (a : List ℕ) (b : plain.Version) (c : ℕ) (d : plain.Version) (e : ℕ) → conflict_text (tt, (a, (b, (c, (d, e))))) ≡ fault_line (conflict_fault (tt, (a, (b, (c, (d, e))))))
 conflict_same a b c d e = sym (ap (λ l. codes "conflict " ++ l) (conflict_spaced (token_of a) (version_text (ask_of b)) (decimal c) (version_text (ask_of d)) (decimal e)))
 
-conflict_of : (x : Fault) → IsConflict x → IsRightFault x → (p : ConflictParts) × (AreConflictParts p × (fault_line x ≡ conflict_text p))
+conflict_of : (x : Fault) → IsConflict x → IsRightFault x → (p : ConflictParts) × (AreConflictParts p × (fault_line x ≡ conflict_text p) × (x ≡ conflict_fault p))
 conflict_of (conflicts a b c d e) is right = (
   (tt, (a, (b, (c, (d, e))))),
   (
     (tt, lacks_byte 32 (codes "conflict") refl, (right.0, name_lacks port_rule 32 a refl right.0, (right.1, version_blank (ask_of b) right.1.ask, (right.2, decimal_lacks 32 c right.2 (omega arith), (right.3, version_blank (ask_of d) right.3.ask, right.4))))),
     sym (conflict_same a b c d e),
+    refl,
   ),
 )
 conflict_of (troubled (lacks_registry p) n) is right = absurd is
@@ -288,22 +297,23 @@ conflict_parts_are = record {
 
 -- ---- no-feature
 
-abbrev no_feature_text : NoFeatureParts → List ℕ
+abbrev pub no_feature_text : NoFeatureParts → List ℕ
 no_feature_text = pair_text 32 (λ u. codes "no-feature") (pair_text 32 port_or_root (pair_text 32 token_of (pair_text 32 token_of (pair_text 32 version_or_none decimal))))
 
-abbrev AreNoFeatureParts : NoFeatureParts → Type 0
+abbrev pub AreNoFeatureParts : NoFeatureParts → Type 0
 AreNoFeatureParts = IsRightPair 32 (λ u. codes "no-feature") Any (IsRightPair 32 port_or_root IsPortIfAny (IsRightPair 32 token_of (IsName word_rule) (IsRightPair 32 token_of (IsName word_rule) (IsRightPair 32 version_or_none IsRightIfAny IsLine))))
 
 no_feature_same : (a : Option (List ℕ)) (b : List ℕ) (c : List ℕ) (d : Option plain.Version) (e : ℕ) → no_feature_text (tt, (a, (b, (c, (d, e))))) ≡ fault_line (no_feature_fault (tt, (a, (b, (c, (d, e))))))
 no_feature_same None b c d e = sym (ap (λ l. codes "no-feature " ++ l) (judged_spaced None (token_of b) (token_of c) (version_or_none d) (decimal e)))
 no_feature_same (Some p) b c d e = sym (ap (λ l. codes "no-feature " ++ l) (judged_spaced (Some p) (token_of b) (token_of c) (version_or_none d) (decimal e)))
 
-no_feature_of : (x : Fault) → IsNoFeature x → IsRightFault x → (p : NoFeatureParts) × (AreNoFeatureParts p × (fault_line x ≡ no_feature_text p))
+no_feature_of : (x : Fault) → IsNoFeature x → IsRightFault x → (p : NoFeatureParts) × (AreNoFeatureParts p × (fault_line x ≡ no_feature_text p) × (x ≡ no_feature_fault p))
 no_feature_of (lacks_feature who c d e) is right = (
   (tt, ((port_in who), ((triplet_in who), (c, (d, e))))),
   (
     (tt, lacks_byte 32 (codes "no-feature") refl, ((port_right who right.0), port_blank (port_in who) (port_right who right.0), ((triplet_right who right.0), name_lacks word_rule 32 (triplet_in who) refl (triplet_right who right.0), (right.1, name_lacks word_rule 32 c refl right.1, (right.2, if_any_blank d right.2, right.3))))),
     ap (λ w. fault_line (lacks_feature w c d e)) (sym (who_again who)) ∙ sym (no_feature_same (port_in who) (triplet_in who) c d e),
+    ap (λ w. lacks_feature w c d e) (sym (who_again who)),
   ),
 )
 no_feature_of (troubled (lacks_registry p) n) is right = absurd is
@@ -323,22 +333,23 @@ no_feature_parts_are = record {
 
 -- ---- unsupported
 
-abbrev unsupported_text : UnsupportedParts → List ℕ
+abbrev pub unsupported_text : UnsupportedParts → List ℕ
 unsupported_text = pair_text 32 (λ u. codes "unsupported") (pair_text 32 port_or_root (pair_text 32 token_of (pair_text 32 token_of (pair_text 32 version_or_none decimal))))
 
-abbrev AreUnsupportedParts : UnsupportedParts → Type 0
+abbrev pub AreUnsupportedParts : UnsupportedParts → Type 0
 AreUnsupportedParts = IsRightPair 32 (λ u. codes "unsupported") Any (IsRightPair 32 port_or_root IsPortIfAny (IsRightPair 32 token_of (IsName word_rule) (IsRightPair 32 token_of (IsName word_rule) (IsRightPair 32 version_or_none IsRightIfAny IsLine))))
 
 unsupported_same : (a : Option (List ℕ)) (b : List ℕ) (c : List ℕ) (d : Option plain.Version) (e : ℕ) → unsupported_text (tt, (a, (b, (c, (d, e))))) ≡ fault_line (unsupported_fault (tt, (a, (b, (c, (d, e))))))
 unsupported_same None b c d e = sym (ap (λ l. codes "unsupported " ++ l) (judged_spaced None (token_of b) (token_of c) (version_or_none d) (decimal e)))
 unsupported_same (Some p) b c d e = sym (ap (λ l. codes "unsupported " ++ l) (judged_spaced (Some p) (token_of b) (token_of c) (version_or_none d) (decimal e)))
 
-unsupported_of : (x : Fault) → IsUnsupported x → IsRightFault x → (p : UnsupportedParts) × (AreUnsupportedParts p × (fault_line x ≡ unsupported_text p))
+unsupported_of : (x : Fault) → IsUnsupported x → IsRightFault x → (p : UnsupportedParts) × (AreUnsupportedParts p × (fault_line x ≡ unsupported_text p) × (x ≡ unsupported_fault p))
 unsupported_of (isnt_supported who c d e) is right = (
   (tt, ((port_in who), ((triplet_in who), (c, (d, e))))),
   (
     (tt, lacks_byte 32 (codes "unsupported") refl, ((port_right who right.0), port_blank (port_in who) (port_right who right.0), ((triplet_right who right.0), name_lacks word_rule 32 (triplet_in who) refl (triplet_right who right.0), (right.1, name_lacks word_rule 32 c refl right.1, (right.2, if_any_blank d right.2, right.3))))),
     ap (λ w. fault_line (isnt_supported w c d e)) (sym (who_again who)) ∙ sym (unsupported_same (port_in who) (triplet_in who) c d e),
+    ap (λ w. isnt_supported w c d e) (sym (who_again who)),
   ),
 )
 unsupported_of (troubled (lacks_registry p) n) is right = absurd is

@@ -125,6 +125,14 @@ right_text (f ∷ g ∷ gs) all = inr (g ∷ gs, (features_plain (f ∷ g ∷ gs
 core_lacks : Lacks 44 core
 core_lacks = lacks_byte 44 core refl
 
+-- features are what stands between their commas
+pub features_again : (fs : List (List ℕ)) → AreFeatures fs → between_commas (features_text fs) ≡ fs
+features_again [] all = absurd all
+features_again (f ∷ []) all = ap between_commas (features_plain (f ∷ []) all ∙ all.0) ∙ commas_last core core_lacks ∙ ap (λ l. l ∷ []) (sym all.0)
+features_again (f ∷ g ∷ gs) all =
+    commas_first (features_text (f ∷ g ∷ gs)) f (join_with_byte 44 (g ∷ gs)) (features_plain (f ∷ g ∷ gs) all) (subst (Lacks 44) (sym all.0) core_lacks)
+    ∙ ap (λ l. f ∷ l) (above_again [] (g ∷ gs) all.1 (λ e. (cc)))
+
 named_none : (text first rest : List ℕ) → text ≡ first ++ 44 ∷ rest → Lacks 44 first → text ≢ codes "core" → ReadsNamed rest None → ReadsAs features_text AreFeatures text None
 named_none text first rest cut lacks not_core none fs right e = elim (right_text fs right) [
   | inl alone ↦ not_core (e ∙ alone)

@@ -20,3 +20,8 @@ pub mod PlaceLemmas
 pub mod ReportForms
 pub mod WrittenAgain
 pub mod ReadAgain
+pub mod Apart
+pub mod Heads
+pub mod ApartLines
+pub mod Shown
+pub mod OneOutcome

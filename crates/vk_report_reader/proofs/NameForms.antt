@@ -54,7 +54,7 @@ unless_reserved : {P : Type 0} (test : Bool) → Decides test P → (P → ⊥) 
 unless_reserved true decides none = absurd (none (decides.0 refl))
 unless_reserved false decides none = refl
 
-core_word : IsName word_rule core
+pub core_word : IsName word_rule core
 core_word = rule_from_no_fault word_rule core refl
 
 pub core_token : token_of core ≡ core

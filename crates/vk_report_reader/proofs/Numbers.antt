@@ -2,7 +2,9 @@
 use Rattle.std.proofs.Common.{◌≡◌, ◌≢◌, ◌==◌, ◌↔◌, ◌<◌, ◌^◌, ◌+◌, ◌%◌, ◌∷◌, ℕ, true, false, List, [], sym, ap, ◌∙◌, arith}
 use Rattle.std.proofs.lemmas.Fmt.{decimal_by_steps}
 use Rattle.std.proofs.lemmas.List.Elements.{All-nil, All-cons, All-append}
+use Rattle.std.specs.List.{All}
 use Rattle.vk_base.specs.Paths.{Lacks}
+use Rattle.vk_base.specs.Tokens.{IsPlain}
 use Rattle.std.specs.Prelude.{Some, IsTrue, decimal}
 use Rattle.std.proofs.lemmas.Bool.Decides.{nat_tests}
 
@@ -20,4 +22,10 @@ pub decimal_lacks : (mark n : ℕ) → n < 2 ^ 32 → mark < 48 → Lacks mark (
 decimal_lacks mark n small low = decimal_by_steps (λ m ds. Lacks mark ds)
     (λ m one. All-cons (λ c. c ≢ mark) (48 + m) [] (λ e. absurd (omega (arith, e, low))) (All-nil (λ c. c ≢ mark)))
     (λ m ds more rest. All-append (λ c. c ≢ mark) ds ((48 + m % 10) ∷ []) rest (All-cons (λ c. c ≢ mark) (48 + m % 10) [] (λ e. absurd (omega (arith, e, low))) (All-nil (λ c. c ≢ mark))))
+    n (omega (arith, small))
+
+pub decimal_plain : (n : ℕ) → n < 2 ^ 32 → All IsPlain (decimal n)
+decimal_plain n small = decimal_by_steps (λ m ds. All IsPlain ds)
+    (λ m one. All-cons IsPlain (48 + m) [] (omega arith, omega (arith, one)) (All-nil IsPlain))
+    (λ m ds more rest. All-append IsPlain ds ((48 + m % 10) ∷ []) rest (All-cons IsPlain (48 + m % 10) [] (omega arith, omega arith) (All-nil IsPlain)))
     n (omega (arith, small))

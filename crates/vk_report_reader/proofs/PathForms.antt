@@ -36,7 +36,7 @@ path_read text p read same =
     let says = checked_says text (checked_tt (checked text) check.0 check.1) in
     (sym same, record { path = read_path text p read; short = rw same says.1 })
 
-ok_same : (r : Result Path PathFault) (p q : Path) → r ≡ Ok p → r ≡ Ok q → p ≡ q
+pub ok_same : (r : Result Path PathFault) (p q : Path) → r ≡ Ok p → r ≡ Ok q → p ≡ q
 ok_same r p q one other = (cc)
 
 -- a text that reads as another path, or as none, is no path's

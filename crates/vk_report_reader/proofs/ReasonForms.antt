@@ -22,10 +22,10 @@ use Rattle.vk_report_reader.proofs.VersionForms.{version_blank}
 
 -- ---- needs
 
-abbrev need_text : NeedParts → List ℕ
+abbrev pub need_text : NeedParts → List ℕ
 need_text = pair_text 32 (λ u. codes "need") (pair_text 32 port_or_root (pair_text 32 token_of (pair_text 32 token_of cause_text)))
 
-abbrev AreNeedParts : NeedParts → Type 0
+abbrev pub AreNeedParts : NeedParts → Type 0
 AreNeedParts = IsRightPair 32 (λ u. codes "need") Any (IsRightPair 32 port_or_root IsPortIfAny (IsRightPair 32 token_of (IsName word_rule) (IsRightPair 32 token_of (IsName word_rule) IsNeedCause)))
 
 need_same : (port : Option (List ℕ)) (t f : List ℕ) (c : Cause ℕ) → need_text (tt, (port, (t, (f, c)))) ≡ reason_text (need_reason (tt, (port, (t, (f, c)))))
@@ -36,12 +36,13 @@ need_right : (port : Option (List ℕ)) (t f : List ℕ) (c : Cause ℕ) → IsP
 need_right None t f c port triplet feature cause = (tt, (triplet, feature, cause))
 need_right (Some p) t f c port triplet feature cause = (tt, ((port, triplet), feature, cause))
 
-need_of : (x : Fact) (c : Cause ℕ) → IsNeed x → IsRightFact x c → (p : NeedParts) × (AreNeedParts p × (reason_text (record { fact = x; cause = c }) ≡ need_text p))
+need_of : (x : Fact) (c : Cause ℕ) → IsNeed x → IsRightFact x c → (p : NeedParts) × (AreNeedParts p × (reason_text (record { fact = x; cause = c }) ≡ need_text p) × (record { fact = x; cause = c } ≡ need_reason p))
 need_of (need (root t) f) c is right = (
   (tt, (None, (t, (f, c)))),
   (
     (tt, lacks_byte 32 (codes "need") refl, (tt, lacks_byte 32 (codes ".") refl, (right.0, name_lacks word_rule 32 t refl right.0, (right.1, name_lacks word_rule 32 f refl right.1, right.2)))),
     sym (need_same None t f c),
+    refl,
   ),
 )
 need_of (need (inst i) f) c is right = (
@@ -49,6 +50,7 @@ need_of (need (inst i) f) c is right = (
   (
     (tt, lacks_byte 32 (codes "need") refl, (right.0.0, name_lacks port_rule 32 i.port refl right.0.0, (right.0.1, name_lacks word_rule 32 i.triplet refl right.0.1, (right.1, name_lacks word_rule 32 f refl right.1, right.2)))),
     sym (need_same (Some i.port) i.triplet f c),
+    refl,
   ),
 )
 need_of (floor p a) c is right = absurd is
@@ -62,21 +64,22 @@ need_parts_are = record {
 
 -- ---- floors
 
-abbrev floor_text : FloorParts → List ℕ
+abbrev pub floor_text : FloorParts → List ℕ
 floor_text = pair_text 32 (λ u. codes "floor") (pair_text 32 token_of (pair_text 32 version_text cause_text))
 
-abbrev AreFloorParts : FloorParts → Type 0
+abbrev pub AreFloorParts : FloorParts → Type 0
 AreFloorParts = IsRightPair 32 (λ u. codes "floor") Any (IsRightPair 32 token_of (IsName port_rule) (IsRightPair 32 version_text IsRightAsk IsFloorCause))
 
 floor_same : (p : FloorParts) → floor_text p ≡ reason_text (floor_reason p)
 floor_same p = sym (ap (λ l. codes "floor " ++ l) (spaced3 (token_of p.1.0) (version_text p.1.1.0) (cause_text p.1.1.1)))
 
-floor_of : (x : Fact) (c : Cause ℕ) → IsFloor x → IsRightFact x c → (p : FloorParts) × (AreFloorParts p × (reason_text (record { fact = x; cause = c }) ≡ floor_text p))
+floor_of : (x : Fact) (c : Cause ℕ) → IsFloor x → IsRightFact x c → (p : FloorParts) × (AreFloorParts p × (reason_text (record { fact = x; cause = c }) ≡ floor_text p) × (record { fact = x; cause = c } ≡ floor_reason p))
 floor_of (floor p a) c is right = (
   (tt, (p, (a, c))),
   (
     (tt, lacks_byte 32 (codes "floor") refl, (right.0, name_lacks port_rule 32 p refl right.0, (right.1, version_blank a right.1, right.2))),
     sym (floor_same (tt, (p, (a, c)))),
+    refl,
   ),
 )
 floor_of (need who f) c is right = absurd is
@@ -90,21 +93,22 @@ floor_parts_are = record {
 
 -- ---- visits
 
-abbrev visit_text : VisitParts → List ℕ
+abbrev pub visit_text : VisitParts → List ℕ
 visit_text = pair_text 32 (λ u. codes "visit") (pair_text 32 token_of (pair_text 32 token_of (pair_text 32 token_of (pair_text 32 version_text cause_text))))
 
-abbrev AreVisitParts : VisitParts → Type 0
+abbrev pub AreVisitParts : VisitParts → Type 0
 AreVisitParts = IsRightPair 32 (λ u. codes "visit") Any (IsRightPair 32 token_of (IsName port_rule) (IsRightPair 32 token_of (IsName word_rule) (IsRightPair 32 token_of (IsName word_rule) (IsRightPair 32 version_text IsRightAsk IsVisitCause))))
 
 visit_same : (p : VisitParts) → visit_text p ≡ reason_text (visit_reason p)
 visit_same p = sym (ap (λ l. codes "visit " ++ l) (spaced5 (token_of p.1.0) (token_of p.1.1.0) (token_of p.1.1.1.0) (version_text p.1.1.1.1.0) (cause_text p.1.1.1.1.1)))
 
-visit_of : (x : Fact) (c : Cause ℕ) → IsVisit x → IsRightFact x c → (p : VisitParts) × (AreVisitParts p × (reason_text (record { fact = x; cause = c }) ≡ visit_text p))
+visit_of : (x : Fact) (c : Cause ℕ) → IsVisit x → IsRightFact x c → (p : VisitParts) × (AreVisitParts p × (reason_text (record { fact = x; cause = c }) ≡ visit_text p) × (record { fact = x; cause = c } ≡ visit_reason p))
 visit_of (visit i f a) c is right = (
   (tt, (i.port, (i.triplet, (f, (a, c))))),
   (
     (tt, lacks_byte 32 (codes "visit") refl, (right.0.0, name_lacks port_rule 32 i.port refl right.0.0, (right.0.1, name_lacks word_rule 32 i.triplet refl right.0.1, (right.1, name_lacks word_rule 32 f refl right.1, (right.2, version_blank a right.2, right.3))))),
     sym (visit_same (tt, (i.port, (i.triplet, (f, (a, c)))))),
+    refl,
   ),
 )
 visit_of (need who f) c is right = absurd is

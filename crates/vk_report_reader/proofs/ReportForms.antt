@@ -20,7 +20,7 @@ goes_on : (from place next : Place) (lines : List (List ℕ)) (line : List ℕ) 
 goes_on from place next [] line here wants = (next, (subst (λ p. Wants p line next) (sym here) wants, refl))
 goes_on from place next (l ∷ lines) line goes wants = (goes.0, (goes.1.0, goes_on goes.0 place next lines line goes.1.1 wants))
 
-ended_line : (line more : List ℕ) → (line ++ 10 ∷ []) ++ more ≡ line ++ 10 ∷ more
+pub ended_line : (line more : List ℕ) → (line ++ 10 ∷ []) ++ more ≡ line ++ 10 ∷ more
 ended_line line more = append_assoc line (10 ∷ []) more
 
 lines_more : (lines : List (List ℕ)) (line rest : List ℕ) → flat_map ended lines ++ (line ++ 10 ∷ rest) ≡ flat_map ended (lines ++ line ∷ []) ++ rest

@@ -26,8 +26,18 @@ pub record Led (bytes : List ℕ) (place : Place) (left : List ℕ) (next : ℕ)
 abbrev pub IsUnfinished : Place → Type 0
 IsUnfinished place = (outcome : Result plain.Outcome Early) → place ≡ finished outcome → ⊥
 
+-- what reading answers
+abbrev pub Reading : Type 0
+Reading = Result Outcome (Unread ReportFault)
+
 -- the outcome of which the bytes are the report, or the first line that isn't wanted
-abbrev pub Ends : List ℕ → Result Outcome (Unread ReportFault) → Type 0
+abbrev pub Ends : List ℕ → Reading → Type 0
 Ends bytes (Ok outcome) = IsRead bytes (outcome_view outcome)
 Ends bytes (Err (unread.Fault fault)) = IsRefusedAt bytes (line_in fault)
 Ends bytes (Err (unread.Memory memory)) = Unit {0}
+
+-- this outcome, unless memory ran out
+abbrev pub IsOutcome : Result plain.Outcome Early → Reading → Type 0
+IsOutcome outcome (Ok read) = outcome_view read ≡ outcome
+IsOutcome outcome (Err (unread.Fault fault)) = ⊥
+IsOutcome outcome (Err (unread.Memory memory)) = Unit {0}

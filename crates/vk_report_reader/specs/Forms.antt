@@ -9,6 +9,10 @@ abbrev pub ReadsAs : {X : Type 0} → (X → List ℕ) → (X → Type 0) → Li
 ReadsAs prints is_right text (Some x) = (text ≡ prints x) × is_right x
 ReadsAs {X = X} prints is_right text None = (x : X) → is_right x → text ≡ prints x → ⊥
 
+-- no two right values have one text
+abbrev pub TellsApart : {X : Type 0} → (X → List ℕ) → (X → Type 0) → Type 0
+TellsApart {X = X} prints is_right = (x y : X) → is_right x → is_right y → prints x ≡ prints y → x ≡ y
+
 -- the value that a reading has, or none where it has a fault
 abbrev pub FindsOrNot : {X F : Type 0} → Result X (Unread F) → Option X → Type 0
 FindsOrNot (Ok x) found = found ≡ Some x

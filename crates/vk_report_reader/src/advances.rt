@@ -160,17 +160,31 @@ fn at_fault_count(alloc: Global, line: &str) -> Result<Option<Place>, Memory>
     }
 }
 
+// So many reasons are to come, and none was read yet.
+fn reasons_from(alloc: Global, body: Body, wanted: u32) -> Place
+    ensures { place_view result ≡ plain.reasons (body_view body) wanted [] }
+{
+    Place::Reasons {
+        body,
+        wanted,
+        reasons: List::new(alloc),
+    }
+}
+
 fn at_reason_count(alloc: Global, body: Body, line: &str) -> Result<Option<Place>, Memory>
     ensures { IfOk result
         (λ next. CountsReasons (body_view body) line.now (option_map place_view next)) }
 {
-    match read_count(alloc, "reasons", line)? {
-        Some(wanted) => Ok(Some(Place::Reasons {
-            body,
-            wanted,
-            reasons: List::new(alloc),
-        })),
-        None => Ok(None),
+    match read_count(alloc, "reasons", line) {
+        Ok(Some(wanted)) => Ok(Some(reasons_from(alloc, body, wanted))),
+        Ok(None) => {
+            drop(body);
+            Ok(None)
+        }
+        Err(memory) => {
+            drop(body);
+            Err(memory)
+        }
     }
 }
 

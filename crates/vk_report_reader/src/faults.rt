@@ -11,7 +11,8 @@ ghost use Rattle.vk_report_reader.specs.Faults.{IsNoVersion, no_version_fault, n
 ghost use Rattle.vk_report_reader.specs.Faults.{IsDisagrees, disagrees_fault, disagrees_parts};
 ghost use Rattle.vk_report_reader.specs.Faults.{IsConflict, conflict_fault, conflict_parts};
 ghost use Rattle.vk_report_reader.specs.Faults.{IsNoFeature, no_feature_fault, no_feature_parts};
-ghost use Rattle.vk_report_reader.specs.Faults.{IsUnsupported, unsupported_fault, unsupported_parts};
+ghost use Rattle.vk_report_reader.specs.Faults.{IsUnsupported, unsupported_fault};
+ghost use Rattle.vk_report_reader.specs.Faults.{unsupported_parts};
 
 use crate::cycles::Cycle;
 use crate::forms::Form;

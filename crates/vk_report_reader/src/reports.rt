@@ -70,6 +70,7 @@ fn finish(place: Place, left: &[u8], number: u32) -> Result<Outcome, Unread<Repo
         → Ends bytes result }
 {
     if !left.is_empty() {
+        drop(place);
         return Err(refused(number));
     }
     match outcome_at(place) {

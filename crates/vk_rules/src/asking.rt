@@ -98,8 +98,8 @@ fn push_own_floor(
     minimum: &Option<Ask>,
     facts: &mut List<Fact>,
 ) -> Result<(), Memory>
-    ensures { OnOk result (facts_view facts.new
-        ≡ facts_view facts.old ++ own_floor (requirer_view who.entry) (option_map ask_view minimum.now)) }
+    ensures { OnOk result (facts_view facts.new ≡ facts_view facts.old
+        ++ own_floor (requirer_view who.entry) (option_map ask_view minimum.now)) }
 {
     match who {
         Requirer::Root(_) => Ok(()),
@@ -115,7 +115,8 @@ pub(crate) fn push_own(
     facts: &mut List<Fact>,
 ) -> Result<(), Memory>
     ensures { OnOk result (facts_view facts.new ≡ facts_view facts.old
-        ++ asked_of_own (requirer_view who.entry) marks.now.names (dependency_view dependency.now)) }
+        ++ asked_of_own (requirer_view who.entry) marks.now.names
+        (dependency_view dependency.now)) }
 {
     push_uses(who, dependency.features.as_slice(), marks, facts)?;
     push_own_floor(who, &dependency.minimum, facts)
@@ -149,7 +150,8 @@ pub(crate) fn push_other(
     facts: &mut List<Fact>,
 ) -> Result<(), Memory>
     ensures { OnOk result (facts_view facts.new ≡ facts_view facts.old
-        ++ other_asked (requirer_view other.entry) off marks.now.names (dependency_view dependency.now)) }
+        ++ other_asked (requirer_view other.entry) off marks.now.names
+        (dependency_view dependency.now)) }
 {
     push_first(other, off, facts)?;
     push_uses(other, dependency.features.as_slice(), marks, facts)?;

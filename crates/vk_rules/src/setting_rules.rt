@@ -142,9 +142,11 @@ fn push_asked(
     dependency: &Dependency,
     facts: &mut List<Fact>,
 ) -> Result<(), Memory>
-    requires { marks.now.names ≡ marks_of (setting_view rules.now) (triplet_of (requirer_view who)) }
+    requires { marks.now.names ≡ marks_of (setting_view rules.now)
+        (triplet_of (requirer_view who)) }
     ensures { OnOk result (facts_view facts.new ≡ facts_view facts.old
-        ++ asked_by (setting_view rules.now) (requirer_view who.entry) (dependency_view dependency.now)) }
+        ++ asked_by (setting_view rules.now) (requirer_view who.entry)
+        (dependency_view dependency.now)) }
 {
     let triplet = rules.triplet_for(who, dependency.host);
     if rules.is_own(who, &dependency.name, triplet) {
@@ -160,7 +162,8 @@ fn push_applicable(
     dependency: &Dependency,
     facts: &mut List<Fact>,
 ) -> Result<(), Memory>
-    requires { marks.now.names ≡ marks_of (setting_view rules.now) (triplet_of (requirer_view who)) }
+    requires { marks.now.names ≡ marks_of (setting_view rules.now)
+        (triplet_of (requirer_view who)) }
     ensures { OnOk result (facts_view facts.new ≡ facts_view facts.old
         ++ asked_where (setting_view rules.now) (requirer_view who.entry) dependency.now) }
 {
@@ -178,7 +181,8 @@ fn push_all(
     dependencies: &[Dependency],
     facts: &mut List<Fact>,
 ) -> Result<(), Memory>
-    requires { marks.now.names ≡ marks_of (setting_view rules.now) (triplet_of (requirer_view who)) }
+    requires { marks.now.names ≡ marks_of (setting_view rules.now)
+        (triplet_of (requirer_view who)) }
     ensures { OnOk result (facts_view facts.new ≡ facts_view facts.old
         ++ asked_each (setting_view rules.now) (requirer_view who.entry)
         (map dependency_view dependencies.now)) }

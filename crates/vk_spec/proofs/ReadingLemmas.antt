@@ -9,6 +9,11 @@ use Rattle.vk_spec.specs.Reading.{◌>>=◌, read_each, read_after, Gives, Fails
 abbrev pub with_front : {A F : Type 0} → List A → Result (List A) F → Result (List A) F
 with_front front read = read >>= λ xs. Ok (front ++ xs)
 
+-- what was read before the answer
+pub bind_ok : {A B F : Type 0} (read : Result A F) (next : A → Result B F) (y : B) → (read >>= next) ≡ Ok y → (x : A) × (read ≡ Ok x) × (next x ≡ Ok y)
+bind_ok (Ok x) next y e = (x, refl, e)
+bind_ok (Err fault) next y e = (cc)
+
 -- with nothing in front
 pub nothing_yet : {A F : Type 0} (read : Result (List A) F) → with_front [] read ≡ read
 nothing_yet (Ok xs) = refl

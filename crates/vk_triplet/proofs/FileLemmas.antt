@@ -18,10 +18,7 @@ use Rattle.vk_triplet.specs.FileLaws.{EachSays, HasVariables, HasReading, IsFirs
 use Rattle.vk_triplet.proofs.SayLemmas.{says_found}
 use Rattle.vk_triplet.proofs.FindLemmas.{found_says}
 use Rattle.vk_triplet.proofs.MarkLemmas.{last_push}
-
-bind_ok : {A B F : Type 0} (m : Result A F) (f : A → Result B F) (y : B) → (m >>= f) ≡ Ok y → (x : A) × (m ≡ Ok x) × (f x ≡ Ok y)
-bind_ok (Ok x) f y e = (x, refl, e)
-bind_ok (Err fault) f y e = (cc)
+use Rattle.vk_spec.proofs.ReadingLemmas.{bind_ok}
 
 found_some : {F : Type 0} (fault : F) (o : Option (Option Variable)) (said : Option Variable) → or_fault fault o ≡ Ok said → o ≡ Some said
 found_some fault None said e = (cc)

@@ -17,12 +17,7 @@ use Rattle.vk_words.specs.declared.options.Takes.TheVariants as takes
 use Rattle.vk_words.specs.declared.arguments.Argument.{Argument}
 use Rattle.vk_words.specs.declared.faults.WordFault.{WordFault}
 use Rattle.vk_words.specs.declared.faults.WordFault.TheVariants as fault
-
--- what went through has a first value
-pub bind_ok : {A B F : Type 0} (r : Result A F) (next : A → Result B F) (y : B) → (r >>= next) ≡ Ok y
-    → (x : A) × (r ≡ Ok x) × (next x ≡ Ok y)
-bind_ok (Ok x) next y is = (x, refl, is)
-bind_ok (Err e) next y is = let no : Err e ≡ Ok y = is in (cc)
+use Rattle.vk_spec.proofs.ReadingLemmas.{bind_ok}
 
 ok_is : {A F : Type 0} (r : Result A F) (x y : A) → r ≡ Ok x → r ≡ Ok y → x ≡ y
 ok_is r x y one other = (cc)
