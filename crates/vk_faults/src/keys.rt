@@ -48,15 +48,15 @@ pub(crate) fn push_path(alloc: Global, key: &mut Key, path: &TreePath) -> Result
 {
     let anchor = path.prefix(alloc, 0)?.text(alloc)?;
     push_text(alloc, key, anchor.as_bytes())?;
-    push_parts(alloc, key, path.parts())
+    let mut parts = path.parts();
+    push_parts(alloc, key, &mut parts)
 }
 
 // Puts the parts that are left at the end.
-fn push_parts(alloc: Global, key: &mut Key, parts: PathParts<'_>) -> Result<(), Memory>
-    ensures { OnOk result (key.new ≡ key.old ++ parts) }
+fn push_parts(alloc: Global, key: &mut Key, parts: &mut PathParts<'_>) -> Result<(), Memory>
+    ensures { OnOk result (key.new ≡ key.old ++ parts.old) }
 {
-    let mut left = parts;
-    while let Some(part) = left.next() {
+    while let Some(part) = parts.next() {
         push_text(alloc, key, part.as_bytes())?;
     }
     Ok(())
