@@ -16,7 +16,8 @@ use Rattle.vk_files.specs.Readings.{Standing, missing, too_long, readable, stand
 use Rattle.vk_model.specs.declared.projects.Project.{Project}
 use Rattle.vk_spec.specs.Earlies.{Early, bad_file, two_configurations, no_triplet}
 use Rattle.vk_opening.specs.Starts.{Overlay}
-use Rattle.vk_opening.specs.Laws.{AgreeAt, LacksTriplet, NoneHas, triplet_paths, early_paths}
+use Rattle.vk_opening.specs.Asked.{triplet_paths, overlay_paths}
+use Rattle.vk_opening.specs.Laws.{AgreeAt, LacksTriplet, NoneHas, early_paths}
 use Rattle.vk_opening.specs.Projects.{manifest_path, config_path, triplet_path, folders_of}
 use Rattle.vk_opening.specs.Roots.{Root, root_in, or_early, early_at, port_in}
 use Rattle.vk_opening.specs.Configurations.{has_configuration, config_by, config_in}
@@ -165,7 +166,7 @@ decided project opening one other agree is =
     with_config root config triplets overlays root_is config_is triplets_are overlays_are is_opening =
         let config_same_as : opening.start.config ≡ config = ap (λ r. config_or opening.start.config r) (sym is_opening) in
         let agreed : AgreeAt (early_paths project config) one other = rw config_same_as at agree in
-        let ports = map manifest_path (folders_of project.folder project.overlay_ports config.overlay_ports) in
+        let ports = overlay_paths project config in
         rw (
           early_same one other root_in (manifest_path project.folder) agreed.0,
           root_is,

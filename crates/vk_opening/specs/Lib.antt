@@ -6,6 +6,7 @@ pub mod Configurations
 pub mod TripletFiles
 pub mod Overlays
 pub mod Openings
+pub mod Asked
 -- what functions, laws and examples say besides
 pub mod Views
 pub mod Opened
