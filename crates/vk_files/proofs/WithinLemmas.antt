@@ -1,5 +1,5 @@
 -- Which paths were looked at: none, one, and one after the other.
-use Rattle.std.proofs.Common.{◌≡◌, ◌⊎◌, inl, inr, List, [], ◌∷◌, ◌++◌, refl, ap, sym, subst, ◌∙◌, arith}
+use Rattle.std.proofs.Common.{◌≡◌, ◌⊎◌, false, inl, inr, List, [], ◌∷◌, ◌++◌, refl, ap, sym, subst, ◌∙◌, arith}
 use Rattle.std.specs.Prelude.{Result, Ok}
 use Rattle.std.specs.List.{Contains}
 use Rattle.std.proofs.lemmas.List.{append-nil, append_assoc, map-append}
@@ -8,7 +8,7 @@ use Rattle.vk_spec.specs.Lists.{IsWithin}
 use Rattle.vk_spec.specs.Paths.{Path}
 use Rattle.vk_spec.specs.Files.{Files}
 use Rattle.vk_spec.proofs.OptionLemmas.{of_each, of_both}
-use Rattle.vk_files.specs.Kept.{Seen, Kept, paths_of, Held}
+use Rattle.vk_files.specs.Kept.{Seen, Kept, paths_of, IsOf, Held, ReadOnce}
 use Rattle.vk_files.specs.Readings.{ReadsAs}
 use Rattle.vk_files.specs.Within.{LooksWithin, LooksWhere, paths_after}
 use Rattle.vk_files.proofs.ReadMore.{known_before}
@@ -23,7 +23,7 @@ is_that x y has = All-contains (λ z. x ≡ z) (x ∷ []) y (All-from_recursion 
 pub one_in : {X : Type 0} (x : X) (ys : List X) → Contains ys x → IsWithin (x ∷ []) ys
 one_in x ys there y has = subst (Contains ys) (is_that x y has) there
 
-both_in : {X : Type 0} (xs ys zs : List X) → IsWithin xs zs → IsWithin ys zs → IsWithin (xs ++ ys) zs
+pub both_in : {X : Type 0} (xs ys zs : List X) → IsWithin xs zs → IsWithin ys zs → IsWithin (xs ++ ys) zs
 both_in xs ys zs one two x has = by (Contains-append_cases xs ys x has)
   where
     by : Contains xs x ⊎ Contains ys x → Contains zs x
@@ -71,16 +71,25 @@ where_nothing paths h = record { within = of_each h.tree.told (λ t old. nothing
 pub where_each : {paths : List Path} {a b : Held} → LooksWithin paths a.kept b.kept → LooksWhere (λ f. paths) a b
 where_each {a = a} one = record { within = of_each a.tree.told (λ t old. one) }
 
+-- one after the other
+pub where_both : {paths : Files → List Path} {a b c : Held} → ReadOnce false a b → LooksWhere paths a b → LooksWhere paths b c → LooksWhere paths a c
+where_both {paths = paths} {a = a} {b = b} {c = c} once one two = record {
+  within = of_both a.tree.told one.within (known_before (λ f. LooksWithin (paths f) b.kept c.kept) once two.within) (λ t one two old. within_then (one old) (two old));
+}
+
 -- nothing more was read after the first list
-pub where_first : {first : List Path} {a b : Held} (next : Files → List Path) → LooksWithin first a.kept b.kept → LooksWhere (λ f. first ++ next f) a b
-where_first {a = a} next one = record { within = of_each a.tree.told (λ t old. within_left (next t.files) one) }
+pub where_first : {first : Files → List Path} {a b : Held} (next : Files → List Path) → LooksWhere first a b → LooksWhere (λ f. first f ++ next f) a b
+where_first {a = a} next one = record { within = of_both a.tree.told one.within one.within (λ t one _ old. within_left (next t.files) (one old)) }
 
 -- a file was read, and then more
-pub where_then : {X Y F P : Type 0} {refusal : F → P} {view : X → Y} {x : X} {meaning : Files → Result Y P} {first : List Path} {a b c : Held} (next : Y → Files → List Path)
-    → ReadsAs refusal view (Ok x) meaning a b → LooksWithin first a.kept b.kept → LooksWhere (next (view x)) b c → LooksWhere (λ f. first ++ paths_after (meaning f) (λ y. next y f)) a c
+pub where_then : {X Y F P : Type 0} {refusal : F → P} {view : X → Y} {x : X} {meaning : Files → Result Y P} {first : Files → List Path} {a b c : Held} (next : Y → Files → List Path)
+    → ReadsAs refusal view (Ok x) meaning a b → LooksWhere first a b → LooksWhere (next (view x)) b c → LooksWhere (λ f. first f ++ paths_after (meaning f) (λ y. next y f)) a c
 where_then {view = view} {x = x} {meaning = meaning} {first = first} {a = a} {b = b} {c = c} next read one then = record {
-  within = of_both a.tree.told read.content (known_before (λ f. LooksWithin (next (view x) f) b.kept c.kept) read.once then.within) (λ t is then old. by t.files (is old) (then old));
+  within = of_both {P = λ t. IsOf t.files a.kept → LooksWithin (next (view x) t.files) b.kept c.kept → LooksWithin (first t.files ++ paths_after (meaning t.files) (λ y. next y t.files)) a.kept c.kept} a.tree.told
+      (of_both a.tree.told read.content one.within (λ t is looks old then. by t.files (is old) (looks old) then))
+      (known_before (λ f. LooksWithin (next (view x) f) b.kept c.kept) read.once then.within)
+      (λ t goes then old. goes old (then old));
 }
   where
-    by : (f : Files) → meaning f ≡ Ok (view x) → LooksWithin (next (view x) f) b.kept c.kept → LooksWithin (first ++ paths_after (meaning f) (λ y. next y f)) a.kept c.kept
-    by f is then = rw is (within_both one then)
+    by : (f : Files) → meaning f ≡ Ok (view x) → LooksWithin (first f) a.kept b.kept → LooksWithin (next (view x) f) b.kept c.kept → LooksWithin (first f ++ paths_after (meaning f) (λ y. next y f)) a.kept c.kept
+    by f is one then = rw is (within_both one then)

@@ -1,5 +1,5 @@
 -- Which paths were looked at: they are among those of a list.
-use Rattle.std.specs.Prelude.{◌≡◌, ◌++◌, List, [], IfSome, Result, Ok, Err}
+use Rattle.std.specs.Prelude.{◌≡◌, ◌++◌, Bool, List, [], ◌∷◌, IfSome, Result, Ok, Err, if◌then◌else◌}
 use Rattle.vk_spec.specs.Lists.{IsWithin}
 use Rattle.vk_spec.specs.Paths.{Path}
 use Rattle.vk_spec.specs.Files.{Files}
@@ -19,3 +19,8 @@ pub record LooksWhere (paths : Files → List Path) (before after : Held) : Type
 abbrev pub paths_after : {A P : Type 0} → Result A P → (A → List Path) → List Path
 paths_after (Ok x) next = next x
 paths_after (Err fault) next = []
+
+-- the elements of a list up to the first that passes a test, and with it
+abbrev pub up_to_first : {A : Type 0} → (A → Bool) → List A → List A
+up_to_first test [] = []
+up_to_first test (x ∷ xs) = x ∷ (if test x then [] else up_to_first test xs)

@@ -1,13 +1,12 @@
 -- What the laws of opening a project speak of.
-use Rattle.std.specs.Prelude.{◌≡◌, ◌++◌, ℕ, false, List, [], ◌∷◌}
+use Rattle.std.specs.Prelude.{◌≡◌, ◌++◌, ℕ, false, List, [], ◌∷◌, map}
 use Rattle.std.specs.List.{All}
 use Rattle.std.specs.FinMap as files_map
 use Rattle.vk_spec.specs.Paths.{Path}
 use Rattle.vk_spec.specs.Files.{Files}
 use Rattle.vk_config.specs.Configs.{Config}
 use Rattle.vk_model.specs.declared.projects.Project.{Project}
-use Rattle.vk_opening.specs.Asked.{triplet_paths, overlay_paths}
-use Rattle.vk_opening.specs.Projects.{manifest_path, config_path, triplet_path}
+use Rattle.vk_opening.specs.Projects.{manifest_path, config_path, triplet_path, folders_of}
 use Rattle.vk_files.specs.Readings.{is_at}
 
 -- a folder hasn't the triplet; none of these has it
@@ -18,9 +17,15 @@ abbrev pub NoneHas : List ℕ → List Path → Files → Type 0
 NoneHas name folders files = All (LacksTriplet name files) folders
 
 -- the paths at which the early files of a project with this configuration may stand
+abbrev pub triplet_paths : Project → Config → List Path
+triplet_paths project config =
+    map (triplet_path project.target) (folders_of project.folder project.overlay_triplets config.overlay_triplets)
+    ++ map (triplet_path project.host) (folders_of project.folder project.overlay_triplets config.overlay_triplets)
+
 abbrev pub early_paths : Project → Config → List Path
 early_paths project config =
-    manifest_path project.folder ∷ config_path project.folder ∷ (triplet_paths project config ++ overlay_paths project config)
+    manifest_path project.folder ∷ config_path project.folder ∷ (triplet_paths project config
+    ++ map manifest_path (folders_of project.folder project.overlay_ports config.overlay_ports))
 
 -- the same stands at each of these paths
 abbrev pub AgreeAt : List Path → Files → Files → Type 0

@@ -6,9 +6,9 @@ pub mod Configurations
 pub mod TripletFiles
 pub mod Overlays
 pub mod Openings
-pub mod Asked
 -- what functions, laws and examples say besides
 pub mod Views
+pub mod Asked
 pub mod Opened
 pub mod OpeningViews
 pub mod Laws

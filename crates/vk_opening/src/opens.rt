@@ -9,7 +9,7 @@ ghost use Rattle.vk_opening.specs.Projects.{manifest_path};
 ghost use Rattle.vk_opening.specs.Roots.{root_in, early_at};
 ghost use Rattle.vk_opening.specs.Openings.{opened_of, triplets_of, overlays_of};
 ghost use Rattle.vk_opening.specs.Openings.{after_root, after_config};
-ghost use Rattle.vk_opening.specs.Asked.{triplet_paths, overlay_paths};
+ghost use Rattle.vk_opening.specs.Asked.{triplets_asked, overlays_asked};
 ghost use Rattle.vk_opening.specs.Asked.{found_paths, rest_paths, opening_paths};
 ghost use Rattle.vk_opening.specs.Opened.{Opens};
 ghost use Rattle.vk_opening.specs.Views.{root_view, triplets_view, overlay_view};
@@ -102,7 +102,8 @@ fn triplets_of<T: Tree>(
     ensures reads { ReadsAs early_view triplets_view result
         (triplets_of project.now (config_view config.now))
         (held files.old (T.state tree.old)) (held files.new (T.state tree.new)) }
-    ensures within { LooksWithin (triplet_paths project.now (config_view config.now)) (kept_of files.old) (kept_of files.new) }
+    ensures within { LooksWhere (triplets_asked project.now (config_view config.now))
+        (held files.old (T.state tree.old)) (held files.new (T.state tree.new)) }
 {
     let configured = config.overlay_triplets.as_slice();
     let folders = folders(
@@ -132,7 +133,8 @@ fn overlays_of<T: Tree>(
     ensures reads { ReadsAs early_view (λ l. map overlay_view l) result
         (overlays_of project.now (config_view config.now))
         (held files.old (T.state tree.old)) (held files.new (T.state tree.new)) }
-    ensures within { LooksWithin (overlay_paths project.now (config_view config.now)) (kept_of files.old) (kept_of files.new) }
+    ensures within { LooksWhere (overlays_asked project.now (config_view config.now))
+        (held files.old (T.state tree.old)) (held files.new (T.state tree.new)) }
 {
     let configured = config.overlay_ports.as_slice();
     let folders = folders(alloc, &project.folder, &project.overlay_ports, configured)?;
@@ -165,7 +167,8 @@ fn read_found<T: Tree>(
         (opening_found project.now (root_view root.now) (config_view config.now)) result
         (after_config project.now (root_view root.now) (config_view config.now))
         (held files.old (T.state tree.old)) (held files.new (T.state tree.new)) }
-    ensures within { LooksWhere (found_paths project.now (config_view config.now)) (held files.old (T.state tree.old)) (held files.new (T.state tree.new)) }
+    ensures within { LooksWhere (found_paths project.now (config_view config.now))
+        (held files.old (T.state tree.old)) (held files.new (T.state tree.new)) }
 {
     let own = own_of(project, root)?;
     let triplets = triplets_of(alloc, files, tree, project, config)?;
@@ -188,7 +191,8 @@ fn read_rest<T: Tree>(
     ensures reads { ReadsAs early_view (opening_rest project.now (root_view root.now)) result
         (after_root project.now (root_view root.now))
         (held files.old (T.state tree.old)) (held files.new (T.state tree.new)) }
-    ensures within { LooksWhere (rest_paths project.now (root_view root.now)) (held files.old (T.state tree.old)) (held files.new (T.state tree.new)) }
+    ensures within { LooksWhere (rest_paths project.now (root_view root.now))
+        (held files.old (T.state tree.old)) (held files.new (T.state tree.new)) }
 {
     let document = root.document.value();
     let config = read_configuration(alloc, files, tree, &project.folder, document)?;
@@ -230,7 +234,8 @@ fn read_opening<T: Tree>(
 ) -> Result<Opening, Stop<Early>>
     ensures reads { ReadsAs early_view opening_view result (opened_of project.now)
         (held files.old (T.state tree.old)) (held files.new (T.state tree.new)) }
-    ensures within { LooksWhere (opening_paths project.now) (held files.old (T.state tree.old)) (held files.new (T.state tree.new)) }
+    ensures within { LooksWhere (opening_paths project.now)
+        (held files.old (T.state tree.old)) (held files.new (T.state tree.new)) }
 {
     let root = read_root(alloc, files, tree, &project.folder)?;
     let rest = read_rest(alloc, files, tree, project, &root)?;

@@ -1,12 +1,13 @@
 //! The folders that stand before every registry.
 ghost use Rattle.std.specs.Prelude.{◌∷◌, [], map};
 ghost use Rattle.vk_files.specs.Views.{held, kept_of};
-ghost use Rattle.vk_files.specs.Within.{LooksWithin};
+ghost use Rattle.vk_files.specs.Within.{LooksWithin, LooksWhere};
 ghost use Rattle.vk_files.specs.StandingViews.{standing_view};
 ghost use Rattle.vk_files.specs.Readings.{ReadsAs};
 ghost use Rattle.vk_model.specs.EarlyViews.{early_view};
 ghost use Rattle.vk_model.specs.Views.{manifest_view};
 ghost use Rattle.vk_opening.specs.Overlays.{port_at, overlay_by, overlay_at, overlays_at};
+ghost use Rattle.vk_opening.specs.Asked.{overlay_paths};
 ghost use Rattle.vk_opening.specs.Projects.{manifest_path};
 ghost use Rattle.vk_opening.specs.Starts.{is_port};
 ghost use Rattle.vk_opening.specs.Views.{overlay_view};
@@ -96,7 +97,8 @@ pub fn read_overlays<T: Tree>(
 ) -> Result<List<Overlay>, Stop<Early>>
     ensures reads { ReadsAs early_view (λ l. map overlay_view l) result (overlays_at folders)
         (held files.old (T.state tree.old)) (held files.new (T.state tree.new)) }
-    ensures within { LooksWithin (map manifest_path folders) (kept_of files.old) (kept_of files.new) }
+    ensures within { LooksWhere (overlay_paths folders)
+        (held files.old (T.state tree.old)) (held files.new (T.state tree.new)) }
 {
     let mut overlays = List::new(alloc);
     for folder in folders.into_vec() {

@@ -1,19 +1,19 @@
 //! The triplets of a project, each the first file of its name in folders of triplets.
-ghost use Rattle.std.specs.Prelude.{◌≡◌, ◌↔◌, ◌∷◌, ◌++◌, [], List, false, Ok, Err, IfOk};
-ghost use Rattle.std.specs.Prelude.{IfSome, IsTrue, map, option_map};
+ghost use Rattle.std.specs.Prelude.{◌≡◌, ◌↔◌, ◌∷◌, [], List, false, Ok, Err, IfSome};
+ghost use Rattle.std.specs.Prelude.{IsTrue, option_map};
 ghost use Rattle.std.specs.List.{Contains};
 ghost use Rattle.vk_spec.specs.Paths.{Path};
 ghost use Rattle.vk_spec.specs.Reading.{Fails};
 ghost use Rattle.vk_json.specs.Places.{here};
 ghost use Rattle.vk_triplet.specs.TripletReadings as plain;
 ghost use Rattle.vk_files.specs.Views.{held, kept_of};
-ghost use Rattle.vk_files.specs.Within.{LooksWithin};
+ghost use Rattle.vk_files.specs.Within.{LooksWithin, LooksWhere};
 ghost use Rattle.vk_base.specs.Stops.{fault_in, is_failure};
 ghost use Rattle.vk_files.specs.StopViews.{fault_seen};
 ghost use Rattle.vk_files.specs.Readings.{ReadsAs, is_at};
 ghost use Rattle.vk_spec.specs.Earlies as early;
 ghost use Rattle.vk_model.specs.EarlyViews.{early_view};
-ghost use Rattle.vk_opening.specs.Projects.{triplet_path};
+ghost use Rattle.vk_opening.specs.Asked.{tried_paths, both_paths};
 ghost use Rattle.vk_opening.specs.TripletFiles.{triplet_word, triplet_in, triplet_file};
 ghost use Rattle.vk_opening.specs.TripletFiles.{triplet_from, triplet_at, triplets_at};
 ghost use Rattle.vk_opening.specs.Views.{triplets_view};
@@ -82,8 +82,8 @@ fn triplet_file<T: Tree>(
     ensures reads { ReadsAs early_view (λ path. path) result
         (λ files. Ok (triplet_file name.now folders.now files))
         (held files.old (T.state tree.old)) (held files.new (T.state tree.new)) }
-    ensures within { LooksWithin (map (triplet_path name.now) folders.now) (kept_of files.old) (kept_of files.new) }
-    ensures one { IfOk result (λ found. IfSome found (Contains (map (triplet_path name.now) folders.now))) }
+    ensures within { LooksWhere (tried_paths name.now folders.now)
+        (held files.old (T.state tree.old)) (held files.new (T.state tree.new)) }
 {
     for folder in folders {
         let path = triplet_path(alloc, name, folder)?;
@@ -114,7 +114,8 @@ fn triplet_from<T: Tree>(
 ) -> Result<Triplet, Stop<Early>>
     ensures reads { ReadsAs early_view (λ t. t) result (triplet_from name.now path)
         (held files.old (T.state tree.old)) (held files.new (T.state tree.new)) }
-    ensures within { (paths : List Path) → IfSome path (Contains paths) → LooksWithin paths (kept_of files.old) (kept_of files.new) }
+    ensures within { (paths : List Path) → IfSome path (Contains paths) →
+        LooksWithin paths (kept_of files.old) (kept_of files.new) }
 {
     match path {
         Some(path) => read_early(alloc, files, tree, &path, &TripletFile(name)),
@@ -132,7 +133,8 @@ fn read_triplet<T: Tree>(
 ) -> Result<Triplet, Stop<Early>>
     ensures reads { ReadsAs early_view (λ t. t) result (triplet_at name.now folders.now)
         (held files.old (T.state tree.old)) (held files.new (T.state tree.new)) }
-    ensures within { LooksWithin (map (triplet_path name.now) folders.now) (kept_of files.old) (kept_of files.new) }
+    ensures within { LooksWhere (tried_paths name.now folders.now)
+        (held files.old (T.state tree.old)) (held files.new (T.state tree.new)) }
 {
     let path = triplet_file(alloc, files, tree, name, folders)?;
     triplet_from(alloc, files, tree, name, path)
@@ -161,7 +163,8 @@ fn read_for_both<T: Tree>(
 ) -> Result<Triplets, Stop<Early>>
     ensures reads { ReadsAs early_view triplets_view result (triplets_at name.now name.now folders.now)
         (held files.old (T.state tree.old)) (held files.new (T.state tree.new)) }
-    ensures within { LooksWithin (map (triplet_path name.now) folders.now) (kept_of files.old) (kept_of files.new) }
+    ensures within { LooksWhere (tried_paths name.now folders.now)
+        (held files.old (T.state tree.old)) (held files.new (T.state tree.new)) }
 {
     let target = read_triplet(alloc, files, tree, name, folders)?;
     let host = target.clone()?;
@@ -179,7 +182,8 @@ fn read_one_by_one<T: Tree>(
 ) -> Result<Triplets, Stop<Early>>
     ensures reads { ReadsAs early_view triplets_view result (triplets_at target.now host.now folders.now)
         (held files.old (T.state tree.old)) (held files.new (T.state tree.new)) }
-    ensures within { LooksWithin (map (triplet_path target.now) folders.now ++ map (triplet_path host.now) folders.now) (kept_of files.old) (kept_of files.new) }
+    ensures within { LooksWhere (both_paths target.now host.now folders.now)
+        (held files.old (T.state tree.old)) (held files.new (T.state tree.new)) }
 {
     let target = read_triplet(alloc, files, tree, target, folders)?;
     let host = read_triplet(alloc, files, tree, host, folders)?;
@@ -197,7 +201,8 @@ pub fn read_triplets<T: Tree>(
 ) -> Result<Triplets, Stop<Early>>
     ensures reads { ReadsAs early_view triplets_view result (triplets_at target.now host.now folders.now)
         (held files.old (T.state tree.old)) (held files.new (T.state tree.new)) }
-    ensures within { LooksWithin (map (triplet_path target.now) folders.now ++ map (triplet_path host.now) folders.now) (kept_of files.old) (kept_of files.new) }
+    ensures within { LooksWhere (both_paths target.now host.now folders.now)
+        (held files.old (T.state tree.old)) (held files.new (T.state tree.new)) }
 {
     if is_same(target, host) {
         return read_for_both(alloc, files, tree, target, folders);

@@ -9,9 +9,9 @@ use Rattle.vk_opening.specs.OpeningViews.{opening_found}
 use Rattle.vk_opening.specs.Views.{root_view, triplets_view}
 use Rattle.vk_opening.specs.declared.opens.Found.{Found}
 use Rattle.vk_opening.proofs.OpenLemmas.{found_is}
-use Rattle.vk_files.proofs.WithinLemmas.{where_nothing, where_each, where_first, where_then}
+use Rattle.vk_files.proofs.WithinLemmas.{where_nothing, where_first, where_then}
 use Rattle.vk_files.specs.Within.{paths_after}
-use Rattle.vk_opening.specs.Asked.{overlay_paths}
+use Rattle.vk_opening.specs.Asked.{overlays_asked}
 use Rattle.vk_opening.proofs.opens.read_found.Goals as goal
 
 pub returns-in_err-own-clause-reads : goal.returns-in_err-own-clause-reads
@@ -56,16 +56,16 @@ pub returns-in_err-triplets-clause-within : goal.returns-in_err-triplets-clause-
 returns-in_err-triplets-clause-within g c =
     let project = c.args.project.now in
     let config = config_view c.args.config.now in
-    where_first (λ f. paths_after (triplets_of project config f) (λ triplets. overlay_paths project config)) c.in_err-triplets.ensures.within
+    where_first (λ f. paths_after (triplets_of project config f) (λ triplets. overlays_asked project config f)) c.in_err-triplets.ensures.within
 
 pub returns-in_err-overlays-clause-within : goal.returns-in_err-overlays-clause-within
 returns-in_err-overlays-clause-within g c =
     let project = c.args.project.now in
     let config = config_view c.args.config.now in
-    where_then (λ triplets f. overlay_paths project config) c.in_ok-triplets.ensures.reads c.in_ok-triplets.ensures.within (where_each c.in_err-overlays.ensures.within)
+    where_then (λ triplets f. overlays_asked project config f) c.in_ok-triplets.ensures.reads c.in_ok-triplets.ensures.within c.in_err-overlays.ensures.within
 
 pub returns-clause-within : goal.returns-clause-within
 returns-clause-within g c =
     let project = c.args.project.now in
     let config = config_view c.args.config.now in
-    where_then (λ triplets f. overlay_paths project config) c.in_ok-triplets.ensures.reads c.in_ok-triplets.ensures.within (where_each c.in_ok-overlays.ensures.within)
+    where_then (λ triplets f. overlays_asked project config f) c.in_ok-triplets.ensures.reads c.in_ok-triplets.ensures.within c.in_ok-overlays.ensures.within

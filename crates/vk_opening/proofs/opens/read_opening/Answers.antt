@@ -3,7 +3,7 @@ use Rattle.vk_files.proofs.ReadLemmas.{reads_then, reads_stopped}
 use Rattle.vk_opening.specs.Openings.{opened_of, after_root}
 use Rattle.vk_opening.specs.OpeningViews.{opening_view}
 use Rattle.vk_opening.proofs.OpenLemmas.{reads_err, reads_last}
-use Rattle.vk_files.proofs.WithinLemmas.{where_first, where_then}
+use Rattle.vk_files.proofs.WithinLemmas.{where_each, where_first, where_then}
 use Rattle.vk_files.specs.Within.{paths_after}
 use Rattle.vk_opening.specs.Asked.{rest_paths}
 use Rattle.vk_opening.specs.Projects.{manifest_path}
@@ -31,14 +31,14 @@ returns-clause-reads g c =
 pub returns-in_err-root-clause-within : goal.returns-in_err-root-clause-within
 returns-in_err-root-clause-within g c =
     let project = c.args.project.now in
-    where_first (λ f. paths_after (early_at root_in (manifest_path project.folder) f) (λ root. rest_paths project root f)) c.in_err-root.ensures.within
+    where_first (λ f. paths_after (early_at root_in (manifest_path project.folder) f) (λ root. rest_paths project root f)) (where_each c.in_err-root.ensures.within)
 
 pub returns-in_err-rest-clause-within : goal.returns-in_err-rest-clause-within
 returns-in_err-rest-clause-within g c =
     let project = c.args.project.now in
-    where_then (λ root f. rest_paths project root f) c.in_ok-root.ensures.reads c.in_ok-root.ensures.within c.in_err-rest.ensures.within
+    where_then (λ root f. rest_paths project root f) c.in_ok-root.ensures.reads (where_each c.in_ok-root.ensures.within) c.in_err-rest.ensures.within
 
 pub returns-clause-within : goal.returns-clause-within
 returns-clause-within g c =
     let project = c.args.project.now in
-    where_then (λ root f. rest_paths project root f) c.in_ok-root.ensures.reads c.in_ok-root.ensures.within c.in_ok-rest.ensures.within
+    where_then (λ root f. rest_paths project root f) c.in_ok-root.ensures.reads (where_each c.in_ok-root.ensures.within) c.in_ok-rest.ensures.within

@@ -5,7 +5,7 @@ use Rattle.vk_opening.specs.Openings.{after_config}
 use Rattle.vk_opening.specs.OpeningViews.{opening_rest}
 use Rattle.vk_opening.specs.Views.{root_view}
 use Rattle.vk_opening.proofs.OpenLemmas.{reads_err, reads_last}
-use Rattle.vk_files.proofs.WithinLemmas.{where_first, where_then}
+use Rattle.vk_files.proofs.WithinLemmas.{where_each, where_first, where_then}
 use Rattle.vk_files.specs.Within.{paths_after}
 use Rattle.vk_opening.specs.Asked.{found_paths}
 use Rattle.vk_opening.specs.Configurations.{config_in}
@@ -39,14 +39,14 @@ pub returns-in_err-config-clause-within : goal.returns-in_err-config-clause-with
 returns-in_err-config-clause-within g c =
     let project = c.args.project.now in
     let root = root_view c.args.root.now in
-    where_first (λ f. paths_after (config_in project.folder root.document f) (λ config. found_paths project config f)) c.in_err-config.ensures.within
+    where_first (λ f. paths_after (config_in project.folder root.document f) (λ config. found_paths project config f)) (where_each c.in_err-config.ensures.within)
 
 pub returns-in_err-found-clause-within : goal.returns-in_err-found-clause-within
 returns-in_err-found-clause-within g c =
     let project = c.args.project.now in
-    where_then (λ config f. found_paths project config f) (rw c.value-document.ensures at c.in_ok-config.ensures.reads) c.in_ok-config.ensures.within c.in_err-found.ensures.within
+    where_then (λ config f. found_paths project config f) (rw c.value-document.ensures at c.in_ok-config.ensures.reads) (where_each c.in_ok-config.ensures.within) c.in_err-found.ensures.within
 
 pub returns-clause-within : goal.returns-clause-within
 returns-clause-within g c =
     let project = c.args.project.now in
-    where_then (λ config f. found_paths project config f) (rw c.value-document.ensures at c.in_ok-config.ensures.reads) c.in_ok-config.ensures.within c.in_ok-found.ensures.within
+    where_then (λ config f. found_paths project config f) (rw c.value-document.ensures at c.in_ok-config.ensures.reads) (where_each c.in_ok-config.ensures.within) c.in_ok-found.ensures.within
