@@ -104,9 +104,11 @@ fn config_file<T: Tree>(
     tree: &mut T,
     folder: &TreePath,
 ) -> Result<Config, Stop<Early>>
-    ensures reads { ReadsAs early_view config_view result (early_at config_of (config_path folder.now))
-        (held files.old (T.state tree.old)) (held files.new (T.state tree.new)) }
-    ensures within { LooksWithin (config_path folder.now ∷ []) (kept_of files.old) (kept_of files.new) }
+    ensures reads { ReadsAs early_view config_view result
+        (early_at config_of (config_path folder.now)) (held files.old (T.state tree.old))
+        (held files.new (T.state tree.new)) }
+    ensures within { LooksWithin (config_path folder.now ∷ [])
+        (kept_of files.old) (kept_of files.new) }
 {
     let path = config_path(alloc, folder)?;
     read_early(alloc, files, tree, &path, &ConfigFile)
@@ -122,7 +124,8 @@ fn alone_in<T: Tree>(
 ) -> Result<Config, Stop<Early>>
     ensures reads { ReadsAs early_view config_view result (alone_in folder.now (view document.now))
         (held files.old (T.state tree.old)) (held files.new (T.state tree.new)) }
-    ensures within { LooksWithin (config_path folder.now ∷ []) (kept_of files.old) (kept_of files.new) }
+    ensures within { LooksWithin (config_path folder.now ∷ [])
+        (kept_of files.old) (kept_of files.new) }
 {
     if has_configuration(document) {
         return Err(Stop::Fault(Early::TwoConfigurations));
@@ -142,7 +145,8 @@ fn config_by<T: Tree>(
     ensures reads { ReadsAs early_view config_view result
         (config_by (standing_view standing) folder.now (view document.now))
         (held files.old (T.state tree.old)) (held files.new (T.state tree.new)) }
-    ensures within { LooksWithin (config_path folder.now ∷ []) (kept_of files.old) (kept_of files.new) }
+    ensures within { LooksWithin (config_path folder.now ∷ [])
+        (kept_of files.old) (kept_of files.new) }
 {
     match standing {
         Standing::Missing => embedded_in(alloc, folder, document),
@@ -161,7 +165,8 @@ pub fn read_configuration<T: Tree>(
 ) -> Result<Config, Stop<Early>>
     ensures reads { ReadsAs early_view config_view result (config_in folder.now (view document.now))
         (held files.old (T.state tree.old)) (held files.new (T.state tree.new)) }
-    ensures within { LooksWithin (config_path folder.now ∷ []) (kept_of files.old) (kept_of files.new) }
+    ensures within { LooksWithin (config_path folder.now ∷ [])
+        (kept_of files.old) (kept_of files.new) }
 {
     let path = config_path(alloc, folder)?;
     let standing = standing(files, tree, &path)?;

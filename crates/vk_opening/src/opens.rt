@@ -83,9 +83,11 @@ fn read_root<T: Tree>(
     tree: &mut T,
     folder: &TreePath,
 ) -> Result<Root, Stop<Early>>
-    ensures reads { ReadsAs early_view root_view result (early_at root_in (manifest_path folder.now))
-        (held files.old (T.state tree.old)) (held files.new (T.state tree.new)) }
-    ensures within { LooksWithin (manifest_path folder.now ∷ []) (kept_of files.old) (kept_of files.new) }
+    ensures reads { ReadsAs early_view root_view result
+        (early_at root_in (manifest_path folder.now)) (held files.old (T.state tree.old))
+        (held files.new (T.state tree.new)) }
+    ensures within { LooksWithin (manifest_path folder.now ∷ [])
+        (kept_of files.old) (kept_of files.new) }
 {
     let path = manifest_path(alloc, folder)?;
     read_early(alloc, files, tree, &path, &RootFile)

@@ -31,8 +31,10 @@ fn port_manifest<T: Tree>(
     folder: &TreePath,
 ) -> Result<Rc<Manifest>, Stop<Early>>
     ensures reads { ReadsAs early_view (λ m. is_port folder.now (manifest_view m.value)) result
-        (port_at folder.now) (held files.old (T.state tree.old)) (held files.new (T.state tree.new)) }
-    ensures within { LooksWithin (manifest_path folder.now ∷ []) (kept_of files.old) (kept_of files.new) }
+        (port_at folder.now) (held files.old (T.state tree.old))
+        (held files.new (T.state tree.new)) }
+    ensures within { LooksWithin (manifest_path folder.now ∷ [])
+        (kept_of files.old) (kept_of files.new) }
 {
     let path = manifest_path(alloc, folder)?;
     let manifest = read_early(alloc, files, tree, &path, &PortFile)?;
@@ -48,7 +50,8 @@ fn port_at<T: Tree>(
 ) -> Result<Overlay, Stop<Early>>
     ensures reads { ReadsAs early_view overlay_view result (port_at folder)
         (held files.old (T.state tree.old)) (held files.new (T.state tree.new)) }
-    ensures within { LooksWithin (manifest_path folder ∷ []) (kept_of files.old) (kept_of files.new) }
+    ensures within { LooksWithin (manifest_path folder ∷ [])
+        (kept_of files.old) (kept_of files.new) }
 {
     let manifest = port_manifest(alloc, files, tree, &folder)?;
     Ok(Overlay::Port(folder, manifest))
@@ -62,9 +65,11 @@ fn overlay_by<T: Tree>(
     standing: Standing,
     folder: TreePath,
 ) -> Result<Overlay, Stop<Early>>
-    ensures reads { ReadsAs early_view overlay_view result (overlay_by (standing_view standing) folder)
-        (held files.old (T.state tree.old)) (held files.new (T.state tree.new)) }
-    ensures within { LooksWithin (manifest_path folder ∷ []) (kept_of files.old) (kept_of files.new) }
+    ensures reads { ReadsAs early_view overlay_view result
+        (overlay_by (standing_view standing) folder) (held files.old (T.state tree.old))
+        (held files.new (T.state tree.new)) }
+    ensures within { LooksWithin (manifest_path folder ∷ [])
+        (kept_of files.old) (kept_of files.new) }
 {
     match standing {
         Standing::Missing => Ok(Overlay::Ports(folder)),
@@ -81,7 +86,8 @@ fn overlay_at<T: Tree>(
 ) -> Result<Overlay, Stop<Early>>
     ensures reads { ReadsAs early_view overlay_view result (overlay_at folder)
         (held files.old (T.state tree.old)) (held files.new (T.state tree.new)) }
-    ensures within { LooksWithin (manifest_path folder ∷ []) (kept_of files.old) (kept_of files.new) }
+    ensures within { LooksWithin (manifest_path folder ∷ [])
+        (kept_of files.old) (kept_of files.new) }
 {
     let path = manifest_path(alloc, &folder)?;
     let standing = standing(files, tree, &path)?;

@@ -66,8 +66,9 @@ pub fn standing<T: Tree>(
     tree: &mut T,
     path: &TreePath,
 ) -> Result<Standing, Stop<Early>>
-    ensures reads { ReadsAs early_view standing_view result (λ files. Ok (standing_at path.now files))
-        (held files.old (T.state tree.old)) (held files.new (T.state tree.new)) }
+    ensures reads { ReadsAs early_view standing_view result
+        (λ files. Ok (standing_at path.now files)) (held files.old (T.state tree.old))
+        (held files.new (T.state tree.new)) }
     ensures within { LooksWithin (path.now ∷ []) (kept_of files.old) (kept_of files.new) }
 {
     match files::file_standing(files, tree, path) {

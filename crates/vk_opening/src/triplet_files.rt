@@ -161,8 +161,9 @@ fn read_for_both<T: Tree>(
     name: &TripletName,
     folders: &[TreePath],
 ) -> Result<Triplets, Stop<Early>>
-    ensures reads { ReadsAs early_view triplets_view result (triplets_at name.now name.now folders.now)
-        (held files.old (T.state tree.old)) (held files.new (T.state tree.new)) }
+    ensures reads { ReadsAs early_view triplets_view result
+        (triplets_at name.now name.now folders.now) (held files.old (T.state tree.old))
+        (held files.new (T.state tree.new)) }
     ensures within { LooksWhere (tried_paths name.now folders.now)
         (held files.old (T.state tree.old)) (held files.new (T.state tree.new)) }
 {
@@ -180,8 +181,9 @@ fn read_one_by_one<T: Tree>(
     host: &TripletName,
     folders: &[TreePath],
 ) -> Result<Triplets, Stop<Early>>
-    ensures reads { ReadsAs early_view triplets_view result (triplets_at target.now host.now folders.now)
-        (held files.old (T.state tree.old)) (held files.new (T.state tree.new)) }
+    ensures reads { ReadsAs early_view triplets_view result
+        (triplets_at target.now host.now folders.now) (held files.old (T.state tree.old))
+        (held files.new (T.state tree.new)) }
     ensures within { LooksWhere (both_paths target.now host.now folders.now)
         (held files.old (T.state tree.old)) (held files.new (T.state tree.new)) }
 {
@@ -199,8 +201,9 @@ pub fn read_triplets<T: Tree>(
     host: &TripletName,
     folders: &[TreePath],
 ) -> Result<Triplets, Stop<Early>>
-    ensures reads { ReadsAs early_view triplets_view result (triplets_at target.now host.now folders.now)
-        (held files.old (T.state tree.old)) (held files.new (T.state tree.new)) }
+    ensures reads { ReadsAs early_view triplets_view result
+        (triplets_at target.now host.now folders.now) (held files.old (T.state tree.old))
+        (held files.new (T.state tree.new)) }
     ensures within { LooksWhere (both_paths target.now host.now folders.now)
         (held files.old (T.state tree.old)) (held files.new (T.state tree.new)) }
 {
