@@ -1,5 +1,5 @@
 -- Which paths were looked at: none, one, and one after the other.
-use Rattle.std.proofs.Common.{◌≡◌, ◌⊎◌, false, inl, inr, List, [], ◌∷◌, ◌++◌, refl, ap, sym, subst, ◌∙◌, arith}
+use Rattle.std.proofs.Common.{◌≡◌, ◌⊎◌, inl, inr, List, [], ◌∷◌, ◌++◌, refl, ap, sym, subst, ◌∙◌, arith}
 use Rattle.std.specs.Prelude.{Result, Ok}
 use Rattle.std.specs.List.{Contains}
 use Rattle.std.proofs.lemmas.List.{append-nil, append_assoc, map-append}
@@ -8,7 +8,7 @@ use Rattle.vk_spec.specs.Lists.{IsWithin}
 use Rattle.vk_spec.specs.Paths.{Path}
 use Rattle.vk_spec.specs.Files.{Files}
 use Rattle.vk_spec.proofs.OptionLemmas.{of_each, of_both}
-use Rattle.vk_files.specs.Kept.{Seen, Kept, paths_of, IsOf, Held, ReadOnce}
+use Rattle.vk_files.specs.Kept.{Seen, Kept, paths_of, IsOf, Held}
 use Rattle.vk_files.specs.Readings.{ReadsAs}
 use Rattle.vk_files.specs.Within.{LooksWithin, LooksWhere, paths_after}
 use Rattle.vk_files.proofs.ReadMore.{known_before}
@@ -70,12 +70,6 @@ where_nothing paths h = record { within = of_each h.tree.told (λ t old. nothing
 -- whatever the files give
 pub where_each : {paths : List Path} {a b : Held} → LooksWithin paths a.kept b.kept → LooksWhere (λ f. paths) a b
 where_each {a = a} one = record { within = of_each a.tree.told (λ t old. one) }
-
--- one after the other
-pub where_both : {paths : Files → List Path} {a b c : Held} → ReadOnce false a b → LooksWhere paths a b → LooksWhere paths b c → LooksWhere paths a c
-where_both {paths = paths} {a = a} {b = b} {c = c} once one two = record {
-  within = of_both a.tree.told one.within (known_before (λ f. LooksWithin (paths f) b.kept c.kept) once two.within) (λ t one two old. within_then (one old) (two old));
-}
 
 -- nothing more was read after the first list
 pub where_first : {first : Files → List Path} {a b : Held} (next : Files → List Path) → LooksWhere first a b → LooksWhere (λ f. first f ++ next f) a b
