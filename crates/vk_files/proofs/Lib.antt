@@ -5,4 +5,5 @@ pub mod CacheLemmas
 pub mod ReadLemmas
 pub mod NotingLemmas
 pub mod ReadMore
+pub mod WithinLemmas
 pub mod FirstLemmas

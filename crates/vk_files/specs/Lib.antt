@@ -1,6 +1,7 @@
 -- what is promised
 pub mod Kept
 pub mod Readings
+pub mod Within
 -- what functions, laws and examples say besides
 pub mod Notes
 pub mod ReadFaults

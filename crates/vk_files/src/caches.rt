@@ -10,6 +10,7 @@ ghost use Rattle.vk_spec.specs.Calls.{Says, NoLonger, read_of, noted};
 ghost use Rattle.vk_tree.specs.Answers.{read_answer, read_failed};
 ghost use Rattle.vk_files.specs.Kept.{ReadOnce, most_bytes, paths_of, seen_in};
 ghost use Rattle.vk_files.specs.Views.{held, kept_of, kept_at, seen_view};
+ghost use Rattle.vk_files.specs.Within.{LooksWithin};
 ghost use Rattle.vk_base.specs.Stops.{has_failed, stop_fault_in};
 ghost use Rattle.vk_files.specs.StopViews.{noted_by};
 ghost use Rattle.vk_files.specs.ReadFaults.{seen_by};
@@ -92,11 +93,12 @@ impl FileCache {
 
     // Asks the tree for a path that it wasn't asked for yet. The room for what stands there is
     // taken first, so that nothing that was read is forgotten.
-    #[tactic(auto, using(crate::proofs::OnceLemmas::still_read, crate::proofs::OnceLemmas::found_read, crate::proofs::OnceLemmas::nothing_found, crate::proofs::OnceLemmas::seen_told, crate::proofs::CacheLemmas::last_kept))]
+    #[tactic(auto, using(crate::proofs::OnceLemmas::still_read, crate::proofs::OnceLemmas::found_read, crate::proofs::OnceLemmas::nothing_found, crate::proofs::OnceLemmas::seen_told, crate::proofs::CacheLemmas::last_kept, crate::proofs::WithinLemmas::none_since, crate::proofs::WithinLemmas::one_since))]
     fn ask<T: Tree, F>(&mut self, tree: &mut T, path: &TreePath) -> Result<(), Stop<F>>
         requires { kept_at path.now (kept_of self.old) ≡ None }
         ensures once { ReadOnce (has_failed result) (held self.old (T.state tree.old))
             (held self.new (T.state tree.new)) }
+        ensures within { LooksWithin (path.now ∷ []) (kept_of self.old) (kept_of self.new) }
         ensures there { OnOk result (IsSome (kept_at path.now (kept_of self.new))) }
         ensures no_fault { IfErr result (λ e. stop_fault_in e ≡ None) }
     {
@@ -109,9 +111,11 @@ impl FileCache {
 
     /// Looks at a path, for which the tree is asked unless it was before. It finds no fault, of
     /// whatever type the caller's faults are.
+    #[tactic(auto, using(crate::proofs::WithinLemmas::nothing_since))]
     pub fn look<T: Tree, F>(&mut self, tree: &mut T, path: &TreePath) -> Result<(), Stop<F>>
         ensures once { ReadOnce (has_failed result) (held self.old (T.state tree.old))
             (held self.new (T.state tree.new)) }
+        ensures within { LooksWithin (path.now ∷ []) (kept_of self.old) (kept_of self.new) }
         ensures there { OnOk result (IsSome (kept_at path.now (kept_of self.new))) }
         ensures no_fault { IfErr result (λ e. stop_fault_in e ≡ None) }
     {

@@ -1,9 +1,11 @@
 //! Readers of files, and how a file stands.
-ghost use Rattle.std.specs.Prelude.{◌≡◌, ◌<◌, ◌^◌, List, ℕ, Ok, Result, IfSome, length, false};
+ghost use Rattle.std.specs.Prelude.{◌≡◌, ◌<◌, ◌^◌, ◌∷◌, [], List, ℕ, Ok, Result, IfSome};
+ghost use Rattle.std.specs.Prelude.{length, false};
 ghost use Rattle.vk_spec.specs.Reading.{Gives};
 ghost use Rattle.vk_base.specs.Stops.{fault_in, has_failed, is_failure};
 ghost use Rattle.vk_json.specs.declared.faults.FileFault as faults;
-ghost use Rattle.vk_files.specs.Views.{held, seen_view};
+ghost use Rattle.vk_files.specs.Views.{held, kept_of, seen_view};
+ghost use Rattle.vk_files.specs.Within.{LooksWithin};
 ghost use Rattle.vk_files.specs.StopViews.{fault_seen};
 ghost use Rattle.vk_files.specs.Readings.{ReadsAs, IsFaultOf, told_at, bad_view, file_at};
 ghost use Rattle.vk_files.specs.Readings.{seen_file, standing_at, standing_by, is_there};
@@ -112,8 +114,9 @@ pub fn read_file<T: Tree, R: FileReader>(
     path: &TreePath,
     reader: &R,
 ) -> Result<R::Out, Stop<BadFile>>
-    ensures { ReadsAs bad_view R.plain result (file_at (R.reads reader.now) path.now)
+    ensures reads { ReadsAs bad_view R.plain result (file_at (R.reads reader.now) path.now)
         (held files.old (T.state tree.old)) (held files.new (T.state tree.new)) }
+    ensures within { LooksWithin (path.now ∷ []) (kept_of files.old) (kept_of files.new) }
 {
     files.look::<T, BadFile>(tree, path)?;
     told::<R>(path, read_found(alloc, files.get(path).unwrap(), reader))
@@ -135,8 +138,9 @@ pub fn file_standing<T: Tree>(
     tree: &mut T,
     path: &TreePath,
 ) -> Result<Standing, Stop<BadFile>>
-    ensures { ReadsAs bad_view standing_view result (λ f. Ok (standing_at path.now f))
+    ensures reads { ReadsAs bad_view standing_view result (λ f. Ok (standing_at path.now f))
         (held files.old (T.state tree.old)) (held files.new (T.state tree.new)) }
+    ensures within { LooksWithin (path.now ∷ []) (kept_of files.old) (kept_of files.new) }
 {
     files.look::<T, BadFile>(tree, path)?;
     Ok(standing_of(files.get(path).unwrap()))

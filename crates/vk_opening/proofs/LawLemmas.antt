@@ -1,12 +1,16 @@
 -- What early files decide.
-use Rattle.std.proofs.Common.{◌≡◌, ◌+◌, ℕ, Bool, true, false, List, [], ◌∷◌, ◌++◌, map, refl, ap, sym, ◌∙◌, codes}
+use Rattle.std.proofs.Common.{◌≡◌, ◌+◌, ℕ, Bool, true, false, cond, List, [], ◌∷◌, ◌++◌, map, refl, ap, sym, subst, ◌∙◌, codes}
 use Rattle.std.specs.Prelude.{Result, Ok, Err, if◌then◌else◌}
 use Rattle.std.specs.FinMap as files_map
-use Rattle.std.proofs.lemmas.List.Elements.{All-head, All-tail}
+use Rattle.std.proofs.lemmas.List.Elements.{All-head, All-tail, Contains-append_left, Contains-append_right}
 use Rattle.serde_json.specs.Data.{Data}
 use Rattle.vk_spec.specs.Reading.{◌>>=◌, read_each}
 use Rattle.vk_spec.specs.Paths.{Path}
 use Rattle.vk_spec.specs.Files.{Files}
+use Rattle.vk_spec.specs.Lists.{IsWithin}
+use Rattle.vk_spec.proofs.ListLemmas.{contains_nothing, contains_first, contains_later}
+use Rattle.vk_files.specs.Within.{paths_after, up_to_first}
+use Rattle.vk_files.proofs.WithinLemmas.{one_in, both_in}
 use Rattle.vk_json.specs.declared.faults.FileFault.{FileFault}
 use Rattle.vk_config.specs.Configs.{Config}
 use Rattle.vk_config.specs.Readings.{config_of}
@@ -16,6 +20,7 @@ use Rattle.vk_files.specs.Readings.{Standing, missing, too_long, readable, stand
 use Rattle.vk_model.specs.declared.projects.Project.{Project}
 use Rattle.vk_spec.specs.Earlies.{Early, bad_file, two_configurations, no_triplet}
 use Rattle.vk_opening.specs.Starts.{Overlay}
+use Rattle.vk_opening.specs.Asked.{has_triplet, is_faulty, tried_paths, triplets_asked, overlay_paths, found_paths, opening_paths}
 use Rattle.vk_opening.specs.Laws.{AgreeAt, LacksTriplet, NoneHas, triplet_paths, early_paths}
 use Rattle.vk_opening.specs.Projects.{manifest_path, config_path, triplet_path, folders_of}
 use Rattle.vk_opening.specs.Roots.{Root, root_in, or_early, early_at, port_in}
@@ -140,6 +145,14 @@ step_ok : {A B F : Type 0} (read : Result A F) (next : A → Result B F) (y : B)
 step_ok (Ok x) next y is = (x, refl, is)
 step_ok (Err fault) next y is = (cc)
 
+abbrev config_or : Config → Result Opening Early → Config
+config_or config (Ok o) = o.start.config
+config_or config (Err line) = config
+
+-- the configuration of an opening is the one that was read
+config_opened : (project : Project) (root : Root) (config : Config) (triplets : Triplets) (overlays : List Overlay) (files : Files) (opening : Opening) → after_overlays project root config triplets overlays files ≡ Ok opening → opening.start.config ≡ config
+config_opened project root config triplets overlays files opening is = ap (λ r. config_or opening.start.config r) (sym is)
+
 pub decided : (project : Project) (opening : Opening) (one other : Files) → AgreeAt (early_paths project opening.start.config) one other → opened_of project one ≡ Ok opening → opened_of project other ≡ Ok opening
 unfolding opened_of triplets_at
 decided project opening one other agree is =
@@ -149,10 +162,6 @@ decided project opening one other agree is =
     let overlays = step_ok (overlays_of project config.0 one) (λ overlays. after_overlays project root.0 config.0 triplets.0 overlays one) opening triplets.2 in
     with_config root.0 config.0 triplets.0 overlays.0 root.1 config.1 triplets.1 overlays.1 overlays.2
   where
-    config_or : Config → Result Opening Early → Config
-    config_or config (Ok o) = o.start.config
-    config_or config (Err line) = config
-
     triplets_same : (config : Config) → AgreeAt (triplet_paths project config) one other → triplets_of project config other ≡ triplets_of project config one
     triplets_same config agreed =
         let folders = folders_of project.folder project.overlay_triplets config.overlay_triplets in
@@ -163,7 +172,7 @@ decided project opening one other agree is =
     with_config : (root : Root) (config : Config) (triplets : Triplets) (overlays : List Overlay) → early_at root_in (manifest_path project.folder) one ≡ Ok root → config_in project.folder root.document one ≡ Ok config → triplets_of project config one ≡ Ok triplets → overlays_of project config one ≡ Ok overlays
         → after_overlays project root config triplets overlays one ≡ Ok opening → opened_of project other ≡ Ok opening
     with_config root config triplets overlays root_is config_is triplets_are overlays_are is_opening =
-        let config_same_as : opening.start.config ≡ config = ap (λ r. config_or opening.start.config r) (sym is_opening) in
+        let config_same_as : opening.start.config ≡ config = config_opened project root config triplets overlays one opening is_opening in
         let agreed : AgreeAt (early_paths project config) one other = rw config_same_as at agree in
         let ports = map manifest_path (folders_of project.folder project.overlay_ports config.overlay_ports) in
         rw (
@@ -177,3 +186,56 @@ decided project opening one other agree is =
           overlays_are,
         )
         is_opening
+
+-- paths that are asked for
+
+cons_in : {X : Type 0} (x : X) (xs ys : List X) → IsWithin xs ys → IsWithin (x ∷ xs) (x ∷ ys)
+cons_in x xs ys within = both_in (x ∷ []) xs (x ∷ ys) (one_in x (x ∷ ys) (contains_first x ys)) (λ y has. contains_later x y ys (within y has))
+
+first_in : {X : Type 0} (path : X → Path) (test : X → Bool) (xs : List X) → IsWithin (map path (up_to_first test xs)) (map path xs)
+first_in path test [] = λ y has. has
+first_in path test (x ∷ xs) = cons_in (path x) (map path (cond (test x) [] (up_to_first test xs))) (map path xs) (by (test x) (first_in path test xs))
+  where
+    by : (passes : Bool) → IsWithin (map path (up_to_first test xs)) (map path xs) → IsWithin (map path (cond passes [] (up_to_first test xs))) (map path xs)
+    by true within = λ y has. absurd (contains_nothing y has)
+    by false within = within
+
+after_in : {A P : Type 0} (read : Result A P) (next : A → List Path) (ys : List Path) → ((x : A) → IsWithin (next x) ys) → IsWithin (paths_after read next) ys
+after_in (Ok x) next ys within = within x
+after_in (Err fault) next ys within = λ y has. absurd (contains_nothing y has)
+
+append_in : {X : Type 0} (xs ys more others : List X) → IsWithin xs ys → IsWithin more others → IsWithin (xs ++ more) (ys ++ others)
+append_in xs ys more others one two =
+    both_in xs more (ys ++ others) (λ x has. Contains-append_left ys others x (one x has)) (λ x has. Contains-append_right ys others x (two x has))
+
+found_early : (project : Project) (config : Config) (files : Files) → IsWithin (found_paths project config files) (triplet_paths project config ++ map manifest_path (folders_of project.folder project.overlay_ports config.overlay_ports))
+found_early project config files =
+    let folders = folders_of project.folder project.overlay_triplets config.overlay_triplets in
+    let ports = folders_of project.folder project.overlay_ports config.overlay_ports in
+    let target = map (triplet_path project.target) folders in
+    let host = map (triplet_path project.host) folders in
+    let tried = tried_paths project.host folders files in
+    append_in (triplets_asked project config files) (target ++ host) (paths_after (triplets_of project config files) (λ triplets. overlay_paths ports files)) (map manifest_path ports)
+    (append_in (tried_paths project.target folders files) target (paths_after (triplet_at project.target folders files) (λ first. tried)) host
+    (first_in (triplet_path project.target) (has_triplet project.target files) folders)
+    (after_in (triplet_at project.target folders files) (λ first. tried) host (λ first. first_in (triplet_path project.host) (has_triplet project.host files) folders)))
+    (after_in (triplets_of project config files) (λ triplets. overlay_paths ports files) (map manifest_path ports) (λ triplets. first_in manifest_path (is_faulty files) ports))
+
+pub asked_early : (project : Project) (opening : Opening) (files : Files) → opened_of project files ≡ Ok opening → IsWithin (opening_paths project files) (early_paths project opening.start.config)
+unfolding opened_of
+asked_early project opening files is =
+    let root = step_ok (early_at root_in (manifest_path project.folder) files) (λ root. after_root project root files) opening is in
+    let config = step_ok (config_in project.folder root.0.document files) (λ config. after_config project root.0 config files) opening root.2 in
+    let triplets = step_ok (triplets_of project config.0 files) (λ triplets. after_triplets project root.0 config.0 triplets files) opening config.2 in
+    let overlays = step_ok (overlays_of project config.0 files) (λ overlays. after_overlays project root.0 config.0 triplets.0 overlays files) opening triplets.2 in
+    with_config root.0 config.0 root.1 config.1 (config_opened project root.0 config.0 triplets.0 overlays.0 files opening overlays.2)
+  where
+    with_config : (root : Root) (config : Config) → early_at root_in (manifest_path project.folder) files ≡ Ok root → config_in project.folder root.document files ≡ Ok config → opening.start.config ≡ config → IsWithin (opening_paths project files) (early_paths project opening.start.config)
+    with_config root config root_is config_is same =
+        let top = manifest_path project.folder in
+        let file = config_path project.folder in
+        let found = found_paths project config files in
+        let early = triplet_paths project config ++ map manifest_path (folders_of project.folder project.overlay_ports config.overlay_ports) in
+        let asked : opening_paths project files ≡ top ∷ file ∷ found = rw (root_is, config_is) refl in
+        let within : IsWithin (top ∷ file ∷ found) (early_paths project config) = cons_in top (file ∷ found) (file ∷ early) (cons_in file found early (found_early project config files)) in
+        subst (λ paths. IsWithin paths (early_paths project opening.start.config)) (sym asked) (subst (λ c. IsWithin (top ∷ file ∷ found) (early_paths project c)) (sym same) within)

@@ -1,5 +1,6 @@
 pub mod PartLemmas
 pub mod LoopLemmas
 pub mod TripletLemmas
+pub mod AskedLemmas
 pub mod OpenLemmas
 pub mod LawLemmas

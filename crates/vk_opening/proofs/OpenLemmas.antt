@@ -7,12 +7,15 @@ use Rattle.vk_spec.specs.States.{State, OnlyRead}
 use Rattle.vk_files.specs.Kept.{Kept, paths_of, IsOf, Held}
 use Rattle.vk_files.specs.Views.{kept_of}
 use Rattle.vk_files.specs.Readings.{ReadsAs}
+use Rattle.vk_files.specs.Within.{LooksWhere}
 use Rattle.vk_files.specs.declared.caches.FileCache.{FileCache}
 use Rattle.vk_base.specs.declared.stops.Stop.{Stop}
 use Rattle.vk_base.specs.declared.stops.Stop.TheVariants as stop
 use Rattle.vk_model.specs.declared.projects.Project.{Project}
 use Rattle.vk_config.specs.Configs.{Config}
+use Rattle.vk_opening.specs.Asked.{opening_paths}
 use Rattle.vk_opening.specs.Openings.{opening_with, opened_of}
+use Rattle.vk_opening.proofs.AskedLemmas.{all_asked}
 use Rattle.vk_model.specs.EarlyViews.{early_view}
 use Rattle.vk_opening.specs.OpeningViews.{opening_found, opening_view, answer_of, AreOffIn}
 use Rattle.vk_base.specs.declared.instances.Instance.{Instance}
@@ -72,39 +75,45 @@ lists_own setting (Err m) lists = tt
 -- the answer that goes with what was read
 pub opens_with : (project : Project) (read : Result Opening (Stop Early)) (off : Result (List Instance) Memory) (files : FileCache) (before after : State) (kept : Kept) → kept ≡ [] → NoRepeats (paths_of (kept_of files))
     → IfOk off (AreOffIn read)
-    → ReadsAs early_view opening_view read (opened_of project) (record { kept = kept; tree = before }) (record { kept = kept_of files; tree = after }) → Opens project (answer_of read off files) before after
-opens_with project (Ok o) (Ok off) files before after kept none distinct lists r = record {
+    → ReadsAs early_view opening_view read (opened_of project) (record { kept = kept; tree = before }) (record { kept = kept_of files; tree = after })
+    → LooksWhere (opening_paths project) (record { kept = kept; tree = before }) (record { kept = kept_of files; tree = after }) → Opens project (answer_of read off files) before after
+opens_with project (Ok o) (Ok off) files before after kept none distinct lists r w = record {
   read = kept_of files;
   once = rw none at r.once;
   distinct = distinct;
+  within = all_asked project before after kept (kept_of files) none w;
   kept = refl;
   content = of_both before.told r.content r.content (λ t is _. (is (rw none tt), lists));
 }
-opens_with project (Ok o) (Err m) files before after kept none distinct lists r = record {
+opens_with project (Ok o) (Err m) files before after kept none distinct lists r w = record {
   read = kept_of files;
   once = rw none at r.once;
   distinct = distinct;
+  within = all_asked project before after kept (kept_of files) none w;
   kept = tt;
   content = of_both before.told r.content r.content (λ t is _. tt);
 }
-opens_with project (Err (stop.Fault early)) off files before after kept none distinct lists r = record {
+opens_with project (Err (stop.Fault early)) off files before after kept none distinct lists r w = record {
   read = kept_of files;
   once = rw none at r.once;
   distinct = distinct;
+  within = all_asked project before after kept (kept_of files) none w;
   kept = tt;
   content = of_both before.told r.content r.content (λ t is _. is (rw none tt));
 }
-opens_with project (Err stop.Failed) off files before after kept none distinct lists r = record {
+opens_with project (Err stop.Failed) off files before after kept none distinct lists r w = record {
   read = kept_of files;
   once = rw none at r.once;
   distinct = distinct;
+  within = all_asked project before after kept (kept_of files) none w;
   kept = tt;
   content = of_both before.told r.content r.content (λ t is _. tt);
 }
-opens_with project (Err (stop.Memory m)) off files before after kept none distinct lists r = record {
+opens_with project (Err (stop.Memory m)) off files before after kept none distinct lists r w = record {
   read = kept_of files;
   once = rw none at r.once;
   distinct = distinct;
+  within = all_asked project before after kept (kept_of files) none w;
   kept = tt;
   content = of_both before.told r.content r.content (λ t is _. tt);
 }

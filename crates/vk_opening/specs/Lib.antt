@@ -8,6 +8,7 @@ pub mod Overlays
 pub mod Openings
 -- what functions, laws and examples say besides
 pub mod Views
+pub mod Asked
 pub mod Opened
 pub mod OpeningViews
 pub mod Laws

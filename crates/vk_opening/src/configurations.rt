@@ -1,12 +1,13 @@
 //! The configuration of a project.
-ghost use Rattle.std.specs.Prelude.{◌≡◌, false};
+ghost use Rattle.std.specs.Prelude.{◌≡◌, ◌∷◌, [], false};
 ghost use Rattle.serde_json.specs.View.{view};
 ghost use Rattle.vk_spec.specs.Reading.{Gives};
 ghost use Rattle.vk_config.specs.Configs as plain;
 ghost use Rattle.vk_config.specs.Readings.{config_of};
 ghost use Rattle.vk_config.specs.Embedding.{embedded_at};
 ghost use Rattle.vk_config.specs.Views.{config_view, embedded_view};
-ghost use Rattle.vk_files.specs.Views.{held};
+ghost use Rattle.vk_files.specs.Views.{held, kept_of};
+ghost use Rattle.vk_files.specs.Within.{LooksWithin};
 ghost use Rattle.vk_base.specs.Stops.{has_failed};
 ghost use Rattle.vk_files.specs.StopViews.{fault_seen};
 ghost use Rattle.vk_files.specs.StandingViews.{standing_view};
@@ -103,8 +104,11 @@ fn config_file<T: Tree>(
     tree: &mut T,
     folder: &TreePath,
 ) -> Result<Config, Stop<Early>>
-    ensures { ReadsAs early_view config_view result (early_at config_of (config_path folder.now))
-        (held files.old (T.state tree.old)) (held files.new (T.state tree.new)) }
+    ensures reads { ReadsAs early_view config_view result
+        (early_at config_of (config_path folder.now)) (held files.old (T.state tree.old))
+        (held files.new (T.state tree.new)) }
+    ensures within { LooksWithin (config_path folder.now ∷ [])
+        (kept_of files.old) (kept_of files.new) }
 {
     let path = config_path(alloc, folder)?;
     read_early(alloc, files, tree, &path, &ConfigFile)
@@ -118,8 +122,10 @@ fn alone_in<T: Tree>(
     folder: &TreePath,
     document: &Value,
 ) -> Result<Config, Stop<Early>>
-    ensures { ReadsAs early_view config_view result (alone_in folder.now (view document.now))
+    ensures reads { ReadsAs early_view config_view result (alone_in folder.now (view document.now))
         (held files.old (T.state tree.old)) (held files.new (T.state tree.new)) }
+    ensures within { LooksWithin (config_path folder.now ∷ [])
+        (kept_of files.old) (kept_of files.new) }
 {
     if has_configuration(document) {
         return Err(Stop::Fault(Early::TwoConfigurations));
@@ -136,9 +142,11 @@ fn config_by<T: Tree>(
     folder: &TreePath,
     document: &Value,
 ) -> Result<Config, Stop<Early>>
-    ensures { ReadsAs early_view config_view result
+    ensures reads { ReadsAs early_view config_view result
         (config_by (standing_view standing) folder.now (view document.now))
         (held files.old (T.state tree.old)) (held files.new (T.state tree.new)) }
+    ensures within { LooksWithin (config_path folder.now ∷ [])
+        (kept_of files.old) (kept_of files.new) }
 {
     match standing {
         Standing::Missing => embedded_in(alloc, folder, document),
@@ -155,8 +163,10 @@ pub fn read_configuration<T: Tree>(
     folder: &TreePath,
     document: &Value,
 ) -> Result<Config, Stop<Early>>
-    ensures { ReadsAs early_view config_view result (config_in folder.now (view document.now))
+    ensures reads { ReadsAs early_view config_view result (config_in folder.now (view document.now))
         (held files.old (T.state tree.old)) (held files.new (T.state tree.new)) }
+    ensures within { LooksWithin (config_path folder.now ∷ [])
+        (kept_of files.old) (kept_of files.new) }
 {
     let path = config_path(alloc, folder)?;
     let standing = standing(files, tree, &path)?;

@@ -1,12 +1,14 @@
 //! Laws over the definitions alone.
 ghost use Rattle.std.specs.Prelude.{◌≡◌, ◌++◌, ◌∷◌, [], ℕ, List, true, Ok, Err, codes};
 ghost use Rattle.vk_spec.specs.Files.{Files};
+ghost use Rattle.vk_spec.specs.Lists.{IsWithin};
 ghost use Rattle.vk_spec.specs.Paths.{Path};
 ghost use Rattle.vk_config.specs.Embedding.{has_both};
 ghost use Rattle.vk_files.specs.Readings.{missing, too_long, readable, standing_at, is_at};
 ghost use Rattle.vk_model.specs.declared.projects.Project.{Project};
 ghost use Rattle.vk_opening.specs.Configurations.{has_configuration};
 ghost use Rattle.vk_spec.specs.Earlies.{bad_file, two_configurations, no_triplet};
+ghost use Rattle.vk_opening.specs.Asked.{opening_paths};
 ghost use Rattle.vk_opening.specs.Laws.{AgreeAt, NoneHas, early_paths};
 ghost use Rattle.vk_opening.specs.Openings.{Opening, opened_of};
 ghost use Rattle.vk_opening.specs.Projects.{manifest_path, config_path, triplet_path};
@@ -42,9 +44,12 @@ pub fn first_triplet()
 {}
 
 /// What an opened project gives is decided by its early files alone: whatever else stands in the
-/// tree, it is the same.
+/// tree, it is the same. No path is asked for but those where they may stand.
 pub fn early_files()
-    ensures { (project : Project) (opening : Opening) (one other : Files) → AgreeAt
+    ensures decided { (project : Project) (opening : Opening) (one other : Files) → AgreeAt
         (early_paths project opening.start.config) one other → opened_of project one ≡ Ok opening →
         opened_of project other ≡ Ok opening }
+    ensures asked { (project : Project) (opening : Opening) (files : Files) → opened_of project
+        files ≡ Ok opening → IsWithin (opening_paths project files)
+        (early_paths project opening.start.config) }
 {}

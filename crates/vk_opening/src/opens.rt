@@ -1,6 +1,7 @@
 //! Opening a project.
-ghost use Rattle.std.specs.Prelude.{◌≡◌, IfOk, map};
-ghost use Rattle.vk_files.specs.Views.{held};
+ghost use Rattle.std.specs.Prelude.{◌≡◌, ◌∷◌, [], IfOk, map};
+ghost use Rattle.vk_files.specs.Views.{held, kept_of};
+ghost use Rattle.vk_files.specs.Within.{LooksWithin, LooksWhere};
 ghost use Rattle.vk_files.specs.Readings.{ReadsAs};
 ghost use Rattle.vk_config.specs.Views.{config_view};
 ghost use Rattle.vk_model.specs.EarlyViews.{early_view};
@@ -8,6 +9,8 @@ ghost use Rattle.vk_opening.specs.Projects.{manifest_path};
 ghost use Rattle.vk_opening.specs.Roots.{root_in, early_at};
 ghost use Rattle.vk_opening.specs.Openings.{opened_of, triplets_of, overlays_of};
 ghost use Rattle.vk_opening.specs.Openings.{after_root, after_config};
+ghost use Rattle.vk_opening.specs.Asked.{triplets_asked, overlays_asked};
+ghost use Rattle.vk_opening.specs.Asked.{found_paths, rest_paths, opening_paths};
 ghost use Rattle.vk_opening.specs.Opened.{Opens};
 ghost use Rattle.vk_opening.specs.Views.{root_view, triplets_view, overlay_view};
 ghost use Rattle.vk_opening.specs.OpeningViews.{opening_found, opening_rest};
@@ -80,8 +83,11 @@ fn read_root<T: Tree>(
     tree: &mut T,
     folder: &TreePath,
 ) -> Result<Root, Stop<Early>>
-    ensures { ReadsAs early_view root_view result (early_at root_in (manifest_path folder.now))
-        (held files.old (T.state tree.old)) (held files.new (T.state tree.new)) }
+    ensures reads { ReadsAs early_view root_view result
+        (early_at root_in (manifest_path folder.now)) (held files.old (T.state tree.old))
+        (held files.new (T.state tree.new)) }
+    ensures within { LooksWithin (manifest_path folder.now ∷ [])
+        (kept_of files.old) (kept_of files.new) }
 {
     let path = manifest_path(alloc, folder)?;
     read_early(alloc, files, tree, &path, &RootFile)
@@ -95,8 +101,10 @@ fn triplets_of<T: Tree>(
     project: &Project,
     config: &Config,
 ) -> Result<Triplets, Stop<Early>>
-    ensures { ReadsAs early_view triplets_view result
+    ensures reads { ReadsAs early_view triplets_view result
         (triplets_of project.now (config_view config.now))
+        (held files.old (T.state tree.old)) (held files.new (T.state tree.new)) }
+    ensures within { LooksWhere (triplets_asked project.now (config_view config.now))
         (held files.old (T.state tree.old)) (held files.new (T.state tree.new)) }
 {
     let configured = config.overlay_triplets.as_slice();
@@ -124,8 +132,10 @@ fn overlays_of<T: Tree>(
     project: &Project,
     config: &Config,
 ) -> Result<List<Overlay>, Stop<Early>>
-    ensures { ReadsAs early_view (λ l. map overlay_view l) result
+    ensures reads { ReadsAs early_view (λ l. map overlay_view l) result
         (overlays_of project.now (config_view config.now))
+        (held files.old (T.state tree.old)) (held files.new (T.state tree.new)) }
+    ensures within { LooksWhere (overlays_asked project.now (config_view config.now))
         (held files.old (T.state tree.old)) (held files.new (T.state tree.new)) }
 {
     let configured = config.overlay_ports.as_slice();
@@ -155,9 +165,11 @@ fn read_found<T: Tree>(
     root: &Root,
     config: &Config,
 ) -> Result<Found, Stop<Early>>
-    ensures { ReadsAs early_view
+    ensures reads { ReadsAs early_view
         (opening_found project.now (root_view root.now) (config_view config.now)) result
         (after_config project.now (root_view root.now) (config_view config.now))
+        (held files.old (T.state tree.old)) (held files.new (T.state tree.new)) }
+    ensures within { LooksWhere (found_paths project.now (config_view config.now))
         (held files.old (T.state tree.old)) (held files.new (T.state tree.new)) }
 {
     let own = own_of(project, root)?;
@@ -178,8 +190,10 @@ fn read_rest<T: Tree>(
     project: &Project,
     root: &Root,
 ) -> Result<Rest, Stop<Early>>
-    ensures { ReadsAs early_view (opening_rest project.now (root_view root.now)) result
+    ensures reads { ReadsAs early_view (opening_rest project.now (root_view root.now)) result
         (after_root project.now (root_view root.now))
+        (held files.old (T.state tree.old)) (held files.new (T.state tree.new)) }
+    ensures within { LooksWhere (rest_paths project.now (root_view root.now))
         (held files.old (T.state tree.old)) (held files.new (T.state tree.new)) }
 {
     let document = root.document.value();
@@ -220,7 +234,9 @@ fn read_opening<T: Tree>(
     tree: &mut T,
     project: &Project,
 ) -> Result<Opening, Stop<Early>>
-    ensures { ReadsAs early_view opening_view result (opened_of project.now)
+    ensures reads { ReadsAs early_view opening_view result (opened_of project.now)
+        (held files.old (T.state tree.old)) (held files.new (T.state tree.new)) }
+    ensures within { LooksWhere (opening_paths project.now)
         (held files.old (T.state tree.old)) (held files.new (T.state tree.new)) }
 {
     let root = read_root(alloc, files, tree, &project.folder)?;

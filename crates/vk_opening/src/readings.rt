@@ -1,6 +1,7 @@
 //! A file that is read, and its fault as an early line.
-ghost use Rattle.std.specs.Prelude.{◌≡◌, false, Ok, option_map};
-ghost use Rattle.vk_files.specs.Views.{held};
+ghost use Rattle.std.specs.Prelude.{◌≡◌, ◌∷◌, [], false, Ok, option_map};
+ghost use Rattle.vk_files.specs.Views.{held, kept_of};
+ghost use Rattle.vk_files.specs.Within.{LooksWithin};
 ghost use Rattle.vk_base.specs.Stops.{fault_in, is_failure};
 ghost use Rattle.vk_files.specs.StopViews.{fault_seen};
 ghost use Rattle.vk_files.specs.StandingViews.{standing_view};
@@ -49,8 +50,9 @@ pub fn read_early<R: FileReader, T: Tree>(
     path: &TreePath,
     reader: &R,
 ) -> Result<R::Out, Stop<Early>>
-    ensures { ReadsAs early_view R.plain result (early_at (R.reads reader.now) path.now)
+    ensures reads { ReadsAs early_view R.plain result (early_at (R.reads reader.now) path.now)
         (held files.old (T.state tree.old)) (held files.new (T.state tree.new)) }
+    ensures within { LooksWithin (path.now ∷ []) (kept_of files.old) (kept_of files.new) }
 {
     match files::read_file(alloc, files, tree, path, reader) {
         Ok(out) => Ok(out),
@@ -64,8 +66,10 @@ pub fn standing<T: Tree>(
     tree: &mut T,
     path: &TreePath,
 ) -> Result<Standing, Stop<Early>>
-    ensures { ReadsAs early_view standing_view result (λ files. Ok (standing_at path.now files))
-        (held files.old (T.state tree.old)) (held files.new (T.state tree.new)) }
+    ensures reads { ReadsAs early_view standing_view result
+        (λ files. Ok (standing_at path.now files)) (held files.old (T.state tree.old))
+        (held files.new (T.state tree.new)) }
+    ensures within { LooksWithin (path.now ∷ []) (kept_of files.old) (kept_of files.new) }
 {
     match files::file_standing(files, tree, path) {
         Ok(standing) => Ok(standing),

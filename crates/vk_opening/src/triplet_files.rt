@@ -1,14 +1,19 @@
 //! The triplets of a project, each the first file of its name in folders of triplets.
-ghost use Rattle.std.specs.Prelude.{◌≡◌, ◌↔◌, false, Ok, Err, IsTrue, option_map};
+ghost use Rattle.std.specs.Prelude.{◌≡◌, ◌↔◌, ◌∷◌, [], List, false, Ok, Err, IfSome};
+ghost use Rattle.std.specs.Prelude.{IsTrue, option_map};
+ghost use Rattle.std.specs.List.{Contains};
+ghost use Rattle.vk_spec.specs.Paths.{Path};
 ghost use Rattle.vk_spec.specs.Reading.{Fails};
 ghost use Rattle.vk_json.specs.Places.{here};
 ghost use Rattle.vk_triplet.specs.TripletReadings as plain;
-ghost use Rattle.vk_files.specs.Views.{held};
+ghost use Rattle.vk_files.specs.Views.{held, kept_of};
+ghost use Rattle.vk_files.specs.Within.{LooksWithin, LooksWhere};
 ghost use Rattle.vk_base.specs.Stops.{fault_in, is_failure};
 ghost use Rattle.vk_files.specs.StopViews.{fault_seen};
 ghost use Rattle.vk_files.specs.Readings.{ReadsAs, is_at};
 ghost use Rattle.vk_spec.specs.Earlies as early;
 ghost use Rattle.vk_model.specs.EarlyViews.{early_view};
+ghost use Rattle.vk_opening.specs.Asked.{tried_paths, both_paths};
 ghost use Rattle.vk_opening.specs.TripletFiles.{triplet_word, triplet_in, triplet_file};
 ghost use Rattle.vk_opening.specs.TripletFiles.{triplet_from, triplet_at, triplets_at};
 ghost use Rattle.vk_opening.specs.Views.{triplets_view};
@@ -58,8 +63,9 @@ impl FileReader for TripletFile<'_> {
 
 // Whether a file stands at a path.
 fn is_at<T: Tree>(files: &mut FileCache, tree: &mut T, path: &TreePath) -> Result<bool, Stop<Early>>
-    ensures { ReadsAs early_view (λ there. there) result (λ files. Ok (is_at files path.now))
+    ensures reads { ReadsAs early_view (λ there. there) result (λ files. Ok (is_at files path.now))
         (held files.old (T.state tree.old)) (held files.new (T.state tree.new)) }
+    ensures within { LooksWithin (path.now ∷ []) (kept_of files.old) (kept_of files.new) }
 {
     let standing = standing(files, tree, path)?;
     Ok(standing.is_there())
@@ -73,8 +79,10 @@ fn triplet_file<T: Tree>(
     name: &TripletName,
     folders: &[TreePath],
 ) -> Result<Option<TreePath>, Stop<Early>>
-    ensures { ReadsAs early_view (λ path. path) result
+    ensures reads { ReadsAs early_view (λ path. path) result
         (λ files. Ok (triplet_file name.now folders.now files))
+        (held files.old (T.state tree.old)) (held files.new (T.state tree.new)) }
+    ensures within { LooksWhere (tried_paths name.now folders.now)
         (held files.old (T.state tree.old)) (held files.new (T.state tree.new)) }
 {
     for folder in folders {
@@ -104,8 +112,10 @@ fn triplet_from<T: Tree>(
     name: &TripletName,
     path: Option<TreePath>,
 ) -> Result<Triplet, Stop<Early>>
-    ensures { ReadsAs early_view (λ t. t) result (triplet_from name.now path)
+    ensures reads { ReadsAs early_view (λ t. t) result (triplet_from name.now path)
         (held files.old (T.state tree.old)) (held files.new (T.state tree.new)) }
+    ensures within { (paths : List Path) → IfSome path (Contains paths) →
+        LooksWithin paths (kept_of files.old) (kept_of files.new) }
 {
     match path {
         Some(path) => read_early(alloc, files, tree, &path, &TripletFile(name)),
@@ -121,7 +131,9 @@ fn read_triplet<T: Tree>(
     name: &TripletName,
     folders: &[TreePath],
 ) -> Result<Triplet, Stop<Early>>
-    ensures { ReadsAs early_view (λ t. t) result (triplet_at name.now folders.now)
+    ensures reads { ReadsAs early_view (λ t. t) result (triplet_at name.now folders.now)
+        (held files.old (T.state tree.old)) (held files.new (T.state tree.new)) }
+    ensures within { LooksWhere (tried_paths name.now folders.now)
         (held files.old (T.state tree.old)) (held files.new (T.state tree.new)) }
 {
     let path = triplet_file(alloc, files, tree, name, folders)?;
@@ -149,7 +161,10 @@ fn read_for_both<T: Tree>(
     name: &TripletName,
     folders: &[TreePath],
 ) -> Result<Triplets, Stop<Early>>
-    ensures { ReadsAs early_view triplets_view result (triplets_at name.now name.now folders.now)
+    ensures reads { ReadsAs early_view triplets_view result
+        (triplets_at name.now name.now folders.now) (held files.old (T.state tree.old))
+        (held files.new (T.state tree.new)) }
+    ensures within { LooksWhere (tried_paths name.now folders.now)
         (held files.old (T.state tree.old)) (held files.new (T.state tree.new)) }
 {
     let target = read_triplet(alloc, files, tree, name, folders)?;
@@ -166,7 +181,10 @@ fn read_one_by_one<T: Tree>(
     host: &TripletName,
     folders: &[TreePath],
 ) -> Result<Triplets, Stop<Early>>
-    ensures { ReadsAs early_view triplets_view result (triplets_at target.now host.now folders.now)
+    ensures reads { ReadsAs early_view triplets_view result
+        (triplets_at target.now host.now folders.now) (held files.old (T.state tree.old))
+        (held files.new (T.state tree.new)) }
+    ensures within { LooksWhere (both_paths target.now host.now folders.now)
         (held files.old (T.state tree.old)) (held files.new (T.state tree.new)) }
 {
     let target = read_triplet(alloc, files, tree, target, folders)?;
@@ -183,7 +201,10 @@ pub fn read_triplets<T: Tree>(
     host: &TripletName,
     folders: &[TreePath],
 ) -> Result<Triplets, Stop<Early>>
-    ensures { ReadsAs early_view triplets_view result (triplets_at target.now host.now folders.now)
+    ensures reads { ReadsAs early_view triplets_view result
+        (triplets_at target.now host.now folders.now) (held files.old (T.state tree.old))
+        (held files.new (T.state tree.new)) }
+    ensures within { LooksWhere (both_paths target.now host.now folders.now)
         (held files.old (T.state tree.old)) (held files.new (T.state tree.new)) }
 {
     if is_same(target, host) {

@@ -7,7 +7,7 @@ use Rattle.vk_files.specs.StandingViews.{standing_view}
 use Rattle.vk_files.proofs.ReadLemmas.{reads_seen}
 use Rattle.vk_files.proofs.readers.file_standing.Goals as goal
 
-pub returns : goal.returns
-returns g c =
+pub returns-clause-reads : goal.returns-clause-reads
+returns-clause-reads g c =
     reads_seen bad_view standing_view (Ok c.standing_of.result) (λ seen. Ok (standing_by seen)) c.args.path.now (seen_view c.unwrap.result.now) _ _ c.in_ok-look.ensures.once
     (sym c.get.ensures ∙ ap (λ o. option_map seen_view (option_copied o)) c.unwrap.ensures) refl (ap Ok (sym c.standing_of.ensures))
