@@ -4,6 +4,7 @@ pub mod ListedLemmas
 pub mod ManifestLemmas
 pub mod AnsweredLemmas
 pub mod RegistryLemmas
+pub mod NoteLemmas
 pub mod LibraryLemmas
 pub mod WorldLemmas
 pub mod FolderLemmas

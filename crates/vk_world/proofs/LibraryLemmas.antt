@@ -8,12 +8,14 @@ use Rattle.vk_spec.specs.Versions as versions
 use Rattle.vk_spec.specs.Versions.{Ask}
 use Rattle.vk_spec.specs.Pages.{overlay, override, baseline, version_in, manifest_in}
 use Rattle.vk_base.specs.Stops.{was_out}
-use Rattle.vk_catalogue.specs.Views.{given_said}
+use Rattle.vk_catalogue.specs.Views.{given_said, manifest_said}
 use Rattle.vk_base.specs.declared.stops.Outage.{Outage}
 use Rattle.vk_model.specs.declared.wrongs.Wrong.{Wrong}
 use Rattle.vk_model.specs.declared.wrongs.Given as declared
 use Rattle.vk_model.specs.declared.manifests.Manifest.{Manifest}
 use Rattle.std.specs.declared.rc.Rc.{Rc}
+use Rattle.vk_version.specs.AskViews.{ask_view}
+use Rattle.vk_version.specs.declared.asks.Ask as declared_ask
 use Rattle.vk_version.specs.declared.versions.Version.{Version}
 use Rattle.vk_files.specs.Kept.{Held}
 use Rattle.vk_files.specs.Notes.{AreRight}
@@ -23,10 +25,10 @@ use Rattle.vk_opening.specs.Starts.{Start}
 use Rattle.vk_pages.specs.Homes.{in_overlay, in_registry, home_of}
 use Rattle.vk_pages.specs.HomeViews.{layout_view}
 use Rattle.vk_pages.specs.Pages.{page_at}
-use Rattle.vk_world.specs.Learning.{Learns, SaysNothing}
+use Rattle.vk_world.specs.Learning.{Learns, SaysNothing, NothingKnown}
 use Rattle.vk_world.specs.KnownVersions.{folders_in}
 use Rattle.vk_world.specs.HomeNotes.{FoundHome, homes_in, home_noted, IsHomeOf, AreHomes}
-use Rattle.vk_world.specs.ManifestNotes.{AreManifests}
+use Rattle.vk_world.specs.ManifestNotes.{FoundManifest, manifest_noted, IsManifestOf, AreManifests}
 use Rattle.vk_world.specs.Listed.{listed_in}
 use Rattle.vk_world.specs.VersionFolders.{folder_found}
 use Rattle.vk_world.specs.Answered.{folders_given, folders_listed, given_in}
@@ -40,6 +42,7 @@ use Rattle.vk_world.specs.declared.libraries.Library.{Library}
 use Rattle.vk_world.proofs.LearnLemmas.{learns_pure, learns_then, learns_so}
 use Rattle.vk_world.proofs.ListedLemmas.{given_on_page, version_on_page, folder_of_listed, folder_of_own}
 use Rattle.vk_world.proofs.AnsweredLemmas.{right_with}
+use Rattle.vk_world.proofs.NoteLemmas.{note_right}
 use Rattle.vk_world.proofs.RegistryLemmas.{no_overlay}
 
 -- the home that was found is that of the files
@@ -121,13 +124,45 @@ manifest_says start files port found ask (Ok m) is says = λ some.
     ∙ ap (λ h. manifest_in (page_at port files h) ask) is
 manifest_says start files port found ask (Err stop) is says = tt
 
-pub manifest_learned : {Z : Type 0} {lib mid : Library} (port : List ℕ) {answer : Result (Result (Rc Manifest Z) Wrong) Outage} {a b c : Held} (ask : Ask) (files : FileCache) (manifests : Manifests) (found : FoundHome)
+pub manifest_learned : {Z : Type 0} {lib mid : Library} (port : List ℕ) {answer : Result (Result (Rc Manifest Z) Wrong) Outage} {a b c : Held} (ask : Ask) (files : FileCache) (found : FoundHome)
     → Learns {X = Unit {0}} (Ok tt) SaysNothing (IsRight lib) (IsRight mid) a b → Stays lib mid → home_noted port mid.homes ≡ Some found
-    → Learns answer (IsManifestFor port found ask) (AreManifests mid.manifests) (AreManifests manifests) b c
-    → Learns answer (SaysManifestOf (start_of lib) port ask) (IsRight lib) (IsRight (record mid { files = files; manifests = manifests })) a c
-manifest_learned {lib = lib} {mid = mid} port {answer = answer} {a = a} {c = c} ask files manifests found looked stays noted read =
-    subst (λ start. Learns answer (SaysManifestOf start port ask) (IsRight lib) (IsRight (record mid { files = files; manifests = manifests })) a c) (start_stays lib mid stays)
-    (learns_then looked (learns_so answer (SaysManifestOf (start_of mid) port ask) (λ f. IsRight mid f × SaysNothing {X = Unit {0}} f tt) (IsRight (record mid { files = files; manifests = manifests })) refl (λ f both. both.0.manifests)
+    → Learns answer (IsManifestFor port found ask) NothingKnown NothingKnown b c
+    → Learns answer (SaysManifestOf (start_of lib) port ask) (IsRight lib) (IsRight (record mid { files = files })) a c
+manifest_learned {lib = lib} {mid = mid} port {answer = answer} {a = a} {c = c} ask files found looked stays noted read =
+    subst (λ start. Learns answer (SaysManifestOf start port ask) (IsRight lib) (IsRight (record mid { files = files })) a c) (start_stays lib mid stays)
+    (learns_then looked (learns_so answer (SaysManifestOf (start_of mid) port ask) (λ f. IsRight mid f × SaysNothing {X = Unit {0}} f tt) (IsRight (record mid { files = files })) refl (λ f both. tt)
     (λ f both after says.
     let right = both.0 in
-    (record { homes = right.homes; manifests = after; folders = right.folders }, manifest_says (start_of mid) f port found ask answer (home_is (start_of mid) mid.homes f port found right.homes noted) says)) read))
+    (record { homes = right.homes; manifests = right.manifests; folders = right.folders }, manifest_says (start_of mid) f port found ask answer (home_is (start_of mid) mid.homes f port found right.homes noted) says)) read))
+
+-- what was read is kept besides
+pub manifest_kept : {Z : Type 0} {lib mid : Library} (port : List ℕ) (m : Result (Rc Manifest Z) Wrong) {answer : Result (Result (Rc Manifest Z) Wrong) Outage} {a b : Held} (ask : Ask) (manifests : Manifests)
+    → Learns (Ok m) (SaysManifestOf (start_of lib) port ask) (IsRight lib) (IsRight mid) a b → Stays lib mid → was_out answer ≡ false → IfOk answer (λ x. x ≡ m)
+    → ((start : Start) (files : Files) → AreManifests start mid.manifests files → IsManifestOf start files port ask (manifest_said m) → AreManifests start manifests files)
+    → Learns answer (SaysManifestOf (start_of lib) port ask) (IsRight lib) (IsRight (record mid { manifests = manifests })) a b
+manifest_kept {Z = Z} {lib = lib} {mid = mid} port m {answer = answer} ask manifests read stays calm is kept =
+    learns_so answer (SaysManifestOf (start_of lib) port ask) (IsRight lib) (IsRight (record mid { manifests = manifests })) calm (λ f right. right)
+    (λ f before right says. (
+      record {
+        homes = right.homes;
+        manifests = kept (start_of mid) f right.manifests (subst (λ start. IsManifestOf start f port ask (manifest_said m)) (sym (start_stays lib mid stays)) says);
+        folders = right.folders;
+      },
+      again answer is f says,
+    )) read
+  where
+    again : (r : Result (Result (Rc Manifest Z) Wrong) Outage) → IfOk r (λ x. x ≡ m) → (f : Files) → SaysManifestOf (start_of lib) port ask f m → IfOk r (SaysManifestOf (start_of lib) port ask f)
+    again (Ok x) same f says = subst (SaysManifestOf (start_of lib) port ask f) (sym same) says
+    again (Err stop) same f says = tt
+
+-- what was kept is answered again
+pub manifest_again : {Z : Type 0} (lib : Library) (port : List ℕ) {answer : Result (Result (Rc Manifest Z) Wrong) Outage} (h : Held) (ask : declared_ask.Ask) (found : FoundManifest)
+    → manifest_noted port (ask_view ask) lib.manifests ≡ Some found → IfOk answer (λ m. manifest_said m ≡ found) → was_out answer ≡ false
+    → Learns answer (SaysManifestOf (start_of lib) port (ask_view ask)) (IsRight lib) (IsRight lib) h h
+manifest_again {Z = Z} lib port {answer = answer} h ask found noted told calm =
+    learns_pure answer (SaysManifestOf (start_of lib) port (ask_view ask)) (IsRight lib) (IsRight lib) h calm
+    (λ f right. (right, again answer told f (note_right (start_of lib) f port ask lib.manifests found right.manifests noted)))
+  where
+    again : (r : Result (Result (Rc Manifest Z) Wrong) Outage) → IfOk r (λ m. manifest_said m ≡ found) → (f : Files) → IsManifestOf (start_of lib) f port (ask_view ask) found → IfOk r (SaysManifestOf (start_of lib) port (ask_view ask) f)
+    again (Ok m) same f says = subst (IsManifestOf (start_of lib) f port (ask_view ask)) (sym same) says
+    again (Err stop) same f says = tt

@@ -17,6 +17,10 @@ pub record Learns {X : Type 0} (answer : Result X Outage) (Says : Files → X �
 abbrev pub SaysNothing : {X : Type 0} → Files → X → Type 0
 SaysNothing files x = Unit {0}
 
+-- nothing is known of files
+abbrev pub NothingKnown : Files → Type 0
+NothingKnown files = Unit {0}
+
 -- what is answered is what the files mean
 abbrev pub Means : {X Y : Type 0} → (X → Y) → (Files → Y) → Files → X → Type 0
 Means view meaning files x = view x ≡ meaning files

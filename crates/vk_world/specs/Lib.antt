@@ -4,10 +4,10 @@ pub mod VersionFolders
 -- what functions, laws and examples say besides
 pub mod Learning
 pub mod KnownVersions
+pub mod PortAsks
 pub mod PairLaws
 pub mod ManifestNotes
 pub mod Listed
-pub mod ListedViews
 pub mod Answered
 pub mod ManifestAnswers
 pub mod Libraries

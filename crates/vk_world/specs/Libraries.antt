@@ -1,9 +1,9 @@
 -- What a world keeps, and when it is right.
-use Rattle.std.specs.Prelude.{◌≡◌, ℕ, List, Some, IsSome, Result, Option}
+use Rattle.std.specs.Prelude.{◌≡◌, ℕ, List, Some, Result, Option}
 use Rattle.vk_spec.specs.Paths.{Path}
 use Rattle.vk_spec.specs.Files.{Files}
 use Rattle.vk_spec.specs.Versions.{Version, Ask}
-use Rattle.vk_spec.specs.Pages.{version_in, manifest_in}
+use Rattle.vk_spec.specs.Pages.{version_in}
 use Rattle.vk_catalogue.specs.Views.{given_said, manifest_said}
 use Rattle.vk_model.specs.declared.wrongs.Wrong.{Wrong}
 use Rattle.vk_model.specs.declared.wrongs.Given.{Given}
@@ -15,7 +15,7 @@ use Rattle.vk_pages.specs.HomeViews.{layout_view}
 use Rattle.vk_pages.specs.Pages.{page_of}
 use Rattle.vk_world.specs.KnownVersions.{folders_in}
 use Rattle.vk_world.specs.HomeNotes.{AreHomes}
-use Rattle.vk_world.specs.ManifestNotes.{AreManifests}
+use Rattle.vk_world.specs.ManifestNotes.{AreManifests, IsManifestOf}
 use Rattle.vk_world.specs.VersionFolders.{place_in}
 use Rattle.vk_world.specs.declared.answered.PortVersion.{PortVersion}
 use Rattle.vk_world.specs.declared.libraries.Library.{Library}
@@ -31,7 +31,7 @@ IsFolderOf start files pair folder = place_in start files pair.port pair.version
 -- all that is kept is right of files
 pub record IsRight (lib : Library) (files : Files) : Type 0 where
   pub homes : AreHomes (start_of lib) lib.homes files
-  pub manifests : AreManifests lib.manifests files
+  pub manifests : AreManifests (start_of lib) lib.manifests files
   pub folders : AreRight (IsFolderOf (start_of lib) files) (folders_in lib.known)
 
 -- what was known at the start stays
@@ -49,4 +49,4 @@ SaysVersionOf start port ask files version = version ≡ version_in (page_of sta
 
 -- where a version is there for the ask
 abbrev pub SaysManifestOf : {Z : Type 0} → Start → List ℕ → Ask → Files → Result (Rc Manifest Z) Wrong → Type 0
-SaysManifestOf start port ask files m = IsSome (version_in (page_of start files port) ask) → Some (manifest_said m) ≡ manifest_in (page_of start files port) ask
+SaysManifestOf start port ask files m = IsManifestOf start files port ask (manifest_said m)

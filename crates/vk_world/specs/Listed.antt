@@ -1,7 +1,8 @@
--- What a port's home has: what is given, the version for an ask and its folder, and a row's manifest.
+-- What a port's home has: what is given, the version for an ask and its folder, and a manifest that agrees.
 use Rattle.std.specs.Prelude.{ℕ, List, Option, Some, None, option_map, Result, Ok, Err, if◌then◌else◌}
 use Rattle.std.specs.List.{find}
 use Rattle.vk_spec.specs.Paths.{Path}
+use Rattle.vk_spec.specs.Files.{Files}
 use Rattle.vk_spec.specs.Reading.{◌>>=◌}
 use Rattle.vk_spec.specs.Versions.{Version, Ask, ask_of, same_ask}
 use Rattle.vk_spec.specs.Manifests.{Manifest}
@@ -9,6 +10,7 @@ use Rattle.vk_spec.specs.Pages.{Given, overlay, Wrong}
 use Rattle.vk_spec.specs.Conditions.{Condition}
 use Rattle.vk_registry.specs.Tables.{Row}
 use Rattle.vk_pages.specs.Agreement.{agreeing}
+use Rattle.vk_pages.specs.Wrongs.{manifest_file}
 use Rattle.vk_pages.specs.Homes.{Home, in_overlay, in_registry}
 use Rattle.vk_pages.specs.Pages.{row_folder}
 
@@ -46,6 +48,10 @@ abbrev pub listed_in : Result Home Wrong → Ask → Option (Version × Path)
 listed_in (Ok home) ask = listed_at home ask
 listed_in (Err wrong) ask = None
 
--- the manifest that was found at a path, if it is that of the port and the version
-abbrev pub agreed : Path → List ℕ → Version → Result (Manifest Condition) Wrong → Result (Manifest Condition) Wrong
-agreed path port v found = found >>= λ m. agreeing path port v m >>= λ same. Ok m
+-- a manifest that was read at a path, if it is that of the port and the version
+unfoldable pub agreed : Path → List ℕ → Version → Manifest Condition → Result (Manifest Condition) Wrong
+agreed path port v m = agreeing path port v m >>= λ same. Ok m
+
+-- the manifest at a path, if it is that of the port and the version
+abbrev pub manifest_at : Path → List ℕ → Version → Files → Result (Manifest Condition) Wrong
+manifest_at path port v files = manifest_file path files >>= agreed path port v

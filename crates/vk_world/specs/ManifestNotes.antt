@@ -1,32 +1,40 @@
--- The manifests of ports that were read, by their paths.
-use Rattle.std.specs.Prelude.{◌≡◌, List, map, Option, Result}
+-- The manifests that were found, each by its port and what was asked for.
+use Rattle.std.specs.Prelude.{◌≡◌, ℕ, List, map, Option, Some, IsSome, Result}
 use Rattle.std.specs.Map.{lookup}
-use Rattle.vk_spec.specs.Paths.{Path}
 use Rattle.vk_spec.specs.Files.{Files}
+use Rattle.vk_spec.specs.Versions.{Ask}
 use Rattle.vk_spec.specs.Manifests.{Manifest}
 use Rattle.vk_spec.specs.Pages as plain
+use Rattle.vk_spec.specs.Pages.{version_in, manifest_in}
 use Rattle.vk_spec.specs.Conditions.{Condition}
+use Rattle.vk_version.specs.AskViews.{ask_view}
 use Rattle.vk_catalogue.specs.Views.{manifest_said}
 use Rattle.vk_files.specs.Notes.{AreRight}
-use Rattle.vk_files.specs.Views.{same_path}
-use Rattle.vk_pages.specs.Wrongs.{manifest_file}
+use Rattle.vk_opening.specs.Starts.{Start}
+use Rattle.vk_pages.specs.Pages.{page_of}
+use Rattle.vk_world.specs.PortAsks.{same_asked}
 use Rattle.vk_world.specs.declared.manifests.Manifests.{Manifests}
+use Rattle.vk_world.specs.declared.port_asks.PortAsk.{PortAsk}
 
--- a manifest, or what is wrong with its file
+-- a manifest, or what is wrong with it
 abbrev pub FoundManifest : Type 0
 FoundManifest = Result (Manifest Condition) plain.Wrong
 
--- the paths, each with what was found there, in the order in which they were asked for
-abbrev pub manifests_in : Manifests → List (Path × FoundManifest)
+-- the ports and asks, each with what was found, in the order in which they were first asked for
+abbrev pub manifests_in : Manifests → List (PortAsk × FoundManifest)
 manifests_in manifests = map (λ e. (e.0, manifest_said e.1)) manifests.found.entries
 
--- what was found at a path
-abbrev pub manifest_noted : Path → Manifests → Option FoundManifest
-manifest_noted path manifests = lookup (same_path path) (manifests_in manifests)
+-- what was found for a port and an ask
+abbrev pub manifest_noted : List ℕ → Ask → Manifests → Option FoundManifest
+manifest_noted port ask manifests = lookup (λ key. same_asked port ask key.port (ask_view key.ask)) (manifests_in manifests)
 
-abbrev pub IsManifestAt : Files → Path → FoundManifest → Type 0
-IsManifestAt files path found = found ≡ manifest_file path files
+-- it is what the port's page has for the ask, if a version is there
+abbrev pub IsManifestOf : Start → Files → List ℕ → Ask → FoundManifest → Type 0
+IsManifestOf start files port ask found = IsSome (version_in (page_of start files port) ask) → Some found ≡ manifest_in (page_of start files port) ask
+
+abbrev pub IsNoteOf : Start → Files → PortAsk → FoundManifest → Type 0
+IsNoteOf start files key found = IsManifestOf start files key.port (ask_view key.ask) found
 
 -- the manifests are those of the files
-abbrev pub AreManifests : Manifests → Files → Type 0
-AreManifests manifests files = AreRight (IsManifestAt files) (manifests_in manifests)
+abbrev pub AreManifests : Start → Manifests → Files → Type 0
+AreManifests start manifests files = AreRight (IsNoteOf start files) (manifests_in manifests)

@@ -1,5 +1,5 @@
 -- Where a version of a port stands.
-use Rattle.std.specs.Prelude.{ℕ, List, Option, Some, None, option_map, Result, Ok, Err, if◌then◌else◌}
+use Rattle.std.specs.Prelude.{ℕ, List, Option, Some, None, option_map, Ok, Err, if◌then◌else◌}
 use Rattle.std.specs.List.{find}
 use Rattle.vk_spec.specs.Paths.{Path}
 use Rattle.vk_spec.specs.Files.{Files}

@@ -1,7 +1,7 @@
 //! The versions that were answered, and where they stand.
-ghost use Rattle.std.specs.Prelude.{◌≡◌, [], OnOk, OnErr};
+ghost use Rattle.std.specs.Prelude.{◌≡◌, [], OnOk, OnErr, false};
 ghost use Rattle.std.specs.Cmp.{partial_equiv_from_equiv};
-ghost use Rattle.std.specs.Option.{option_copied};
+ghost use Rattle.std.specs.Option.{option_copied, is_some};
 ghost use Rattle.vk_spec.specs.Versions.{same_class, same_version};
 ghost use Rattle.vk_world.specs.KnownVersions.{same_pair, pair_fed, folders_in, with_folder};
 ghost use Rattle.vk_world.specs.KnownVersions.{folder_known};
@@ -134,21 +134,26 @@ impl KnownVersions {
         }
     }
 
-    /// Notes that a version of a port was answered, and the folder where it stands, unless it was
-    /// before. When memory runs out, all stays as it was.
+    /// Whether a version of a port was answered. Takes no memory.
+    pub fn has(&self, port: &PortName, version: &Version) -> bool
+        ensures { result ≡ is_some (folder_known port.now version.now self.now) }
+    {
+        self.folders.contains_key(Pair { port, version })
+    }
+
+    /// Notes that a version of a port was answered, which it wasn't before, and the folder where it
+    /// stands. When memory runs out, all stays as it was.
     pub fn note(
         &mut self,
         port: &PortName,
         version: &Version,
         folder: TreePath,
     ) -> Result<(), Memory>
+        requires new { is_some (folder_known port.now version.now self.old) ≡ false }
         ensures ok { OnOk result
             (folders_in self.new ≡ with_folder port.now version.now folder (folders_in self.old)) }
         ensures err { OnErr result (folders_in self.new ≡ folders_in self.old) }
     {
-        if self.folders.contains_key(Pair { port, version }) {
-            return Ok(());
-        }
         let pair = PortVersion {
             port: port.clone()?,
             version: version.clone()?,

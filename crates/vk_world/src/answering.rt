@@ -1,21 +1,61 @@
 //! Answers from what was found, which make versions known.
-ghost use Rattle.std.specs.Prelude.{◌≡◌, OnOk, OnErr, IfOk, false, option_map};
+ghost use Rattle.std.specs.Prelude.{◌≡◌, OnOk, OnErr, IfOk, Some, false, option_map};
+ghost use Rattle.vk_registry.specs.TableViews.{row_view};
 ghost use Rattle.vk_version.specs.AskViews.{ask_view};
 ghost use Rattle.vk_base.specs.Stops.{was_out};
 ghost use Rattle.vk_catalogue.specs.Views.{given_said, given_view};
 ghost use Rattle.vk_pages.specs.HomeViews.{home_view};
-ghost use Rattle.vk_world.specs.KnownVersions.{folders_in};
+ghost use Rattle.vk_world.specs.KnownVersions.{folders_in, with_folder};
 ghost use Rattle.vk_world.specs.HomeNotes.{found_home};
-ghost use Rattle.vk_world.specs.Listed.{folder_at, given_at, listed_at, listed_in};
+ghost use Rattle.vk_world.specs.Listed.{folder_at, given_at, listed_at, listed_in, own_listed};
+ghost use Rattle.vk_world.specs.Listed.{row_listed, table_listed};
 ghost use Rattle.vk_world.specs.Answered.{folders_by, folders_given, folders_listed, given_in};
 
 use crate::answered::KnownVersions;
-use crate::listed::{Listed, folder_at, given_at, listed_at};
+use crate::listed::{folder_at, given_at, row_meant};
 use std::alloc::Global;
 use vk_base::{Memory, Outage, PortName, TreePath};
 use vk_catalogue::{Given, Wrong};
-use vk_pages::Home;
+use vk_pages::{Home, row_folder};
+use vk_registry::{Row, Table};
 use vk_version::{Ask, Version};
+
+// A version that stands in a folder of its own is known from now on.
+fn note_own(
+    known: &mut KnownVersions,
+    port: &PortName,
+    version: &Version,
+    folder: &TreePath,
+) -> Result<(), Memory>
+    ensures ok { OnOk result
+        (folders_in known.new ≡ with_folder port.now version.now folder.now
+        (folders_in known.old)) }
+    ensures err { OnErr result (folders_in known.new ≡ folders_in known.old) }
+{
+    if known.has(port, version) {
+        return Ok(());
+    }
+    known.note(port, version, folder.clone()?)
+}
+
+// A row's version is known from now on. Its folder is joined only where it wasn't before.
+fn note_row(
+    alloc: Global,
+    known: &mut KnownVersions,
+    port: &PortName,
+    registry: &TreePath,
+    row: &Row,
+) -> Result<(), Memory>
+    ensures ok { OnOk result
+        (folders_in known.new ≡ folders_listed port.now
+        (Some (row_listed registry.now (row_view row.now))) (folders_in known.old)) }
+    ensures err { OnErr result (folders_in known.new ≡ folders_in known.old) }
+{
+    if known.has(port, &row.version) {
+        return Ok(());
+    }
+    known.note(port, &row.version, row_folder(alloc, registry, row)?)
+}
 
 // An overlay's given version is known from now on.
 fn note_given(
@@ -30,7 +70,7 @@ fn note_given(
     ensures err { OnErr result (folders_in known.new ≡ folders_in known.old) }
 {
     match given {
-        Given::Overlay(version) => known.note(port, version, folder.clone()?),
+        Given::Overlay(version) => note_own(known, port, version, folder),
         Given::Override(_) => Ok(()),
         Given::Baseline(_) => Ok(()),
     }
@@ -68,6 +108,73 @@ pub fn answer_given(
     }
 }
 
+// An overlay's version, if it is what an ask means.
+fn answer_own(
+    known: &mut KnownVersions,
+    port: &PortName,
+    folder: &TreePath,
+    version: &Version,
+    ask: &Ask,
+) -> Result<Option<Version>, Outage>
+    ensures told { IfOk result (λ v. v ≡ option_map (λ l. l.0)
+        (own_listed folder.now version.now (ask_view ask.now))) }
+    ensures ok { OnOk result
+        (folders_in known.new ≡ folders_listed port.now
+        (own_listed folder.now version.now (ask_view ask.now)) (folders_in known.old)) }
+    ensures err { OnErr result (folders_in known.new ≡ folders_in known.old) }
+    ensures calm { was_out result ≡ false }
+{
+    if version.ask() != ask {
+        return Ok(None);
+    }
+    let own = version.clone()?;
+    note_own(known, port, version, folder)?;
+    Ok(Some(own))
+}
+
+// The version of a row.
+fn answer_row(
+    alloc: Global,
+    known: &mut KnownVersions,
+    port: &PortName,
+    registry: &TreePath,
+    row: &Row,
+) -> Result<Version, Outage>
+    ensures told { IfOk result (λ v. v ≡ (row_view row.now).version) }
+    ensures ok { OnOk result
+        (folders_in known.new ≡ folders_listed port.now
+        (Some (row_listed registry.now (row_view row.now))) (folders_in known.old)) }
+    ensures err { OnErr result (folders_in known.new ≡ folders_in known.old) }
+    ensures calm { was_out result ≡ false }
+{
+    let version = row.version.clone()?;
+    note_row(alloc, known, port, registry, row)?;
+    Ok(version)
+}
+
+// The version of a registry's table that an ask means.
+fn answer_table(
+    alloc: Global,
+    known: &mut KnownVersions,
+    port: &PortName,
+    registry: &TreePath,
+    table: &Table,
+    ask: &Ask,
+) -> Result<Option<Version>, Outage>
+    ensures told { IfOk result (λ v. v ≡ option_map (λ l. l.0)
+        (table_listed registry.now table.now (ask_view ask.now))) }
+    ensures ok { OnOk result
+        (folders_in known.new ≡ folders_listed port.now
+        (table_listed registry.now table.now (ask_view ask.now)) (folders_in known.old)) }
+    ensures err { OnErr result (folders_in known.new ≡ folders_in known.old) }
+    ensures calm { was_out result ≡ false }
+{
+    match row_meant(table, ask) {
+        Some(row) => Ok(Some(answer_row(alloc, known, port, registry, row)?)),
+        None => Ok(None),
+    }
+}
+
 fn answer_version_at(
     alloc: Global,
     known: &mut KnownVersions,
@@ -83,12 +190,16 @@ fn answer_version_at(
     ensures err { OnErr result (folders_in known.new ≡ folders_in known.old) }
     ensures calm { was_out result ≡ false }
 {
-    let Some(listed) = listed_at(alloc, home, ask)? else {
-        return Ok(None);
-    };
-    let Listed { version, folder } = listed;
-    known.note(port, &version, folder)?;
-    Ok(Some(version))
+    match home {
+        Home::Overlay {
+            folder,
+            version,
+            ..
+        } => answer_own(known, port, folder, version, ask),
+        Home::Registry { folder, table, .. } => {
+            answer_table(alloc, known, port, folder, table, ask)
+        }
+    }
 }
 
 /// The version of a port that an ask means, by what was found.

@@ -10,6 +10,7 @@ mod keeping;
 mod libraries;
 mod listed;
 mod manifests;
+mod port_asks;
 mod row_manifests;
 mod settling;
 mod worlds;

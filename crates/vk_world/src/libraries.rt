@@ -15,7 +15,7 @@ ghost use Rattle.vk_world.specs.Libraries.{SaysManifestOf};
 use crate::answered::KnownVersions;
 use crate::answering::{answer_given, answer_version};
 use crate::homes::Homes;
-use crate::manifests::Manifests;
+use crate::manifests::{Manifests, shared};
 use crate::row_manifests::manifest_for;
 use std::alloc::Global;
 use std::rc::Rc;
@@ -79,7 +79,6 @@ impl Library {
         ensures there { OnOk result (IsSome (home_noted port.now self.new.homes)) }
         ensures stays { Stays self.old self.new }
         ensures known { self.new.known ≡ self.old.known }
-        ensures manifests { self.new.manifests ≡ self.old.manifests }
     {
         self.homes
             .look(alloc, &self.layout, &mut self.files, tree, port)
@@ -125,9 +124,8 @@ impl Library {
         answer_version(alloc, &mut self.known, port, found, ask)
     }
 
-    /// The manifest of the version that an ask means, or what is wrong with it. Where no version is
-    /// meant, nothing is promised.
-    pub fn manifest<T: Tree>(
+    // Reads the manifest of the version that an ask means.
+    fn read_manifest<T: Tree>(
         &mut self,
         alloc: Global,
         tree: &mut T,
@@ -143,14 +141,48 @@ impl Library {
     {
         self.look(alloc, tree, port)?;
         let found = self.homes.get(port).unwrap();
-        manifest_for(
-            alloc,
-            &mut self.files,
-            &mut self.manifests,
-            tree,
-            port,
-            found,
-            ask,
-        )
+        manifest_for(alloc, &mut self.files, tree, port, found, ask)
+    }
+
+    // Reads a manifest that is to be kept.
+    fn new_manifest<T: Tree>(
+        &mut self,
+        alloc: Global,
+        tree: &mut T,
+        port: &PortName,
+        ask: &Ask,
+    ) -> Result<Result<Rc<Manifest>, Wrong>, Outage>
+        ensures learns { Learns result
+            (SaysManifestOf (start_of self.old) port.now (ask_view ask.now)) (IsRight self.old)
+            (IsRight self.new) (held self.old.files (T.state tree.old))
+            (held self.new.files (T.state tree.new)) }
+        ensures stays { Stays self.old self.new }
+        ensures known { self.new.known ≡ self.old.known }
+    {
+        let found = self.read_manifest(alloc, tree, port, ask)?;
+        self.manifests.keep(port, ask, &found)?;
+        Ok(found)
+    }
+
+    /// The manifest of the version that an ask means, or what is wrong with it: read once, and then
+    /// kept. Where no version is meant, nothing is promised.
+    pub fn manifest<T: Tree>(
+        &mut self,
+        alloc: Global,
+        tree: &mut T,
+        port: &PortName,
+        ask: &Ask,
+    ) -> Result<Result<Rc<Manifest>, Wrong>, Outage>
+        ensures learns { Learns result
+            (SaysManifestOf (start_of self.old) port.now (ask_view ask.now)) (IsRight self.old)
+            (IsRight self.new) (held self.old.files (T.state tree.old))
+            (held self.new.files (T.state tree.new)) }
+        ensures stays { Stays self.old self.new }
+        ensures known { self.new.known ≡ self.old.known }
+    {
+        match self.manifests.get(port, ask) {
+            Some(found) => shared(found),
+            None => self.new_manifest(alloc, tree, port, ask),
+        }
     }
 }

@@ -1,51 +1,43 @@
-//! The manifests of ports that were read.
-ghost use Rattle.std.specs.Prelude.{◌≡◌, ◌<◌, ◌++◌, ◌∷◌, [], None, IsSome, OnOk, option_map};
+//! The manifests that were found.
+ghost use Rattle.std.specs.Prelude.{◌≡◌, [], IfOk, option_map, false};
 ghost use Rattle.std.specs.Option.{option_copied};
-ghost use Rattle.indexmap.specs.IndexMap.{spare};
-ghost use Rattle.vk_model.specs.Views.{manifest_view};
-ghost use Rattle.vk_catalogue.specs.Views.{manifest_said, wrong_view};
-ghost use Rattle.vk_files.specs.Readings.{ReadsAs};
-ghost use Rattle.vk_files.specs.Views.{held};
-ghost use Rattle.vk_pages.specs.Wrongs.{manifest_file};
-ghost use Rattle.vk_world.specs.Learning.{Learns, SaysNothing};
+ghost use Rattle.vk_spec.specs.Files.{Files};
+ghost use Rattle.vk_base.specs.Stops.{was_out};
+ghost use Rattle.vk_version.specs.AskViews.{ask_view};
+ghost use Rattle.vk_catalogue.specs.Views.{manifest_said};
+ghost use Rattle.vk_opening.specs.Starts.{Start};
 ghost use Rattle.vk_world.specs.ManifestNotes.{manifests_in, manifest_noted, AreManifests};
+ghost use Rattle.vk_world.specs.ManifestNotes.{IsManifestOf};
 
-use crate::keeping::keep;
-use crate::settling::settle;
+use crate::port_asks::{AskOf, PortAsk};
 use indexmap::IndexMap;
 use std::alloc::Global;
 use std::rc::Rc;
-use vk_base::{Outage, Stop, TreePath};
+use vk_base::{Outage, PortName};
 use vk_catalogue::Wrong;
-use vk_files::FileCache;
 use vk_model::Manifest;
-use vk_opening::PortFile;
-use vk_pages::content;
-use vk_tree::Tree;
+use vk_version::Ask;
 
-/// What the files of ports' manifests mean, by their paths: a manifest, or what is wrong.
+/// The manifests that were found, or what is wrong with them, by port and ask. Each was compared
+/// with its table when it was found, and stays as it is.
 #[derive(Drop)]
 pub struct Manifests {
-    found: IndexMap<TreePath, Result<Rc<Manifest>, Wrong>>,
+    found: IndexMap<PortAsk, Result<Rc<Manifest>, Wrong>>,
 }
 
-// The port's manifest at a path, to be shared.
-#[tactic(auto, using(vk_opening::proofs::OpenLemmas::reads_last, crate::proofs::LearnLemmas::reads_lacking))]
-fn shared_manifest<T: Tree>(
-    alloc: Global,
-    files: &mut FileCache,
-    tree: &mut T,
-    path: &TreePath,
-) -> Result<Rc<Manifest>, Stop<Wrong>>
-    ensures { ReadsAs wrong_view (λ m. manifest_view m.value) result (manifest_file path.now)
-        (held files.old (T.state tree.old)) (held files.new (T.state tree.new)) }
+/// What was found, once more.
+pub fn shared(found: &Result<Rc<Manifest>, Wrong>) -> Result<Result<Rc<Manifest>, Wrong>, Outage>
+    ensures told { IfOk result (λ again. manifest_said again ≡ manifest_said found.now) }
+    ensures calm { was_out result ≡ false }
 {
-    let manifest = content(alloc, files, tree, path, &PortFile)?;
-    Ok(Rc::new(alloc, manifest)?)
+    match found {
+        Ok(manifest) => Ok(Ok(manifest.clone()?)),
+        Err(wrong) => Ok(Err(wrong.clone()?)),
+    }
 }
 
 impl Manifests {
-    /// None was read yet. Takes no memory.
+    /// None was found yet. Takes no memory.
     pub fn new(alloc: Global) -> Manifests
         ensures { manifests_in result ≡ [] }
     {
@@ -54,59 +46,29 @@ impl Manifests {
         }
     }
 
-    // Keeps what was found at a path, for which there is room.
-    fn keep(&mut self, path: TreePath, manifest: Result<Rc<Manifest>, Wrong>)
-        requires room { 0 < spare self.old.found }
-        requires new { manifest_noted path self.old ≡ None }
-        ensures { manifests_in self.new ≡ manifests_in self.old ++ (path, manifest_said manifest) ∷
-            [] }
-    {
-        keep(&mut self.found, path, manifest);
-    }
-
-    // Reads the manifest at a path at which none was read yet. The room for it is taken first.
-    fn ask<T: Tree>(
+    /// Keeps what was found for a port and an ask. When memory runs out, all stays as it was.
+    pub fn keep(
         &mut self,
-        alloc: Global,
-        files: &mut FileCache,
-        tree: &mut T,
-        path: &TreePath,
+        port: &PortName,
+        ask: &Ask,
+        found: &Result<Rc<Manifest>, Wrong>,
     ) -> Result<(), Outage>
-        requires { manifest_noted path.now self.old ≡ None }
-        ensures learns { Learns result SaysNothing (AreManifests self.old) (AreManifests self.new)
-            (held files.old (T.state tree.old)) (held files.new (T.state tree.new)) }
-        ensures there { OnOk result (IsSome (manifest_noted path.now self.new)) }
+        ensures right { (start : Start) (files : Files) → AreManifests start self.old files
+            → IsManifestOf start files port.now (ask_view ask.now) (manifest_said found.now)
+            → AreManifests start self.new files }
+        ensures calm { was_out result ≡ false }
     {
-        let key = path.clone()?;
-        self.found.reserve(1)?;
-        let found = settle(shared_manifest(alloc, files, tree, path))?;
-        self.keep(key, found);
+        let key = AskOf { port, ask }.owned()?;
+        let kept = shared(found)?;
+        self.found.insert(key, kept)?;
         Ok(())
     }
 
-    /// Looks for the manifest at a path, which is read unless it was before.
-    pub fn look<T: Tree>(
-        &mut self,
-        alloc: Global,
-        files: &mut FileCache,
-        tree: &mut T,
-        path: &TreePath,
-    ) -> Result<(), Outage>
-        ensures learns { Learns result SaysNothing (AreManifests self.old) (AreManifests self.new)
-            (held files.old (T.state tree.old)) (held files.new (T.state tree.new)) }
-        ensures there { OnOk result (IsSome (manifest_noted path.now self.new)) }
+    /// What was found for a port and an ask; `None` exactly where nothing was.
+    pub fn get(&self, port: &PortName, ask: &Ask) -> Option<&Result<Rc<Manifest>, Wrong>>
+        ensures { option_map manifest_said (option_copied result)
+            ≡ manifest_noted port.now (ask_view ask.now) self.now }
     {
-        if self.found.contains_key(path) {
-            return Ok(());
-        }
-        self.ask(alloc, files, tree, path)
-    }
-
-    /// What was found at a path; `None` exactly where none was looked for.
-    pub fn get(&self, path: &TreePath) -> Option<&Result<Rc<Manifest>, Wrong>>
-        ensures { option_map manifest_said (option_copied result) ≡ manifest_noted path.now
-            self.now }
-    {
-        self.found.get(path)
+        self.found.get(AskOf { port, ask })
     }
 }

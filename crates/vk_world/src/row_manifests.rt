@@ -1,32 +1,36 @@
 //! The manifest of a version, which is read where it stands.
-ghost use Rattle.std.specs.Prelude.{◌≡◌, Ok, Err, IfOk};
+ghost use Rattle.std.specs.Prelude.{◌≡◌, Ok, Err, IfOk, false};
+ghost use Rattle.vk_spec.specs.Reading.{Gives};
 ghost use Rattle.vk_registry.specs.TableViews.{row_view};
 ghost use Rattle.vk_version.specs.AskViews.{ask_view};
 ghost use Rattle.vk_base.specs.declared.stops.Outage.TheVariants as outage;
-ghost use Rattle.vk_base.specs.Stops.{out_of_memory};
-ghost use Rattle.vk_catalogue.specs.Views.{manifest_said};
+ghost use Rattle.vk_base.specs.Stops.{out_of_memory, has_failed};
+ghost use Rattle.vk_model.specs.Views.{manifest_view};
+ghost use Rattle.vk_catalogue.specs.Views.{manifest_said, wrong_view};
+ghost use Rattle.vk_files.specs.StopViews.{fault_seen};
+ghost use Rattle.vk_files.specs.Readings.{ReadsAs};
 ghost use Rattle.vk_files.specs.Views.{held};
 ghost use Rattle.vk_opening.specs.Projects.{manifest_path};
 ghost use Rattle.vk_pages.specs.Pages.{row_folder, row_manifest};
 ghost use Rattle.vk_pages.specs.HomeViews.{home_view};
-ghost use Rattle.vk_world.specs.Learning.{Learns, Means};
+ghost use Rattle.vk_world.specs.Learning.{Learns, Means, NothingKnown};
+ghost use Rattle.vk_world.specs.Listed.{agreed, manifest_at};
 ghost use Rattle.vk_world.specs.HomeNotes.{found_home};
-ghost use Rattle.vk_world.specs.ManifestNotes.{AreManifests};
 ghost use Rattle.vk_world.specs.ManifestAnswers.{IsRowManifest, IsManifestFor};
 
-use crate::listed::{agreed, row_meant};
-use crate::manifests::Manifests;
+use crate::listed::row_meant;
+use crate::settling::settle;
 use std::alloc::Global;
 use std::rc::Rc;
-use vk_base::{Memory, Outage, PortName, TreePath};
+use vk_base::{Memory, Outage, PortName, Stop, TreePath};
 use vk_catalogue::Wrong;
 use vk_files::FileCache;
 use vk_model::Manifest;
-use vk_opening::manifest_path;
-use vk_pages::{Home, row_folder};
+use vk_opening::{PortFile, manifest_path};
+use vk_pages::{Home, agree, content, row_folder};
 use vk_registry::{Row, Table};
 use vk_tree::Tree;
-use vk_version::Ask;
+use vk_version::{Ask, Version};
 
 // Where the manifest of a row stands.
 fn row_path(alloc: Global, registry: &TreePath, row: &Row) -> Result<TreePath, Memory>
@@ -36,11 +40,44 @@ fn row_path(alloc: Global, registry: &TreePath, row: &Row) -> Result<TreePath, M
     manifest_path(alloc, &folder)
 }
 
+// A manifest that is there, to be shared, if it is that of the port and the version.
+#[tactic(auto, unfolding(crate::specs::Listed::agreed))]
+fn agreed(
+    alloc: Global,
+    path: &TreePath,
+    port: &PortName,
+    version: &Version,
+    manifest: Manifest,
+) -> Result<Rc<Manifest>, Stop<Wrong>>
+    ensures told { Gives (λ m. manifest_view m.value) (fault_seen wrong_view) result
+        (agreed path.now port.now version.now (manifest_view manifest)) }
+    ensures calm { has_failed result ≡ false }
+{
+    agree(alloc, path, port, version, &manifest)?;
+    Ok(Rc::new(alloc, manifest)?)
+}
+
+// The manifest at a path, if it is that of the port and the version.
+fn manifest_at<T: Tree>(
+    alloc: Global,
+    files: &mut FileCache,
+    tree: &mut T,
+    path: &TreePath,
+    port: &PortName,
+    version: &Version,
+) -> Result<Rc<Manifest>, Stop<Wrong>>
+    ensures { ReadsAs wrong_view (λ m. manifest_view m.value) result
+        (manifest_at path.now port.now version.now)
+        (held files.old (T.state tree.old)) (held files.new (T.state tree.new)) }
+{
+    let manifest = content(alloc, files, tree, path, &PortFile)?;
+    agreed(alloc, path, port, version, manifest)
+}
+
 // The manifest of a row, or what is wrong with it.
 fn row_manifest<T: Tree>(
     alloc: Global,
     files: &mut FileCache,
-    manifests: &mut Manifests,
     tree: &mut T,
     port: &PortName,
     registry: &TreePath,
@@ -48,13 +85,11 @@ fn row_manifest<T: Tree>(
 ) -> Result<Result<Rc<Manifest>, Wrong>, Outage>
     ensures { Learns result
         (Means manifest_said (row_manifest port.now registry.now (row_view row.now)))
-        (AreManifests manifests.old) (AreManifests manifests.new)
+        NothingKnown NothingKnown
         (held files.old (T.state tree.old)) (held files.new (T.state tree.new)) }
 {
     let path = row_path(alloc, registry, row)?;
-    manifests.look(alloc, files, tree, &path)?;
-    let found = manifests.get(&path).unwrap();
-    agreed(alloc, &path, port, &row.version, found)
+    settle(manifest_at(alloc, files, tree, &path, port, &row.version))
 }
 
 // The answer where there is no manifest to answer, which no caller asks for.
@@ -68,7 +103,6 @@ fn no_answer<X>() -> Result<X, Outage>
 fn table_manifest<T: Tree>(
     alloc: Global,
     files: &mut FileCache,
-    manifests: &mut Manifests,
     tree: &mut T,
     port: &PortName,
     registry: &TreePath,
@@ -76,11 +110,11 @@ fn table_manifest<T: Tree>(
     ask: &Ask,
 ) -> Result<Result<Rc<Manifest>, Wrong>, Outage>
     ensures { Learns result (IsRowManifest port.now registry.now table.now (ask_view ask.now))
-        (AreManifests manifests.old) (AreManifests manifests.new)
+        NothingKnown NothingKnown
         (held files.old (T.state tree.old)) (held files.new (T.state tree.new)) }
 {
     match row_meant(table, ask) {
-        Some(row) => row_manifest(alloc, files, manifests, tree, port, registry, row),
+        Some(row) => row_manifest(alloc, files, tree, port, registry, row),
         None => no_answer(),
     }
 }
@@ -89,20 +123,19 @@ fn table_manifest<T: Tree>(
 fn home_manifest<T: Tree>(
     alloc: Global,
     files: &mut FileCache,
-    manifests: &mut Manifests,
     tree: &mut T,
     port: &PortName,
     home: &Home,
     ask: &Ask,
 ) -> Result<Result<Rc<Manifest>, Wrong>, Outage>
     ensures { Learns result (IsManifestFor port.now (Ok (home_view home.now)) (ask_view ask.now))
-        (AreManifests manifests.old) (AreManifests manifests.new)
+        NothingKnown NothingKnown
         (held files.old (T.state tree.old)) (held files.new (T.state tree.new)) }
 {
     match home {
         Home::Overlay { manifest, .. } => Ok(Ok(manifest.clone()?)),
         Home::Registry { folder, table, .. } => {
-            table_manifest(alloc, files, manifests, tree, port, folder, table, ask)
+            table_manifest(alloc, files, tree, port, folder, table, ask)
         }
     }
 }
@@ -112,18 +145,17 @@ fn home_manifest<T: Tree>(
 pub fn manifest_for<T: Tree>(
     alloc: Global,
     files: &mut FileCache,
-    manifests: &mut Manifests,
     tree: &mut T,
     port: &PortName,
     found: &Result<Home, Wrong>,
     ask: &Ask,
 ) -> Result<Result<Rc<Manifest>, Wrong>, Outage>
     ensures { Learns result (IsManifestFor port.now (found_home found.now) (ask_view ask.now))
-        (AreManifests manifests.old) (AreManifests manifests.new)
+        NothingKnown NothingKnown
         (held files.old (T.state tree.old)) (held files.new (T.state tree.new)) }
 {
     match found {
-        Ok(home) => home_manifest(alloc, files, manifests, tree, port, home, ask),
+        Ok(home) => home_manifest(alloc, files, tree, port, home, ask),
         Err(_) => no_answer(),
     }
 }

@@ -1,7 +1,7 @@
 use Rattle.vk_version.specs.AskViews.{ask_view}
 use Rattle.vk_files.specs.Views.{held}
 use Rattle.vk_world.specs.ManifestAnswers.{IsRowManifest}
-use Rattle.vk_world.specs.ManifestNotes.{AreManifests}
+use Rattle.vk_world.specs.Learning.{NothingKnown}
 use Rattle.vk_world.proofs.LearnLemmas.{learns_memory}
 use Rattle.vk_world.proofs.row_manifests.table_manifest.Goals as goal
 
@@ -9,4 +9,4 @@ pub returns-in-None : goal.returns-in-None
 returns-in-None g c =
     rw c.no_answer.ensures
     (learns_memory (IsRowManifest c.args.port.now c.args.registry.now c.args.table.now (ask_view c.args.ask.now))
-    (AreManifests c.args.manifests.now) (held c.args.files.now (g.T.Tree.state c.args.tree.now)))
+    NothingKnown (held c.args.files.now (g.T.Tree.state c.args.tree.now)))

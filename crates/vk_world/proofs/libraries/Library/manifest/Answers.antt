@@ -1,13 +1,11 @@
 use Rattle.std.proofs.Common.{◌∙◌, sym, ap}
 use Rattle.std.specs.Prelude.{option_map}
 use Rattle.std.specs.Option.{option_copied}
-use Rattle.vk_version.specs.AskViews.{ask_view}
-use Rattle.vk_world.specs.HomeNotes.{found_home}
-use Rattle.vk_world.proofs.LibraryLemmas.{manifest_learned}
+use Rattle.vk_catalogue.specs.Views.{manifest_said}
+use Rattle.vk_world.proofs.LibraryLemmas.{manifest_again}
 use Rattle.vk_world.proofs.libraries.Library.manifest.Goals as goal
 
-pub returns-clause-learns : goal.returns-clause-learns
-returns-clause-learns g c =
-    manifest_learned c.args.port.now (ask_view c.args.ask.now) c.manifest_for.new.files c.manifest_for.new.manifests (found_home c.unwrap-found.result.now) c.in_ok-look.ensures.learns c.in_ok-look.ensures.stays
-    (sym c.get.ensures ∙ ap (λ o. option_map found_home (option_copied o)) c.unwrap-found.ensures)
-    c.manifest_for.ensures
+pub returns-in-Some-clause-learns : goal.returns-in-Some-clause-learns
+returns-in-Some-clause-learns g c =
+    manifest_again c.args.self.now c.args.port.now _ c.args.ask.now (manifest_said c.in-Some.found.now)
+    (sym c.get.ensures ∙ ap (λ o. option_map manifest_said (option_copied o)) c.in-Some.is) c.shared.ensures.told c.shared.ensures.calm
