@@ -3,6 +3,7 @@ mod NoteLemmas
 mod LevelLemmas
 mod EndLemmas
 mod TickLemmas
+pub mod PlaceLemmas
 mod RowLemmas
 mod LineLemmas
 mod JoinLemmas

@@ -12,7 +12,7 @@ ghost use Rattle.vk_worklist.specs.Entries.{reasons_in, facts_in};
 ghost use Rattle.vk_worklist.specs.Rows.{needs_of, floors_of, is_need_of, is_floor_at};
 ghost use Rattle.vk_worklist.specs.Joining.{to_visit, at_need, joined};
 
-use crate::rows::{Row, add_floor, add_need, floors_of, needs_of};
+use crate::rows::{Row, add_floor, add_need, floors_at, needs_at, see_to_row};
 use indexmap::IndexMap;
 use std::alloc::{AllocError, Global};
 use vk_base::{FeatureName, Instance, PortName};
@@ -157,15 +157,9 @@ fn join_need(
     ensures floors { OnOk result ((p : List ℕ) →
         floors_of ports.new.entries p ≡ floors_of ports.old.entries p) }
 {
-    visit_floors(
-        lines,
-        inst,
-        feature,
-        line,
-        floors_of(ports, &inst.port),
-        brought,
-    )?;
-    add_need(alloc, ports, &inst.port, line)?;
+    let place = see_to_row(alloc, ports, &inst.port)?;
+    visit_floors(lines, inst, feature, line, floors_at(ports, place), brought)?;
+    add_need(ports, place, line)?;
     Ok(())
 }
 
@@ -187,8 +181,9 @@ fn join_floor(
     ensures floors { OnOk result ((p : List ℕ) → floors_of ports.new.entries p
         ≡ floors_of ports.old.entries p ++ (if bytes_eq port.now p then line ∷ [] else [])) }
 {
-    visit_needs(lines, ask, line, needs_of(ports, port), brought)?;
-    add_floor(alloc, ports, port, line)?;
+    let place = see_to_row(alloc, ports, port)?;
+    visit_needs(lines, ask, line, needs_at(ports, place), brought)?;
+    add_floor(ports, place, line)?;
     Ok(())
 }
 

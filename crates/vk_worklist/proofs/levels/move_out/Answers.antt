@@ -1,7 +1,6 @@
 use Rattle.std.proofs.Common.{◌∙◌, ◌∷◌, ◌++◌, [], ap, sym}
 use Rattle.std.specs.Prelude.{reverse}
-use Rattle.std.proofs.lemmas.List.{append_assoc, append-nil}
-use Rattle.vk_worklist.proofs.NoteLemmas.{nothing_left}
+use Rattle.std.proofs.lemmas.List.{append_assoc}
 use Rattle.vk_worklist.proofs.LevelLemmas.{turned_last}
 use Rattle.vk_worklist.proofs.levels.move_out.Goals as goal
 

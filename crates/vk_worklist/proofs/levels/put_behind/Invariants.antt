@@ -1,4 +1,4 @@
-use Rattle.std.proofs.Common.{◌≡◌, ◌++◌, length}
+use Rattle.std.proofs.Common.{◌≡◌, length}
 use Rattle.std.specs.Prelude.{reverse}
 use Rattle.indexmap.specs.IndexMap.{insert_all}
 use Rattle.vk_worklist.specs.Orders.{is_same}

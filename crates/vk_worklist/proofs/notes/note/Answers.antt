@@ -1,8 +1,8 @@
-use Rattle.std.proofs.Common.{◌∷◌, [], inl, refl, sym, subst}
+use Rattle.std.proofs.Common.{inl, refl}
 use Rattle.vk_resolution.proofs.ClosingLemmas.{reasons_known}
 use Rattle.vk_worklist.specs.Entries.{reason_of, reasons_in, facts_in}
 use Rattle.vk_worklist.proofs.MapLemmas.{absent}
-use Rattle.vk_worklist.proofs.NoteLemmas.{noted_first, noted_few, one_too_many, done_means, done_both}
+use Rattle.vk_worklist.proofs.NoteLemmas.{noted_first, noted_few, one_too_many, done_both}
 use Rattle.vk_worklist.proofs.notes.note.Goals as goal
 
 pub returns-then-has-clause-ok : goal.returns-then-has-clause-ok
