@@ -15,7 +15,7 @@ use Rattle.vk_spec.specs.Pages as plain
 use Rattle.vk_files.specs.Kept.{paths_of, IsOf, Held}
 use Rattle.vk_base.specs.Stops.{has_failed}
 use Rattle.vk_files.specs.StopViews.{fault_seen}
-use Rattle.vk_files.specs.Readings.{ReadsAs, ReadsNoting}
+use Rattle.vk_files.specs.Readings.{ReadsNoting}
 use Rattle.vk_base.specs.declared.memory.Memory.{Memory}
 use Rattle.vk_base.specs.declared.stops.Stop.{Stop}
 use Rattle.vk_base.specs.declared.stops.Stop.TheVariants as stop
@@ -23,11 +23,6 @@ use Rattle.vk_files.proofs.OnceLemmas.{nothing_read, once_then}
 use Rattle.vk_files.proofs.ReadLemmas.{still_right}
 use Rattle.vk_spec.proofs.OptionLemmas.{of_each, of_both}
 use Rattle.vk_world.specs.Learning.{Learns, Means, settled}
-
--- files were read, and then memory ran out
-pub reads_lacking : {X Y Z W F P : Type 0} {refusal : F → P} {view : X → Y} {x : X} {meaning : Files → Result Y P} {a b : Held} {m : Memory} (next_view : Z → W) (whole : Files → Result W P)
-    → ReadsAs refusal view (Ok x) meaning a b → ReadsAs {X = Z} refusal next_view (Err (stop.Memory m)) whole a b
-reads_lacking {a = a} next_view whole one = record { once = one.once; content = of_each a.tree.told (λ t _. tt) }
 
 -- what reading gives is what is answered, also where it is refused
 settled_means : {X Y : Type 0} (view : X → Y) (answer : Result X (Stop Wrong)) (read : Result Y plain.Wrong) → Gives view (fault_seen wrong_view) answer read → IfOk (settled answer) (λ x. or_wrong view x ≡ read)

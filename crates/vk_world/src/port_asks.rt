@@ -63,9 +63,11 @@ impl<'a> AskOf<'a> {
 }
 
 impl<'a> PartialEq for AskOf<'a> {
-    ghost eq = { λ a b. same_asked a.port.now (ask_view a.ask.now) b.port.now (ask_view b.ask.now) };
+    ghost eq = { λ a b. same_asked a.port.now (ask_view a.ask.now)
+        b.port.now (ask_view b.ask.now) };
 
-    ghost laws = { partial_equiv_from_equiv (asked_laws (λ a. a.port.now) (λ a. ask_view a.ask.now)) };
+    ghost laws = { partial_equiv_from_equiv
+        (asked_laws (λ a. a.port.now) (λ a. ask_view a.ask.now)) };
 
     fn eq(&self, other: &AskOf) -> bool {
         same_asked(self, other)
@@ -79,7 +81,8 @@ impl<'a> Eq for AskOf<'a> {
 impl<'a> Hash for AskOf<'a> {
     ghost hash_input = { λ a. asked_fed a.port.now (ask_view a.ask.now) };
 
-    ghost respects_eq = { λ a b. asked_hashed a.port.now (ask_view a.ask.now) b.port.now (ask_view b.ask.now) };
+    ghost respects_eq = { λ a b. asked_hashed a.port.now (ask_view a.ask.now)
+        b.port.now (ask_view b.ask.now) };
 
     fn hash<H: Hasher>(&self, state: &mut H) {
         self.port.hash(state);
@@ -113,11 +116,14 @@ impl Hash for PortAsk {
 }
 
 impl<'a> Equivalent<PortAsk> for AskOf<'a> {
-    ghost equivalent = { λ a b. same_asked a.port.now (ask_view a.ask.now) b.port (ask_view b.ask) };
+    ghost equivalent = { λ a b. same_asked a.port.now (ask_view a.ask.now)
+        b.port (ask_view b.ask) };
 
-    ghost respects_hash = { λ a b. asked_hashed a.port.now (ask_view a.ask.now) b.port (ask_view b.ask) };
+    ghost respects_hash = { λ a b. asked_hashed a.port.now (ask_view a.ask.now)
+        b.port (ask_view b.ask) };
 
-    ghost respects_eq = { λ a b c. asked_respected a.port.now (ask_view a.ask.now) b.port (ask_view b.ask) c.port (ask_view c.ask) };
+    ghost respects_eq = { λ a b c. asked_respected a.port.now (ask_view a.ask.now)
+        b.port (ask_view b.ask) c.port (ask_view c.ask) };
 
     fn equivalent(&self, key: &PortAsk) -> bool {
         same_asked(self, &key.lent())
