@@ -30,16 +30,25 @@ use vk_faults::first_faults;
 use vk_model::{Cause, Closure, Fact, Fault, Reason, Setting};
 use vk_worklist::{CloseFault, Joins, close_from};
 
-// The lines of a worklist as reasons.
+// Moves the lines of a worklist, as reasons, into an empty vector.
+fn moved_to(mut reasons: Vec<Reason>, lines: IndexMap<Fact, Cause>) -> Result<List<Reason>, Memory>
+    requires { reasons.items ≡ [] }
+    ensures reasons { IfOk result (λ moved. reasons_view moved ≡ reasons_in lines.entries) }
+    ensures len { IfOk result (λ moved. length moved ≡ length lines.entries) }
+{
+    for (fact, cause) in lines {
+        reasons.push(Reason { fact, cause })?;
+    }
+    Ok(List::from_vec(reasons))
+}
+
+// The lines of a worklist as reasons, in a vector that has their size.
 fn reasons_of(alloc: Global, lines: IndexMap<Fact, Cause>) -> Result<List<Reason>, Memory>
     ensures reasons { IfOk result (λ reasons. reasons_view reasons ≡ reasons_in lines.entries) }
     ensures len { IfOk result (λ reasons. length reasons ≡ length lines.entries) }
 {
-    let mut reasons = List::new(alloc);
-    for (fact, cause) in lines {
-        reasons.push(Reason { fact, cause })?;
-    }
-    Ok(reasons)
+    let reasons = Vec::with_capacity(alloc, lines.len())?;
+    moved_to(reasons, lines)
 }
 
 // The lines of the first phase, of which there are none where nothing was wrong.

@@ -1,7 +1,6 @@
 //! What facts bring up alone, asked of a catalogue.
-ghost use Rattle.std.specs.Prelude.{◌≡◌, ◌+◌, ◌≤◌, ◌++◌, [], true, List, IfOk, IsSome, OnOk};
-ghost use Rattle.std.specs.Prelude.{bytes_eq, flat_map, map, option_map};
-ghost use Rattle.std.specs.Map.{lookup};
+ghost use Rattle.std.specs.Prelude.{◌≡◌, ◌+◌, ◌≤◌, ◌<◌, ◌++◌, [], true, List, IfOk, OnOk};
+ghost use Rattle.std.specs.Prelude.{flat_map, length, map, option_map};
 ghost use Rattle.vk_spec.specs.Pages.{manifest_in};
 ghost use Rattle.vk_spec.specs.Catalogues.{OnlyAsked, OnPages, CanAskManifest};
 ghost use Rattle.vk_base.specs.Stops.{was_out};
@@ -25,12 +24,13 @@ ghost use Rattle.vk_close.specs.Known.{given_in};
 ghost use Rattle.vk_close.specs.Steps.{asked_on, given_on};
 ghost use Rattle.vk_worklist.specs.Alone.{Follows, alone_at, joins};
 ghost use Rattle.vk_worklist.specs.Entries.{reasons_in};
+ghost use Rattle.vk_worklist.specs.Places.{IsPlace};
 ghost use Rattle.vk_worklist.specs.Ticks.{tick_of};
 
 use crate::floors::{find, is_base, is_clear, is_visited};
 use crate::known::Known;
 use crate::pins::Overrides;
-use crate::ports::{known_of, see_to_port};
+use crate::ports::see_to_port;
 use crate::steps::{push_all, push_given};
 use indexmap::IndexMap;
 use std::alloc::Global;
@@ -40,7 +40,7 @@ use vk_catalogue::Catalogue;
 use vk_model::{Cause, Fact, Manifest, Setting, Who};
 use vk_rules::Rules;
 use vk_version::{Ask, Version};
-use vk_worklist::Asker;
+use vk_worklist::{Asker, value_at};
 
 /// What is asked of a catalogue for the closure of a setting, the given version of each port once.
 /// It is clean as long as nothing is wrong with any fact that was asked about.
@@ -128,15 +128,15 @@ impl<'a> PageAsker<'a> {
         push_all(&self.overrides, &mut self.ports, cat, facts, line, brought)
     }
 
-    // Sees to it that a port is known.
-    fn see_to<C: Catalogue>(&mut self, cat: &mut C, port: &PortName) -> Result<(), Outage>
+    // Sees to it that a port is known, and tells its place.
+    fn see_to<C: Catalogue>(&mut self, cat: &mut C, port: &PortName) -> Result<usize, Outage>
         requires kept { OnPages (λ pages. IsKept self.old pages) (C.state cat.old) }
         ensures setting { self.new.setting ≡ self.old.setting }
         ensures clean { self.new.clean ≡ self.old.clean }
         ensures asked { OnlyAsked (was_out result) (C.state cat.old) (C.state cat.new) }
         ensures kept { OnOk result (OnPages (λ pages. IsKept self.new pages) (C.state cat.old)) }
-        ensures there { OnOk result
-            (IsSome (lookup (bytes_eq port.now) self.new.ports.entries)) }
+        ensures there { IfOk result (IsPlace self.new.ports.entries port.now) }
+        ensures within { IfOk result (λ place. place < length self.new.ports.entries) }
     {
         see_to_port(&self.overrides, &mut self.ports, cat, port)
     }
@@ -162,8 +162,8 @@ impl<'a> PageAsker<'a> {
             clear ≡ true → given_troubles port.now (pages port.now).given ≡ [])
             (C.state cat.old)) }
     {
-        self.see_to(cat, port)?;
-        let known = known_of(&self.ports, port);
+        let place = self.see_to(cat, port)?;
+        let known = value_at(&self.ports, place);
         push_given(port, &known.given, line, brought)?;
         Ok(known.given.is_some())
     }
@@ -188,8 +188,8 @@ impl<'a> PageAsker<'a> {
             (row_in (pages port.now).rows (ask_view ask.now)) (pages port.now).given ≡ [])
             (C.state cat.old)) }
     {
-        self.see_to(cat, port)?;
-        let known = known_of(&self.ports, port);
+        let place = self.see_to(cat, port)?;
+        let known = value_at(&self.ports, place);
         if is_base(&known.given, ask) {
             return Ok(seen_floor(known, ask, &known.base));
         }

@@ -1,10 +1,11 @@
 //! What is known of the ports that were asked about: each is asked about once.
-ghost use Rattle.std.specs.Prelude.{◌≡◌, ℕ, List, IsSome, Some, OnOk, bytes_eq, map};
-ghost use Rattle.std.specs.Prelude.{if◌then◌else◌};
+ghost use Rattle.std.specs.Prelude.{◌≡◌, ◌<◌, ℕ, List, IsSome, Some, OnOk, IfOk, bytes_eq, map};
+ghost use Rattle.std.specs.Prelude.{length, if◌then◌else◌};
 ghost use Rattle.std.specs.Map.{lookup};
 ghost use Rattle.vk_spec.specs.Catalogues.{OnlyAsked, OnPages};
 ghost use Rattle.vk_base.specs.Stops.{was_out};
 ghost use Rattle.vk_model.specs.Views.{override_view};
+ghost use Rattle.vk_worklist.specs.Places.{IsPlace};
 ghost use Rattle.vk_close.specs.Known.{AreKnown};
 
 use crate::known::{Known, ask_port};
@@ -13,6 +14,7 @@ use crate::pins::Overrides;
 use indexmap::IndexMap;
 use vk_base::{Memory, Outage, PortName};
 use vk_catalogue::Catalogue;
+use vk_worklist::place_of;
 
 fn put(ports: &mut IndexMap<PortName, Known>, key: PortName, known: Known) -> Result<(), Memory>
     ensures { OnOk result ((p : List ℕ) → lookup (bytes_eq p) ports.new.entries
@@ -57,32 +59,26 @@ fn ask_new<C: Catalogue>(
     Ok(())
 }
 
-/// Sees to it that a port is known.
+/// Sees to it that a port is known, and tells its place among those that are.
 pub(crate) fn see_to_port<C: Catalogue>(
     overrides: &Overrides<'_>,
     ports: &mut IndexMap<PortName, Known>,
     cat: &mut C,
     port: &PortName,
-) -> Result<(), Outage>
+) -> Result<usize, Outage>
     requires known { OnPages
         (λ pages. AreKnown (map override_view overrides.now) pages ports.old.entries)
         (C.state cat.old) }
     ensures asked { OnlyAsked (was_out result) (C.state cat.old) (C.state cat.new) }
-    ensures there { OnOk result (IsSome (lookup (bytes_eq port.now) ports.new.entries)) }
+    ensures there { IfOk result (IsPlace ports.new.entries port.now) }
+    ensures within { IfOk result (λ place. place < length ports.new.entries) }
     ensures known { OnOk result (OnPages
         (λ pages. AreKnown (map override_view overrides.now) pages ports.new.entries)
         (C.state cat.old)) }
 {
-    if ports.contains_key(port) {
-        return Ok(());
+    if let Some(place) = place_of(ports, port) {
+        return Ok(place);
     }
-    ask_new(overrides, ports, cat, port)
-}
-
-/// What is known of a port.
-pub(crate) fn known_of<'a>(ports: &'a IndexMap<PortName, Known>, port: &PortName) -> &'a Known
-    requires { IsSome (lookup (bytes_eq port.now) ports.now.entries) }
-    ensures { lookup (bytes_eq port.now) ports.now.entries ≡ Some result.now }
-{
-    ports.get(port).unwrap()
+    ask_new(overrides, ports, cat, port)?;
+    Ok(place_of(ports, port).unwrap())
 }

@@ -14,11 +14,12 @@ ghost use Rattle.vk_worklist.specs.Entries.{reasons_in};
 use crate::known::Known;
 use crate::names::copy_of;
 use crate::pins::Overrides;
-use crate::ports::{known_of, see_to_port};
+use crate::ports::see_to_port;
 use indexmap::IndexMap;
 use vk_base::{List, Memory, Outage, PortName};
 use vk_catalogue::Catalogue;
 use vk_model::{Cause, Fact, Given};
+use vk_worklist::value_at;
 
 // Whether a port is pinned.
 fn is_pinned<C: Catalogue>(
@@ -38,8 +39,8 @@ fn is_pinned<C: Catalogue>(
         ≡ is_pinned_by (map override_view overrides.now) port.now (pages port.now).given)
         (C.state cat.old)) }
 {
-    see_to_port(overrides, ports, cat, port)?;
-    Ok(known_of(ports, port).pinned)
+    let place = see_to_port(overrides, ports, cat, port)?;
+    Ok(value_at(ports, place).pinned)
 }
 
 // Whether what a manifest asks for falls away: the floor of a pinned port does.
