@@ -16,7 +16,7 @@ ghost use Rattle.vk_base.specs.FeatureViews.{feature_view, IsNamed};
 
 use crate::names::{NameFault, WORD, read_name};
 use crate::stops::Unread;
-use crate::texts::Text;
+use crate::shared_texts::SharedText;
 use std::alloc::{AllocError, Global};
 use std::cmp::Ordering;
 use std::fmt;
@@ -34,7 +34,7 @@ fn is_reserved(text: &str) -> bool
 /// and its order is theirs.
 #[derive(Clone, PartialEq, Eq, PartialOrd, Ord, Hash, Drop)]
 pub struct NamedFeature {
-    text: Text,
+    text: SharedText,
 }
 
 impl Model for NamedFeature {

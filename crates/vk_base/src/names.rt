@@ -14,7 +14,7 @@ ghost use Rattle.vk_base.specs.FeatureViews.{feature_view};
 use crate::features::FeatureName;
 use crate::instances::Instance;
 use crate::stops::Unread;
-use crate::texts::Text;
+use crate::shared_texts::SharedText;
 use std::alloc::Global;
 use std::fmt;
 use std::hash::Hash;
@@ -111,12 +111,12 @@ fn name_fault_at(rule: Rule, bytes: &[u8]) -> Option<usize>
     }
 }
 
-pub(crate) fn read_name(alloc: Global, rule: Rule, text: &str) -> Result<Text, Unread<NameFault>>
+pub(crate) fn read_name(alloc: Global, rule: Rule, text: &str) -> Result<SharedText, Unread<NameFault>>
     ensures { Gives (λ t. t) fault_in result (reads_name (rule_of rule) text.now) }
 {
     match name_fault_at(rule, text.as_bytes()) {
         Some(at) => Err(Unread::Fault(NameFault::Bad { at: at as u32 })),
-        None => Ok(Text::from_str(alloc, text)?),
+        None => Ok(SharedText::from_str(alloc, text)?),
     }
 }
 
@@ -124,7 +124,7 @@ pub(crate) fn read_name(alloc: Global, rule: Rule, text: &str) -> Result<Text, U
 /// Contracts see it as its bytes, and its order is theirs.
 #[derive(Clone, PartialEq, Eq, PartialOrd, Ord, Hash, Drop)]
 pub struct PortName {
-    text: Text,
+    text: SharedText,
 }
 
 impl Model for PortName {
@@ -174,7 +174,7 @@ impl fmt::Display for PortName {
 /// Contracts see it as its bytes, and its order is theirs.
 #[derive(Clone, PartialEq, Eq, PartialOrd, Ord, Hash, Drop)]
 pub struct TripletName {
-    text: Text,
+    text: SharedText,
 }
 
 impl Model for TripletName {
@@ -224,7 +224,7 @@ impl fmt::Display for TripletName {
 /// with no `-` in front. Contracts see it as its bytes, and its order is theirs.
 #[derive(Clone, PartialEq, Eq, PartialOrd, Ord, Hash, Drop)]
 pub struct AgentName {
-    text: Text,
+    text: SharedText,
 }
 
 impl Model for AgentName {

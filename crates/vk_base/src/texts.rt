@@ -102,7 +102,7 @@ impl Text {
     }
 }
 
-fn is_same(one: &str, other: &str) -> bool
+pub(crate) fn is_same(one: &str, other: &str) -> bool
     ensures { IsTrue result ↔ (one.now ≡ other.now) }
 {
     one == other

@@ -19,7 +19,7 @@ mem_schedule m = m.schedule
 
 -- it was made over no tree, and its versions stand nowhere
 abbrev pub no_origin : Origin
-no_origin = record { told = None; changes = 0; opened = []; places = λ port v. None }
+no_origin = record { told = None; changes = 0; opened = []; places = λ port v. None; page_paths = λ port. [] }
 
 -- what is known of it
 abbrev pub mem_state : MemCatalogue → CatalogueState Condition

@@ -26,7 +26,7 @@ ghost use Rattle.vk_fields.specs.Saying.{said_here};
 use crate::wording::said;
 use serde_json::Value;
 use std::alloc::Global;
-use vk_base::{FeatureName, Memory, PortName, Text, TreePath, Unread};
+use vk_base::{FeatureName, Memory, PortName, SharedText, TreePath, Unread};
 use vk_expr::{Expr, ExprFault};
 use vk_json::{FileFault, Reader, text};
 use vk_version::{Ask, Scheme, VersionFault, read, read_ask};
@@ -171,7 +171,7 @@ pub struct PlainText;
 
 #[tactic(auto, using(crate::proofs::Saying::said_gives))]
 impl Reader for PlainText {
-    type Out = Text;
+    type Out = SharedText;
 
     ghost Plain = { List ℕ };
 
@@ -179,7 +179,7 @@ impl Reader for PlainText {
 
     ghost reads = { λ r. plain_at };
 
-    fn read(&self, alloc: Global, value: &Value) -> Result<Text, Unread<FileFault>> {
+    fn read(&self, alloc: Global, value: &Value) -> Result<SharedText, Unread<FileFault>> {
         said(alloc, read_plain(alloc, text(alloc, value)?))
     }
 }
@@ -233,11 +233,11 @@ fn judge_plain(alloc: Global, text: &str) -> Result<(), Unread<VersionFault>>
 }
 
 #[tactic(auto, using(crate::proofs::Saying::kept_by_any, crate::proofs::Saying::broken_for_any))]
-fn read_plain(alloc: Global, text: &str) -> Result<Text, Unread<VersionFault>>
+fn read_plain(alloc: Global, text: &str) -> Result<SharedText, Unread<VersionFault>>
     ensures { Gives (λ t. t) fault_in result (reads_plain text.now) }
 {
     judge_plain(alloc, text)?;
-    Ok(Text::from_str(alloc, text)?)
+    Ok(SharedText::from_str(alloc, text)?)
 }
 
 fn has_hash(text: &str) -> bool

@@ -3,7 +3,7 @@
 
 use std::alloc::Global;
 use std::rc::Rc;
-use vk_base::{List, Memory, PortName, Text, Unread};
+use vk_base::{List, Memory, PortName, SharedText, Unread};
 use vk_catalogue::{MemCatalogue, Page, PageRow};
 use vk_expr::Expr;
 use vk_model::{Dependency, Given, Manifest};
@@ -32,7 +32,7 @@ fn port_of(alloc: Global, number: u64) -> Result<PortName, Unmade> {
 
 fn ask_of(alloc: Global, text: &str) -> Result<Ask, Memory> {
     Ok(Ask {
-        text: Text::from_str(alloc, text)?,
+        text: SharedText::from_str(alloc, text)?,
         port: 0,
     })
 }

@@ -4,6 +4,7 @@ pub mod Wrongs
 pub mod Agreement
 pub mod Homes
 pub mod Pages
+pub mod Asked
 -- what functions, laws and examples say besides
 pub mod BaselineNotes
 pub mod HomeViews

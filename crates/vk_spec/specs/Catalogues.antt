@@ -75,6 +75,8 @@ pub record Origin : Type 0 where
   pub opened : List Path
   -- where versions stand, where the pages are told
   pub places : Places
+  -- the paths of which a port's page may be read, where files are told
+  pub page_paths : List ℕ → List Path
 
 pub record CatalogueState (C : Type 0) : Type 0 where
   -- the page of each port, where it tells them

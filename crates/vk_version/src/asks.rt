@@ -14,7 +14,7 @@ use crate::numbers::is_number;
 use crate::plains::is_plain;
 use std::alloc::{AllocError, Global};
 use std::fmt;
-use vk_base::{Memory, Text, TokenOf, Unread, read_u32};
+use vk_base::{Memory, SharedText, Text, TokenOf, Unread, read_u32};
 
 /// What a minimum, a baseline entry or an override asks for: a version's text without a scheme, and
 /// a port-version. A port's versions table says which version it means. It is printed as its text's
@@ -22,7 +22,7 @@ use vk_base::{Memory, Text, TokenOf, Unread, read_u32};
 #[derive(PartialEq, Eq, PartialOrd, Ord, Hash, Drop)]
 pub struct Ask {
     /// The version's text.
-    pub text: Text,
+    pub text: SharedText,
     /// The port-version.
     pub port: u32,
 }
@@ -58,12 +58,12 @@ impl Clone for Ask {
 }
 
 // Reads what stands before a hash.
-fn read_plain(alloc: Global, text: &str) -> Result<Text, Unread<VersionFault>>
+fn read_plain(alloc: Global, text: &str) -> Result<SharedText, Unread<VersionFault>>
     ensures { Gives (λ t. t) fault_in result
         (unless (fault_unless fault.Shape (is_plain text.now)) text.now) }
 {
     if is_plain(text.as_bytes()) {
-        Ok(Text::from_str(alloc, text)?)
+        Ok(SharedText::from_str(alloc, text)?)
     } else {
         Err(Unread::Fault(VersionFault::Shape))
     }

@@ -21,7 +21,7 @@ use std::alloc::{AllocError, Global};
 use std::cmp::Ordering;
 use std::hash::{Hash, Hasher};
 use std::marker::Model;
-use vk_base::{List, Text, Unread};
+use vk_base::{List, SharedText, Unread};
 
 /// A version: a class, a text and a port-version. Two are the same where these three are.
 /// It keeps the parsed parts of its text, so that comparing never reads a text again.
@@ -56,7 +56,7 @@ impl Version {
     }
 
     /// The text that was read, as it was written: some scheme reads it.
-    pub fn text(&self) -> &Text
+    pub fn text(&self) -> &SharedText
         ensures text { result.now ≡ self.now.text }
         ensures version { IsVersion self.now }
     {
@@ -99,7 +99,7 @@ pub(crate) fn with_parts(
     requires { Keeps (version_of (class_view class) text.now port) numbers (pre_text pre) }
     ensures { Gives (λ v. v) fault_in result (Ok (version_of (class_view class) text.now port)) }
 {
-    let text = Text::from_str(alloc, text)?;
+    let text = SharedText::from_str(alloc, text)?;
     Ok(Version {
         class,
         ask: Ask { text, port },

@@ -24,7 +24,7 @@ use Rattle.vk_pages.specs.HomeViews.{layout_view}
 use Rattle.vk_pages.specs.Pages.{page_of}
 use Rattle.vk_world.specs.Learning.{Learns}
 use Rattle.vk_world.specs.Libraries.{start_of, IsRight, Stays}
-use Rattle.vk_world.specs.Worlds.{paths_in, opened_in, asked_since, log_before, without_asked, places_in}
+use Rattle.vk_world.specs.Worlds.{paths_in, opened_in, asked_since, log_before, without_asked, places_in, page_paths_in}
 use Rattle.vk_world.specs.Worlds.{origin_on, learned_view, world_state, IsSoundOn, IsSound, IsReadSince}
 use Rattle.vk_world.specs.declared.libraries.Library.{Library}
 
@@ -96,6 +96,10 @@ places_stay : (start : Start) (asked : List Path) (o : Option Told) → places_i
 places_stay start asked None = refl
 places_stay start asked (Some t) = refl
 
+paths_stay : (start : Start) (asked : List Path) (o : Option Told) → page_paths_in start (with_asked asked o) ≡ page_paths_in start o
+paths_stay start asked None = refl
+paths_stay start asked (Some t) = refl
+
 -- what the tree told when the world was made stays
 told_stays : (before after : Library) (o p : Option Told) (more : List Path) → p ≡ with_asked more o
     → IfSome o (IsSoundOn before) → IfSome p (IsSoundOn after)
@@ -131,6 +135,8 @@ only_asked before after {s = s} {s' = s'} sound stays l =
         opened = opened_stays sound.opened stays l.once i;
         places = (ap (λ start. places_in start s'.told) (start_stays before after stays)
             ∙ ap (places_in (start_of before)) looks.told ∙ places_stay (start_of before) (paths_of l.once.more) s.told) i;
+        page_paths = (ap (λ start. page_paths_in start s'.told) (start_stays before after stays)
+            ∙ ap (page_paths_in (start_of before)) looks.told ∙ paths_stay (start_of before) (paths_of l.once.more) s.told) i;
       };
       calls = looks.calls;
       faults = looks.ends.faults;
@@ -220,4 +226,5 @@ origin_is lib start kept s opened is same = λ i. record {
   changes = s.changes;
   opened = opened_at_start lib kept opened is i;
   places = places_in (same i) s.told;
+  page_paths = page_paths_in (same i) s.told;
 }

@@ -1,5 +1,5 @@
 -- What is known of a world over a tree of files.
-use Rattle.std.specs.Prelude.{◌≡◌, ◌≤◌, ◌++◌, ◌-◌, ℕ, List, length, take, drop}
+use Rattle.std.specs.Prelude.{◌≡◌, ◌≤◌, ◌++◌, ◌-◌, ℕ, List, [], length, take, drop}
 use Rattle.std.specs.Prelude.{Option, Some, None, option_map, IfSome}
 use Rattle.vk_spec.specs.Lists.{NoRepeats}
 use Rattle.vk_spec.specs.Paths.{Path}
@@ -12,6 +12,7 @@ use Rattle.vk_files.specs.Views.{kept_of}
 use Rattle.vk_opening.specs.Starts.{Start}
 use Rattle.vk_pages.specs.HomeViews.{layout_view}
 use Rattle.vk_pages.specs.Pages.{page_of}
+use Rattle.vk_pages.specs.Asked.{page_paths}
 use Rattle.vk_pages.specs.declared.homes.Layout.{Layout}
 use Rattle.vk_world.specs.KnownVersions.{folders_in, pairs_of}
 use Rattle.vk_world.specs.Libraries.{IsRight}
@@ -59,6 +60,11 @@ abbrev pub places_in : Start → Option Told → Places
 places_in start None port v = None
 places_in start (Some t) port v = place_in start t.files port v
 
+-- the paths of which a port's page may be read, by what a tree tells
+abbrev pub page_paths_in : Start → Option Told → List ℕ → List Path
+page_paths_in start None port = []
+page_paths_in start (Some t) port = page_paths start t.files port
+
 -- what a world comes from that is made on this tree with this start, when these paths were read
 abbrev pub origin_on : Start → List Path → State → Origin
 origin_on start opened tree = record {
@@ -66,9 +72,10 @@ origin_on start opened tree = record {
   changes = tree.changes;
   opened = opened;
   places = places_in start tree.told;
+  page_paths = page_paths_in start tree.told;
 }
 
--- files, changes and places stay as they were when the world was made, and the log was that of now
+-- files, changes, places and the paths of pages stay as they were when the world was made, and the log was that of now
 -- without what was looked at since
 abbrev pub origin_of : Learned → State → Origin
 origin_of l tree = record {
@@ -76,6 +83,7 @@ origin_of l tree = record {
   changes = tree.changes;
   opened = opened_in l;
   places = places_in (start_in l) tree.told;
+  page_paths = page_paths_in (start_in l) tree.told;
 }
 
 -- the pages are those of the files
