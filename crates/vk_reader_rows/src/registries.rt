@@ -2,7 +2,7 @@
 
 use crate::names::port_of;
 use crate::shows::{Show, refused, tell, tell_or_none};
-use vk_base::{PortName, Unread};
+use vk_base::{Memory, PortName, SharedText, Unread};
 use vk_json::FileFault;
 use vk_registry::{Baseline, Table, baseline_of, find, read_baseline, read_table};
 use vk_row_text::{Reply, cut};
@@ -80,10 +80,11 @@ fn table(rest: &str, reply: &mut Reply) {
     tell(read_table(reply.alloc(), bytes.as_slice()), reply);
 }
 
-fn ask_of(text: &str, number: &str, reply: &mut Reply) -> Ask {
+fn ask_of(text: &str, number: &str, reply: &mut Reply) -> Result<Ask, Memory> {
     let port = reply.number(number);
     let text = reply.text(text);
-    Ask { text, port }
+    let text = SharedText::from_str(reply.alloc(), text.as_str())?;
+    Ok(Ask { text, port })
 }
 
 fn found(ask: &Ask, bytes: &[u8], reply: &mut Reply) {
@@ -96,9 +97,11 @@ fn found(ask: &Ask, bytes: &[u8], reply: &mut Reply) {
 fn find_in(rest: &str, reply: &mut Reply) {
     let (text, rest) = cut(rest);
     let (number, rest) = cut(rest);
-    let ask = ask_of(text, number, reply);
     let bytes = reply.bytes(rest);
-    found(&ask, bytes.as_slice(), reply);
+    match ask_of(text, number, reply) {
+        Ok(ask) => found(&ask, bytes.as_slice(), reply),
+        Err(memory) => reply.lack(memory),
+    }
 }
 
 /// - `baseline read NAME FILE`: the baseline of this name, or the fault;

@@ -1,7 +1,7 @@
 //! What has a form on a line.
 
 use std::cmp::Ordering;
-use vk_base::{FeatureName, List, PortName, Text, TreePath, TripletName, Unread};
+use vk_base::{FeatureName, List, PortName, SharedText, Text, TreePath, TripletName, Unread};
 use vk_expr::{Expr, print};
 use vk_row_text::Reply;
 use vk_version::{Ask, Version};
@@ -99,6 +99,12 @@ impl<T: Show> Show for Option<T> {
 }
 
 impl Show for Text {
+    fn show(&self, reply: &mut Reply) {
+        reply.push_token(self.as_bytes());
+    }
+}
+
+impl Show for SharedText {
     fn show(&self, reply: &mut Reply) {
         reply.push_token(self.as_bytes());
     }
