@@ -23,6 +23,7 @@ use Rattle.vk_model.specs.declared.projects.Project.{Project}
 use Rattle.vk_words.specs.declared.faults.WordFault.{WordFault}
 use Rattle.vk_worklist.specs.declared.faults.CloseFault.{CloseFault}
 use Rattle.vk_worklist.specs.declared.faults.CloseFault.TheVariants.{Facts}
+use Rattle.vk_app.specs.Asked.{IsOfProject}
 use Rattle.vk_app.specs.Once.{OnlyReadOnce}
 use Rattle.vk_app.specs.Requests.{Request}
 use Rattle.vk_app.specs.Resolutions as the
@@ -348,7 +349,7 @@ runs_as request shown status before after ends t =
       words = judges_words request shown status before after ends parts;
       out = keeps_out request shown status before after ends t;
       err = tells_line status before after ends.may parts;
-      once = record { failed = ends.failed; only = ends.only.only; distinct = ends.only.distinct };
+      once = record { failed = ends.failed; only = ends.only.only; distinct = ends.only.distinct; listed = ends.only.listed };
       small = small status before after ends.may parts;
     }
 
@@ -377,7 +378,7 @@ not_failed project (Err (stop.Fault fault)) four = refl
 not_failed project (Err stop.Failed) four = absurd (four refl)
 not_failed project (Err (stop.Memory m)) four = refl
 
-pub ends_of_plan : (project : Project) (answer : Result Outcome (Stop CloseFault)) (shown : Shown) (a b : State) → ResolvesAs (ComesTo project) answer [] a b → EndsWith (shown_of project answer) shown → EndsAs (Ok project) shown a b
+pub ends_of_plan : (project : Project) (answer : Result Outcome (Stop CloseFault)) (shown : Shown) (a b : State) → ResolvesAs (ComesTo project) (IsOfProject project) answer [] a b → EndsWith (shown_of project answer) shown → EndsAs (Ok project) shown a b
 ends_of_plan project answer shown a b resolves whole = record {
   failed = has_failed answer;
   may = may_end project answer;
@@ -388,7 +389,7 @@ ends_of_plan project answer shown a b resolves whole = record {
 ends_of_plan project answer shown a b resolves (short four) = record {
   failed = false;
   may = lacking (Ok project);
-  only = subst (λ f. OnlyReadOnce [] f a b) (not_failed project answer four) resolves.only;
+  only = subst (λ f. OnlyReadOnce (IsOfProject project) [] f a b) (not_failed project answer four) resolves.only;
   unread = λ err. (cc);
   content = of_each a.told (λ t three other. absurd (three refl));
 }
@@ -402,21 +403,21 @@ pub ends_of_words : (request : Request) (unread : Unread WordFault) (shown : Sho
 ends_of_words request (unread.Fault fault) shown s is whole = rw is (record {
   failed = false;
   may = malformed fault;
-  only = not_read s;
+  only = not_read _ s;
   unread = λ err. refl;
   content = of_each s.told (λ t three four. refl);
 })
 ends_of_words request (unread.Fault fault) shown s is (short four) = record {
   failed = false;
   may = lacking request;
-  only = not_read s;
+  only = not_read _ s;
   unread = λ err. refl;
   content = of_each s.told (λ t three other. absurd (three refl));
 }
 ends_of_words request (unread.Memory m) shown s is end = rw end (record {
   failed = false;
   may = lacking request;
-  only = not_read s;
+  only = not_read _ s;
   unread = λ err. refl;
   content = of_each s.told (λ t three other. absurd (three refl));
 })

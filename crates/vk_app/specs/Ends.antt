@@ -11,6 +11,7 @@ use Rattle.vk_model.specs.declared.plans.Outcome.{Outcome}
 use Rattle.vk_model.specs.declared.projects.Project.{Project}
 use Rattle.vk_worklist.specs.declared.faults.CloseFault.{CloseFault}
 use Rattle.vk_words.specs.declared.faults.WordFault.{WordFault}
+use Rattle.vk_app.specs.Asked.{MayAsk}
 use Rattle.vk_app.specs.Once.{OnlyReadOnce}
 use Rattle.vk_app.specs.Requests.{Request}
 use Rattle.vk_app.specs.Resolved.{resolution_of}
@@ -37,7 +38,7 @@ pub data MayEnd : Request → Shown → Bool → Type 0 where
 pub record EndsAs (request : Request) (shown : Shown) (before after : State) : Type 0 where
   pub failed : Bool
   pub may : MayEnd request shown failed
-  pub only : OnlyReadOnce [] failed before after
+  pub only : OnlyReadOnce (MayAsk request) [] failed before after
   pub unread : IsErr request → after ≡ before
   pub content : IfSome before.told (λ t. shown.status ≢ 3 → shown.status ≢ 4 → IsAnswerTo request t.files shown)
 

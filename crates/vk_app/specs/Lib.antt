@@ -2,6 +2,7 @@
 pub mod Requests
 pub mod Resolutions
 pub mod Answers
+pub mod Asked
 pub mod Once
 pub mod Runs
 -- what functions, laws and examples say besides

@@ -1,5 +1,5 @@
 -- Resolving a project over a tree: what is answered, and what is done to the tree.
-use Rattle.std.specs.Prelude.{◌≡◌, List, IfSome, Result, Ok, Err}
+use Rattle.std.specs.Prelude.{◌≡◌, ⊥, List, IfSome, Result, Ok, Err}
 use Rattle.vk_spec.specs.Paths.{Path}
 use Rattle.vk_spec.specs.Files.{Files}
 use Rattle.vk_spec.specs.Earlies.{Early}
@@ -18,6 +18,7 @@ use Rattle.vk_opening.specs.declared.opens.Opened.{Opened}
 use Rattle.vk_opening.specs.declared.opens.Opened.TheVariants as opened
 use Rattle.vk_worklist.specs.declared.faults.CloseFault.{CloseFault}
 use Rattle.vk_worklist.specs.declared.faults.CloseFault.TheVariants.{Facts}
+use Rattle.vk_app.specs.Asked.{IsOfPages}
 use Rattle.vk_app.specs.Once.{OnlyReadOnce}
 use Rattle.vk_pages.specs.Pages.{page_of}
 use Rattle.vk_app.specs.Resolutions.{Resolution, early, resolved, too_many, Settles}
@@ -34,15 +35,20 @@ Resolves P (Err (stop.Fault (Facts most))) = P (too_many most)
 Resolves P (Err stop.Failed) = Unit {0}
 Resolves P (Err (stop.Memory m)) = Unit {0}
 
--- nothing but reading was done, no path twice and none of the earlier ones; and where the files are told, the answer is what they come to
-pub record ResolvesAs (means : Files → Resolution → Type 0) (answer : Result Outcome (Stop CloseFault)) (earlier : List Path) (before after : State) : Type 0 where
-  pub only : OnlyReadOnce earlier (has_failed answer) before after
+-- nothing but reading was done, no path twice, none of the earlier ones, and none but those that may be asked for; and where the files are told, the answer is what they come to
+pub record ResolvesAs (means : Files → Resolution → Type 0) (May : Files → Path → Type 0) (answer : Result Outcome (Stop CloseFault)) (earlier : List Path) (before after : State) : Type 0 where
+  pub only : OnlyReadOnce May earlier (has_failed answer) before after
   pub content : IfSome before.told (λ t. Resolves (means t.files) answer)
 
 -- what was opened comes to this: an early line, or what its setting and the pages of the files have
 abbrev pub OpenedComesTo : Opened → Files → Resolution → Type 0
 OpenedComesTo (opened.Ready setting start) files r = Settles (setting_view setting) (page_of (start_view start) files) r
 OpenedComesTo (opened.Refused e) files r = r ≡ early (early_view e)
+
+-- what is asked for then: of the ports' pages, or nothing
+abbrev pub OpenedMayAsk : Opened → Files → Path → Type 0
+OpenedMayAsk (opened.Ready setting start) files path = IsOfPages (start_view start) files path
+OpenedMayAsk (opened.Refused e) files path = ⊥
 
 -- what was kept of files is theirs
 abbrev pub IsKeptOf : Opened → Files → Type 0

@@ -8,6 +8,7 @@ use Rattle.vk_model.specs.declared.projects.Project.{Project}
 use Rattle.vk_words.specs.declared.faults.WordFault.{WordFault}
 use Rattle.vk_app.specs.Requests.{Request}
 use Rattle.vk_app.specs.Answers.{Shown, IsAnswerTo, words_line, memory_line, tree_line, output_line, limit_line}
+use Rattle.vk_app.specs.Asked.{MayAsk}
 use Rattle.vk_app.specs.Once.{IsReadOnce}
 
 -- a tree and two sinks, by what is known of them
@@ -106,6 +107,6 @@ pub record RunsAs (request : Request) (status : ℕ) (before after : Outside) : 
   -- what the sinks took under every status
   pub out : KeepsOut request status before after
   pub err : TellsLine request status before after
-  -- the tree was only read, and no path was asked for twice
-  pub once : IsReadOnce before.tree after.tree
+  -- the tree was only read, no path was asked for twice, and none but those that may be asked for
+  pub once : IsReadOnce (MayAsk request) before.tree after.tree
   pub small : status ≤ 6

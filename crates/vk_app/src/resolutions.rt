@@ -8,9 +8,10 @@ ghost use Rattle.vk_model.specs.SettingViews.{setting_view};
 ghost use Rattle.vk_opening.specs.Opened.{IsKept};
 ghost use Rattle.vk_opening.specs.Views.{start_view, opened_files};
 ghost use Rattle.vk_pages.specs.Pages.{page_of};
+ghost use Rattle.vk_app.specs.Asked.{IsOfPages, IsOfProject};
 ghost use Rattle.vk_app.specs.Resolutions.{ComesTo, Settles};
 ghost use Rattle.vk_world.specs.Worlds.{state_of};
-ghost use Rattle.vk_app.specs.Resolved.{IsKeptOf, OpenedComesTo, Resolves, ResolvesAs};
+ghost use Rattle.vk_app.specs.Resolved.{IsKeptOf, OpenedComesTo, OpenedMayAsk, Resolves, ResolvesAs};
 
 use std::alloc::Global;
 use std::marker::Brand;
@@ -55,7 +56,7 @@ fn resolved_on<T: Tree>(alloc: Global, setting: &Setting, start: Start, tree: T)
     requires { IfSome (T.state tree).told (λ t. IsOf t.files (opened_files start)) }
     ensures { ResolvesAs
         (λ files r. Settles (setting_view setting.now) (page_of (start_view start) files) r)
-        result.outcome (paths_of (opened_files start)) (T.state tree) (T.state result.tree) }
+        (IsOfPages (start_view start)) result.outcome (paths_of (opened_files start)) (T.state tree) (T.state result.tree) }
 {
     let mut world = World::on(alloc, start, tree);
     let outcome = resolved_by::<T, Brand>(alloc, setting, &mut world, Blank::new(1));
@@ -71,7 +72,7 @@ fn resolved_on<T: Tree>(alloc: Global, setting: &Setting, start: Start, tree: T)
 fn resolved_from<T: Tree>(alloc: Global, opened: Opened, tree: T) -> Resolution<T>
     requires { IfSome (T.state tree).told (λ t. IsKeptOf opened t.files) }
     ensures { (read : Kept) → IsKept read (Ok opened) → NoRepeats (paths_of read)
-        → ResolvesAs (OpenedComesTo opened) result.outcome (paths_of read) (T.state tree)
+        → ResolvesAs (OpenedComesTo opened) (OpenedMayAsk opened) result.outcome (paths_of read) (T.state tree)
         (T.state result.tree) }
 {
     match opened {
@@ -87,7 +88,7 @@ fn resolved_from<T: Tree>(alloc: Global, opened: Opened, tree: T) -> Resolution<
 /// What the files of a project come to: its outcome with the reasons, an early line, or more
 /// requirements than the project allows. Each file is read once.
 pub fn resolved<T: Tree>(alloc: Global, project: &Project, mut tree: T) -> Resolution<T>
-    ensures { ResolvesAs (ComesTo project.now) result.outcome [] (T.state tree)
+    ensures { ResolvesAs (ComesTo project.now) (IsOfProject project.now) result.outcome [] (T.state tree)
         (T.state result.tree) }
 {
     match World::open(alloc, &mut tree, project, None) {
