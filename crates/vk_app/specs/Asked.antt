@@ -1,5 +1,5 @@
 -- Which paths a run may ask for.
-use Rattle.std.specs.Prelude.{◌⊎◌, ⊥, ℕ, List, Result, Ok, Err}
+use Rattle.std.specs.Prelude.{◌⊎◌, ℕ, List, Result, Ok, Err}
 use Rattle.std.specs.List.{Contains}
 use Rattle.vk_spec.specs.Paths.{Path}
 use Rattle.vk_spec.specs.Files.{Files}

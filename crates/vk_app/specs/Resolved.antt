@@ -1,5 +1,5 @@
 -- Resolving a project over a tree: what is answered, and what is done to the tree.
-use Rattle.std.specs.Prelude.{◌≡◌, ⊥, List, IfSome, Result, Ok, Err}
+use Rattle.std.specs.Prelude.{◌≡◌, List, IfSome, Result, Ok, Err}
 use Rattle.vk_spec.specs.Paths.{Path}
 use Rattle.vk_spec.specs.Files.{Files}
 use Rattle.vk_spec.specs.Earlies.{Early}

@@ -7,6 +7,7 @@
 mod decimals;
 mod features;
 mod instances;
+mod limits;
 mod lists;
 mod memory;
 mod names;
@@ -24,6 +25,7 @@ mod words;
 pub use decimals::{read_u32, read_u64};
 pub use features::{FeatureName, NamedFeature, feature_rule};
 pub use instances::Instance;
+pub use limits::Limit;
 pub use lists::List;
 pub use memory::Memory;
 pub use names::{AgentName, NameFault, PortName, TripletName, name_order, port_rule, triplet_rule};
