@@ -2,4 +2,5 @@ mod CutLemmas
 mod StepLemmas
 mod ClosenessLemmas
 mod ServingLaws
+mod FirstLemmas
 mod TellingLemmas

@@ -1,5 +1,5 @@
 -- A configuration as plain data.
-use Rattle.std.specs.Prelude.{ℕ, List, Option}
+use Rattle.std.specs.Prelude.{ℕ, List, [], Option, None}
 use Rattle.vk_spec.specs.Paths.{Path}
 
 -- which ports a registry has: the one of this name, or all whose names begin so
@@ -26,6 +26,10 @@ pub record Config : Type 0 where
   pub default : Option Source
   pub overlay_ports : List Path
   pub overlay_triplets : List Path
+
+-- a project that configures nothing
+abbrev pub no_config : Config
+no_config = record { registries = []; default = None; overlay_ports = []; overlay_triplets = [] }
 
 -- what a root manifest has of it
 pub data Embedded : Type 0 where

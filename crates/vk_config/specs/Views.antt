@@ -1,36 +1,19 @@
 -- What contracts see of a configuration: plain data.
 use Rattle.std.specs.Prelude.{map, option_map}
+pub use Rattle.vk_config.specs.RegistryViews.{pattern_view, source_view, registry_view}
 use Rattle.vk_config.specs.Configs as plain
 use Rattle.vk_config.specs.Registries as kind
-use Rattle.vk_config.specs.declared.patterns.Pattern.{Pattern}
-use Rattle.vk_config.specs.declared.patterns.Pattern.TheVariants as pattern
 use Rattle.vk_config.specs.declared.registries.Kind.{Kind}
 use Rattle.vk_config.specs.declared.registries.Kind.TheVariants as declared_kind
-use Rattle.vk_config.specs.declared.registries.Source.{Source}
-use Rattle.vk_config.specs.declared.registries.Source.TheVariants as source
-use Rattle.vk_config.specs.declared.registries.Registry.{Registry}
 use Rattle.vk_config.specs.declared.configs.Config.{Config}
 use Rattle.vk_config.specs.declared.configs.Embedded.{Embedded}
 use Rattle.vk_config.specs.declared.configs.Embedded.TheVariants as embedded
-
-abbrev pub pattern_view : Pattern → plain.Pattern
-pattern_view (pattern.Exact name) = plain.exact name
-pattern_view (pattern.Prefix text) = plain.starting text
 
 abbrev pub kind_view : Kind → kind.Kind
 kind_view declared_kind.Filesystem = kind.in_folder
 kind_view declared_kind.Git = kind.in_git
 kind_view declared_kind.Builtin = kind.built_in
 kind_view declared_kind.Artifact = kind.of_artifacts
-
-abbrev pub source_view : Source → plain.Source
-source_view (source.Filesystem path baseline) = plain.filesystem path baseline
-source_view source.Git = plain.git
-source_view source.Builtin = plain.builtin
-source_view source.Artifact = plain.artifact
-
-abbrev pub registry_view : Registry → plain.Registry
-registry_view r = record { source = source_view r.source; packages = map pattern_view r.packages }
 
 abbrev pub config_view : Config → plain.Config
 config_view c =

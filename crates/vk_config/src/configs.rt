@@ -1,20 +1,13 @@
-//! A configuration: in a file of its own, or in a root manifest.
-ghost use Rattle.std.specs.Prelude.{List, Option, map, option_map};
-ghost use Rattle.serde_json.specs.View.{view};
-ghost use Rattle.vk_spec.specs.Reading.{Gives};
-ghost use Rattle.vk_base.specs.Stops.{fault_in};
-ghost use Rattle.vk_config.specs.Configs as plain;
-ghost use Rattle.vk_config.specs.Registries.{source_at};
-ghost use Rattle.vk_config.specs.Readings.{unless_null, paths_under, registries_in, config_at};
-ghost use Rattle.vk_config.specs.Readings.{config_of};
-ghost use Rattle.vk_config.specs.Views.{source_view, registry_view, config_view};
+//! A configuration as a value.
+ghost use Rattle.std.specs.Prelude.{◌≡◌, map};
+ghost use Rattle.vk_config.specs.Configs.{Pattern};
+ghost use Rattle.vk_config.specs.RegistryViews.{registry_view};
+ghost use Rattle.vk_config.specs.FirstPlaces.{first_with};
+ghost use Rattle.vk_config.specs.IndexViews.{index_view};
 
-use crate::registries::{Registry, RegistryObject, Source, SourceObject};
-use serde_json::Value;
-use std::alloc::Global;
-use vk_base::{List, TreePath, Unread};
-use vk_fields::PathText;
-use vk_json::{Doc, FileFault, ListOf, Reader, object, optional_or};
+use crate::pattern_indexes::PatternIndex;
+use crate::registries::{Registry, Source};
+use vk_base::{List, TreePath};
 
 /// What a project says of registries and overlays.
 #[derive(Drop)]
@@ -27,6 +20,10 @@ pub struct Config {
     pub overlay_ports: List<TreePath>,
     /// Folders of triplet files, from the project's folder on.
     pub overlay_triplets: List<TreePath>,
+    // Of the registries.
+    pub(crate) index: PatternIndex,
+    ghost indexed: { (pattern : Pattern)
+        → index_view index pattern ≡ first_with (map registry_view registries) pattern },
 }
 
 /// What a root manifest has of a configuration.
@@ -38,82 +35,4 @@ pub enum Embedded {
     One(Config),
     /// Both keys are there.
     Two,
-}
-
-// Reads a default registry, which may be null.
-#[derive(Drop)]
-struct DefaultSource;
-
-impl Reader for DefaultSource {
-    type Out = Option<Source>;
-
-    ghost Plain = { Option plain.Source };
-
-    ghost plain = { option_map source_view };
-
-    ghost reads = { λ r. unless_null source_at };
-
-    fn read(&self, alloc: Global, value: &Value) -> Result<Option<Source>, Unread<FileFault>> {
-        if value.is_null() {
-            return Ok(None);
-        }
-        Ok(Some(SourceObject.read(alloc, value)?))
-    }
-}
-
-fn paths(alloc: Global, value: &Value, key: &str) -> Result<List<TreePath>, Unread<FileFault>>
-    ensures { Gives (λ paths. paths) fault_in result (paths_under key.now (view value.now)) }
-{
-    optional_or(alloc, value, key, &ListOf(PathText), List::new(alloc))
-}
-
-fn registries(alloc: Global, value: &Value) -> Result<List<Registry>, Unread<FileFault>>
-    ensures { Gives (map registry_view) fault_in result (registries_in (view value.now)) }
-{
-    optional_or(
-        alloc,
-        value,
-        "registries",
-        &ListOf(RegistryObject),
-        List::new(alloc),
-    )
-}
-
-/// Reads a configuration.
-#[derive(Drop)]
-pub struct ConfigObject;
-
-#[tactic(auto, unfolding(crate::specs::Readings::config_at))]
-impl Reader for ConfigObject {
-    type Out = Config;
-
-    ghost Plain = { plain.Config };
-
-    ghost plain = { config_view };
-
-    ghost reads = { λ r. config_at };
-
-    fn read(&self, alloc: Global, value: &Value) -> Result<Config, Unread<FileFault>> {
-        object(alloc, value)?;
-        let default = optional_or(alloc, value, "default-registry", &DefaultSource, None)?;
-        let overlay_ports = paths(alloc, value, "overlay-ports")?;
-        let overlay_triplets = paths(alloc, value, "overlay-triplets")?;
-        let registries = registries(alloc, value)?;
-        Ok(Config {
-            registries,
-            default,
-            overlay_ports,
-            overlay_triplets,
-        })
-    }
-}
-
-/// Reads a configuration file: the configuration, or its first fault in the order
-/// `default-registry`, `overlay-ports`, `overlay-triplets`, `registries`. Other keys are passed
-/// over.
-pub fn read_config(alloc: Global, bytes: &[u8]) -> Result<Config, Unread<FileFault>>
-    ensures { Gives config_view fault_in result (config_of bytes.now) }
-{
-    let doc = Doc::read(alloc, bytes)?;
-    ConfigObject.read(alloc, doc.value())
 }

@@ -6,7 +6,8 @@ ghost use Rattle.vk_base.specs.Stops.{fault_in};
 ghost use Rattle.vk_config.specs.Embedding.{has_both, either, only_one, embedded_at, embedded_of};
 ghost use Rattle.vk_config.specs.Views.{config_view, embedded_view};
 
-use crate::configs::{Config, ConfigObject, Embedded};
+use crate::config_files::ConfigObject;
+use crate::configs::{Config, Embedded};
 use serde_json::Value;
 use std::alloc::Global;
 use vk_base::Unread;

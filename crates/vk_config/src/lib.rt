@@ -3,14 +3,18 @@
 //! with its place, and that a port goes to exactly the registry whose pattern takes it best.
 #![tactic(auto)]
 
+mod config_files;
 mod configs;
 mod embedding;
+mod first_places;
 mod laws;
+mod pattern_indexes;
 mod patterns;
 mod registries;
 mod serving;
 
-pub use configs::{Config, Embedded, read_config};
+pub use config_files::read_config;
+pub use configs::{Config, Embedded};
 pub use embedding::{embedded, embedded_in};
 pub use laws::fault_places;
 pub use patterns::Pattern;

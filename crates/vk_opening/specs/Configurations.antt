@@ -1,22 +1,18 @@
 -- The configuration of a project: in a file of its own, or in the root manifest under one of two keys.
-use Rattle.std.specs.Prelude.{Bool, [], None, Result, Ok, Err, ◌||◌, if◌then◌else◌}
+use Rattle.std.specs.Prelude.{Bool, Result, Ok, Err, ◌||◌, if◌then◌else◌}
 use Rattle.std.specs.Option.{is_some}
 use Rattle.serde_json.specs.Data.{Data}
 use Rattle.serde_json.specs.Find.{get}
 use Rattle.vk_spec.specs.Reading.{◌>>=◌}
 use Rattle.vk_spec.specs.Paths.{Path}
 use Rattle.vk_spec.specs.Files.{Files}
-use Rattle.vk_config.specs.Configs.{Config, Embedded, nothing, one, two}
+use Rattle.vk_config.specs.Configs.{Config, no_config, Embedded, nothing, one, two}
 use Rattle.vk_config.specs.Readings.{config_of}
 use Rattle.vk_config.specs.Embedding.{first_key, second_key, embedded_at}
 use Rattle.vk_files.specs.Readings.{Standing, missing, too_long, readable, standing_at, told_at}
 use Rattle.vk_spec.specs.Earlies.{Early, two_configurations}
 use Rattle.vk_opening.specs.Roots.{or_early, early_at}
 use Rattle.vk_opening.specs.Projects.{manifest_path, config_path}
-
--- a project that configures nothing
-abbrev pub no_config : Config
-no_config = record { registries = []; default = None; overlay_ports = []; overlay_triplets = [] }
 
 -- a root manifest has a configuration where one of the two keys is there, whatever its value is
 abbrev pub has_configuration : Data → Bool

@@ -22,7 +22,7 @@ use crate::projects::{config_path, manifest_path};
 use crate::readings::{bad_file, read_early, standing};
 use serde_json::Value;
 use std::alloc::Global;
-use vk_base::{List, Stop, TreePath, Unread};
+use vk_base::{Stop, TreePath, Unread};
 use vk_config::{Config, Embedded, read_config};
 use vk_files::{FileCache, FileReader, Standing};
 use vk_json::{FileFault, member};
@@ -60,12 +60,7 @@ fn only_of(alloc: Global, embedded: Embedded) -> Result<Config, Stop<Early>>
     ensures calm { has_failed result ≡ false }
 {
     match embedded {
-        Embedded::Nothing => Ok(Config {
-            registries: List::new(alloc),
-            default: None,
-            overlay_ports: List::new(alloc),
-            overlay_triplets: List::new(alloc),
-        }),
+        Embedded::Nothing => Ok(Config::new(alloc)),
         Embedded::One(config) => Ok(config),
         Embedded::Two => Err(Stop::Fault(Early::TwoConfigurations)),
     }

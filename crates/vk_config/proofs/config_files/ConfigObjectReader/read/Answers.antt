@@ -3,7 +3,7 @@ use Rattle.std.proofs.lemmas.Result.{err_from_is_err_and}
 use Rattle.vk_base.specs.Stops.{fault_in}
 use Rattle.vk_config.specs.Readings.{config_at}
 use Rattle.vk_config.proofs.StepLemmas.{fails_then}
-use Rattle.vk_config.proofs.configs.ConfigObjectReader.read.Goals as goal
+use Rattle.vk_config.proofs.config_files.ConfigObjectReader.read.Goals as goal
 
 pub returns-in_err-overlay_triplets : goal.returns-in_err-overlay_triplets
 unfolding config_at
