@@ -15,8 +15,8 @@ ghost use Rattle.vk_base.specs.Stops.{fault_in};
 ghost use Rattle.vk_base.specs.FeatureViews.{feature_view, IsNamed};
 
 use crate::names::{NameFault, WORD, read_name};
-use crate::stops::Unread;
 use crate::shared_texts::SharedText;
+use crate::stops::Unread;
 use std::alloc::{AllocError, Global};
 use std::cmp::Ordering;
 use std::fmt;

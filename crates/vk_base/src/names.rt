@@ -13,8 +13,8 @@ ghost use Rattle.vk_base.specs.FeatureViews.{feature_view};
 
 use crate::features::FeatureName;
 use crate::instances::Instance;
-use crate::stops::Unread;
 use crate::shared_texts::SharedText;
+use crate::stops::Unread;
 use std::alloc::Global;
 use std::fmt;
 use std::hash::Hash;
@@ -111,7 +111,11 @@ fn name_fault_at(rule: Rule, bytes: &[u8]) -> Option<usize>
     }
 }
 
-pub(crate) fn read_name(alloc: Global, rule: Rule, text: &str) -> Result<SharedText, Unread<NameFault>>
+pub(crate) fn read_name(
+    alloc: Global,
+    rule: Rule,
+    text: &str,
+) -> Result<SharedText, Unread<NameFault>>
     ensures { Gives (λ t. t) fault_in result (reads_name (rule_of rule) text.now) }
 {
     match name_fault_at(rule, text.as_bytes()) {
