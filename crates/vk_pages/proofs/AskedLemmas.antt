@@ -1,7 +1,7 @@
--- Which paths were looked at: where notes were right, of overlays up to the first that passes, and of a registry that serves.
-use Rattle.std.proofs.Common.{◌≡◌, Bool, true, false, cond, List, [], ◌∷◌, ◌++◌, refl, sym, subst}
+-- Which paths were looked at: where notes were right, and of members up to the first that passes.
+use Rattle.std.proofs.Common.{◌≡◌, Bool, true, false, cond, List, [], ◌∷◌, ◌++◌, sym, subst}
 use Rattle.std.specs.Prelude.{Option, Some, IfSome, option_map, Result, Ok}
-use Rattle.std.specs.List.{Contains, find, flat_map}
+use Rattle.std.specs.List.{find, flat_map}
 use Rattle.std.proofs.lemmas.List.Elements.{Contains-append_left, Contains-append_right}
 use Rattle.vk_spec.specs.Lists.{IsWithin}
 use Rattle.vk_spec.specs.Paths.{Path}
@@ -17,25 +17,25 @@ use Rattle.vk_pages.specs.Looked.{LooksNoting}
 -- ---- where notes were right
 
 -- whatever the notes are
-pub noting_where : {paths : Files → List Path} {a b : Held} (Right : Files → Type 0) → LooksWhere paths a b → LooksNoting paths Right a b
-noting_where {a = a} Right one = record { within = of_both a.tree.told one.within one.within (λ t looks _ old right. looks old) }
+pub looked_where : {paths : Files → List Path} {a b : Held} (Right : Files → Type 0) → LooksWhere paths a b → LooksNoting paths Right a b
+looked_where {a = a} Right one = record { within = of_both a.tree.told one.within one.within (λ t looks _ old right. looks old) }
 
 -- whatever the files give
-pub noting_each : {paths : List Path} {a b : Held} (Right : Files → Type 0) → LooksWithin paths a.kept b.kept → LooksNoting (λ f. paths) Right a b
-noting_each {a = a} Right one = record { within = of_each a.tree.told (λ t old right. one) }
+pub looked_each : {paths : List Path} {a b : Held} (Right : Files → Type 0) → LooksWithin paths a.kept b.kept → LooksNoting (λ f. paths) Right a b
+looked_each {a = a} Right one = record { within = of_each a.tree.told (λ t old right. one) }
 
 -- nothing was looked at
-pub noting_nothing : (paths : Files → List Path) (Right : Files → Type 0) (h : Held) → LooksNoting paths Right h h
-noting_nothing paths Right h = noting_where Right (where_nothing paths h)
+pub looked_nothing : (paths : Files → List Path) (Right : Files → Type 0) (h : Held) → LooksNoting paths Right h h
+looked_nothing paths Right h = looked_where Right (where_nothing paths h)
 
 -- nothing more was read after the first list
-pub noting_first : {first : Files → List Path} {Right : Files → Type 0} {a b : Held} (next : Files → List Path) → LooksNoting first Right a b → LooksNoting (λ f. first f ++ next f) Right a b
-noting_first {a = a} next one = record { within = of_both a.tree.told one.within one.within (λ t one _ old right. within_left (next t.files) (one old right)) }
+pub looked_first : {first : Files → List Path} {Right : Files → Type 0} {a b : Held} (next : Files → List Path) → LooksNoting first Right a b → LooksNoting (λ f. first f ++ next f) Right a b
+looked_first {a = a} next one = record { within = of_both a.tree.told one.within one.within (λ t one _ old right. within_left (next t.files) (one old right)) }
 
 -- a file was read, and then more
-pub noting_more : {X Y F P : Type 0} {refusal : F → P} {view : X → Y} {x : X} {meaning : Files → Result Y P} {first : Files → List Path} {Before Between : Files → Type 0} {a b c : Held} (next : Y → Files → List Path)
+pub looked_then : {X Y F P : Type 0} {refusal : F → P} {view : X → Y} {x : X} {meaning : Files → Result Y P} {first : Files → List Path} {Before Between : Files → Type 0} {a b c : Held} (next : Y → Files → List Path)
     → ReadsNoting refusal view (Ok x) meaning Before Between a b → LooksNoting first Before a b → LooksNoting (next (view x)) Between b c → LooksNoting (λ f. first f ++ paths_after (meaning f) (λ y. next y f)) Before a c
-noting_more {view = view} {x = x} {meaning = meaning} {first = first} {Before = Before} {Between = Between} {a = a} {b = b} {c = c} next read one then = record {
+looked_then {view = view} {x = x} {meaning = meaning} {first = first} {Before = Before} {Between = Between} {a = a} {b = b} {c = c} next read one then = record {
   within = of_both {P = λ t. IsOf t.files a.kept → Before t.files → (Between t.files → LooksWithin (next (view x) t.files) b.kept c.kept) → LooksWithin (first t.files ++ paths_after (meaning t.files) (λ y. next y t.files)) a.kept c.kept} a.tree.told
       (of_both a.tree.told read.content one.within (λ t is looks old right then. let known = is old right in by t.files known.1 (looks old right) (then known.0)))
       (known_before (λ f. Between f → LooksWithin (next (view x) f) b.kept c.kept) read.once then.within)
@@ -45,9 +45,9 @@ noting_more {view = view} {x = x} {meaning = meaning} {first = first} {Before = 
     by : (f : Files) → meaning f ≡ Ok (view x) → LooksWithin (first f) a.kept b.kept → LooksWithin (next (view x) f) b.kept c.kept → LooksWithin (first f ++ paths_after (meaning f) (λ y. next y f)) a.kept c.kept
     by f is one then = rw is (within_both one then)
 
--- what was read before asks for no file
-pub noting_after : {X P : Type 0} {read : Result X P} {x : X} {Right : Files → Type 0} {a b : Held} (next : X → Files → List Path) → read ≡ Ok x → LooksNoting (next x) Right a b → LooksNoting (λ f. paths_after read (λ y. next y f)) Right a b
-noting_after {P = P} {Right = Right} {a = a} {b = b} next is then = subst (λ read. LooksNoting (λ f. paths_after {P = P} read (λ y. next y f)) Right a b) (sym is) then
+-- what comes before needs no file
+pub looked_after : {X P : Type 0} {read : Result X P} {x : X} {Right : Files → Type 0} {a b : Held} (next : X → Files → List Path) → read ≡ Ok x → LooksNoting (next x) Right a b → LooksNoting (λ f. paths_after read (λ y. next y f)) Right a b
+looked_after {P = P} {Right = Right} {a = a} {b = b} next is then = subst (λ read. LooksNoting (λ f. paths_after {P = P} read (λ y. next y f)) Right a b) (sym is) then
 
 -- ---- members up to the first that passes
 

@@ -1,4 +1,4 @@
-use Rattle.std.proofs.Common.{◌≡◌, ◌∷◌, ◌+◌, drop, map, refl, ap}
+use Rattle.std.proofs.Common.{map, refl, ap}
 use Rattle.std.proofs.lemmas.Result.{err_from_is_err_and}
 use Rattle.vk_catalogue.specs.Views.{wrong_view}
 use Rattle.vk_files.proofs.FirstLemmas.{none_yet, none_more, first_found, first_stopped, none_found}

@@ -10,7 +10,7 @@ use Rattle.vk_pages.specs.RegistryFiles.{table_path}
 use Rattle.vk_pages.specs.Homes.{in_registry, given_by, home_with, served_home}
 use Rattle.vk_pages.specs.HomeViews.{table_home, served_view}
 use Rattle.vk_pages.specs.NoteViews.{notes_of}
-use Rattle.vk_pages.proofs.AskedLemmas.{noting_each, noting_first, noting_more}
+use Rattle.vk_pages.proofs.AskedLemmas.{looked_each, looked_first, looked_then}
 use Rattle.vk_pages.proofs.registries.given_table.Goals as goal
 
 pub returns-in_err-given-clause-reads : goal.returns-in_err-given-clause-reads
@@ -42,14 +42,14 @@ pub returns-in_err-given-clause-asked : goal.returns-in_err-given-clause-asked
 returns-in_err-given-clause-asked g c = λ start is.
     let s = served_view c.args.served.now in
     let known = AreBaselines start (notes_of c.args.baselines.now) in
-    noting_first (λ f. paths_after (given_by (option_map (λ a. ask_view a.now) c.args.set) s c.args.port.now f) (λ given. table_path c.args.port.now s.folder ∷ [])) (noting_each known c.in_err-given.ensures.asked)
+    looked_first (λ f. paths_after (given_by (option_map (λ a. ask_view a.now) c.args.set) s c.args.port.now f) (λ given. table_path c.args.port.now s.folder ∷ [])) (looked_each known c.in_err-given.ensures.asked)
 
 pub returns-in_err-table-clause-asked : goal.returns-in_err-table-clause-asked
 returns-in_err-table-clause-asked g c = λ start is.
-    noting_more (λ given f. table_path c.args.port.now c.args.served.now.folder ∷ []) (c.in_ok-given.ensures.reads start is)
-    (noting_each (AreBaselines start (notes_of c.args.baselines.now)) c.in_ok-given.ensures.asked) (noting_each (AreBaselines start (notes_of c.given_by.new.baselines)) c.in_err-table.ensures.asked)
+    looked_then (λ given f. table_path c.args.port.now c.args.served.now.folder ∷ []) (c.in_ok-given.ensures.reads start is)
+    (looked_each (AreBaselines start (notes_of c.args.baselines.now)) c.in_ok-given.ensures.asked) (looked_each (AreBaselines start (notes_of c.given_by.new.baselines)) c.in_err-table.ensures.asked)
 
 pub returns-clause-asked : goal.returns-clause-asked
 returns-clause-asked g c = λ start is.
-    noting_more (λ given f. table_path c.args.port.now c.args.served.now.folder ∷ []) (c.in_ok-given.ensures.reads start is)
-    (noting_each (AreBaselines start (notes_of c.args.baselines.now)) c.in_ok-given.ensures.asked) (noting_each (AreBaselines start (notes_of c.given_by.new.baselines)) c.in_ok-table.ensures.asked)
+    looked_then (λ given f. table_path c.args.port.now c.args.served.now.folder ∷ []) (c.in_ok-given.ensures.reads start is)
+    (looked_each (AreBaselines start (notes_of c.args.baselines.now)) c.in_ok-given.ensures.asked) (looked_each (AreBaselines start (notes_of c.given_by.new.baselines)) c.in_ok-table.ensures.asked)

@@ -10,7 +10,7 @@ use Rattle.vk_pages.specs.Asked.{served_paths, registry_paths}
 use Rattle.vk_pages.specs.Homes.{override_for, served_for, served_home, registry_home}
 use Rattle.vk_pages.specs.HomeViews.{home_view, layout_view, served_view}
 use Rattle.vk_pages.specs.NoteViews.{notes_of}
-use Rattle.vk_pages.proofs.AskedLemmas.{noting_nothing, noting_after}
+use Rattle.vk_pages.proofs.AskedLemmas.{looked_nothing, looked_after}
 use Rattle.vk_pages.proofs.registries.registry_home.Goals as goal
 
 pub returns-in_err-served-clause-reads : goal.returns-in_err-served-clause-reads
@@ -34,10 +34,10 @@ returns-clause-reads g c =
 pub returns-in_err-served-clause-asked : goal.returns-in_err-served-clause-asked
 returns-in_err-served-clause-asked g c =
     let l = layout_view c.args.layout.now in
-    noting_nothing (λ f. registry_paths l f c.args.port.now) (AreBaselines l (notes_of c.args.baselines.now)) _
+    looked_nothing (λ f. registry_paths l f c.args.port.now) (AreBaselines l (notes_of c.args.baselines.now)) _
 
 pub returns-clause-asked : goal.returns-clause-asked
 returns-clause-asked g c =
     let l = layout_view c.args.layout.now in
-    noting_after (λ served f. served_paths (override_for l.overrides c.args.port.now) served f c.args.port.now) c.in_ok-served.ensures.told
+    looked_after (λ served f. served_paths (override_for l.overrides c.args.port.now) served f c.args.port.now) c.in_ok-served.ensures.told
     (rw (c.override_for-set.ensures, c.as_slice.ensures) at c.served_home.ensures.asked l c.in_ok-served.ensures.place)
