@@ -1,3 +1,4 @@
+pub mod AskedLemmas
 pub mod BaselineLemmas
 pub mod PageLaws
 pub mod PinnedLemmas

@@ -5,6 +5,7 @@ pub mod Agreement
 pub mod Homes
 pub mod Pages
 pub mod Asked
+pub mod Looked
 -- what functions, laws and examples say besides
 pub mod BaselineNotes
 pub mod HomeViews

@@ -6,11 +6,13 @@ ghost use Rattle.indexmap.specs.IndexMap.{spare};
 ghost use Rattle.vk_spec.specs.Reading.{Gives, Fails};
 ghost use Rattle.vk_registry.specs.Baselines.{Entry};
 ghost use Rattle.vk_catalogue.specs.Views.{wrong_view, given_view};
-ghost use Rattle.vk_files.specs.Views.{held};
+ghost use Rattle.vk_files.specs.Views.{held, kept_of};
+ghost use Rattle.vk_files.specs.Within.{LooksWithin};
 ghost use Rattle.vk_base.specs.Stops.{is_failure, has_failed};
 ghost use Rattle.vk_files.specs.StopViews.{fault_seen};
 ghost use Rattle.vk_files.specs.Readings.{Bad, bad_view, ReadsAs, ReadsNoting};
 ghost use Rattle.vk_opening.specs.Starts as plain;
+ghost use Rattle.vk_pages.specs.RegistryFiles.{baseline_path};
 ghost use Rattle.vk_pages.specs.Homes.{served_at, baseline_file, baseline_given, baseline_for};
 ghost use Rattle.vk_pages.specs.BaselineNotes.{AreBaselines, note_at, nothing_said};
 ghost use Rattle.vk_pages.specs.HomeViews.{served_view};
@@ -54,9 +56,11 @@ fn read_baseline<T: Tree>(
     tree: &mut T,
     served: &Served,
 ) -> Result<Result<Baseline, BadFile>, Stop<Wrong>>
-    ensures { ReadsAs wrong_view read_view result
+    ensures reads { ReadsAs wrong_view read_view result
         (λ f. Ok (baseline_file (served_view served.now) f)) (held files.old (T.state tree.old))
         (held files.new (T.state tree.new)) }
+    ensures asked { LooksWithin (baseline_path served.now.folder ∷ [])
+        (kept_of files.old) (kept_of files.new) }
 {
     let path = baseline_path(alloc, &served.folder)?;
     let reader = NamedBaseline {
@@ -126,6 +130,8 @@ impl Baselines {
             (AreBaselines start (notes_of self.old)) (AreBaselines start (notes_of self.new))
             (held files.old (T.state tree.old)) (held files.new (T.state tree.new)) }
         ensures there { OnOk result (IsSome (note_at served.now.place (notes_of self.new))) }
+        ensures asked { LooksWithin (baseline_path served.now.folder ∷ [])
+            (kept_of files.old) (kept_of files.new) }
     {
         self.read.reserve(1)?;
         let read = read_baseline(alloc, files, tree, served)?;
@@ -146,6 +152,8 @@ impl Baselines {
             (AreBaselines start (notes_of self.old)) (AreBaselines start (notes_of self.new))
             (held files.old (T.state tree.old)) (held files.new (T.state tree.new)) }
         ensures there { OnOk result (IsSome (note_at served.now.place (notes_of self.new))) }
+        ensures asked { LooksWithin (baseline_path served.now.folder ∷ [])
+            (kept_of files.old) (kept_of files.new) }
     {
         if self.read.contains_key(&served.place) {
             return Ok(());
@@ -161,7 +169,7 @@ impl Baselines {
     }
 
     /// What a registry's baseline has for a port. `Refused` says that it has nothing, or what is
-    /// wrong with its file.
+    /// wrong with its file, which is the only one that is looked at.
     pub fn given<T: Tree>(
         &mut self,
         alloc: Global,
@@ -170,11 +178,13 @@ impl Baselines {
         served: &Served,
         port: &PortName,
     ) -> Result<Given, Stop<Wrong>>
-        ensures { (start : plain.Start) → served_at start served.now.place ≡ Ok
+        ensures reads { (start : plain.Start) → served_at start served.now.place ≡ Ok
             (served_view served.now) → ReadsNoting wrong_view given_view result
             (baseline_for (served_view served.now) port.now)
             (AreBaselines start (notes_of self.old)) (AreBaselines start (notes_of self.new))
             (held files.old (T.state tree.old)) (held files.new (T.state tree.new)) }
+        ensures asked { LooksWithin (baseline_path served.now.folder ∷ [])
+            (kept_of files.old) (kept_of files.new) }
     {
         self.look(alloc, files, tree, served)?;
         given_in(self.get(served.place).unwrap(), port)

@@ -1,11 +1,12 @@
 //! What files of ports and registries mean, or what is wrong with them.
-ghost use Rattle.std.specs.Prelude.{◌≡◌, Ok, List, option_map};
+ghost use Rattle.std.specs.Prelude.{◌≡◌, ◌∷◌, [], Ok, List, option_map};
 ghost use Rattle.vk_registry.specs.Baselines as plain_baseline;
 ghost use Rattle.vk_registry.specs.Baselines.{baseline_by};
 ghost use Rattle.vk_registry.specs.Tables as plain_table;
 ghost use Rattle.vk_registry.specs.Tables.{table_of};
 ghost use Rattle.vk_catalogue.specs.Views.{wrong_view};
-ghost use Rattle.vk_files.specs.Views.{held};
+ghost use Rattle.vk_files.specs.Views.{held, kept_of};
+ghost use Rattle.vk_files.specs.Within.{LooksWithin};
 ghost use Rattle.vk_base.specs.Stops.{is_failure};
 ghost use Rattle.vk_files.specs.StopViews.{fault_seen};
 ghost use Rattle.vk_files.specs.Readings.{ReadsAs, bad_view, is_at};
@@ -78,7 +79,8 @@ fn at_wrong(stop: Stop<BadFile>) -> Stop<Wrong>
     }
 }
 
-/// What the file at a path means to a reader. `Refused` has what is wrong with the file.
+/// What the file at a path means to a reader. `Refused` has what is wrong with the file. No other
+/// path is looked at.
 pub fn content<T: Tree, R: FileReader>(
     alloc: Global,
     files: &mut FileCache,
@@ -86,8 +88,9 @@ pub fn content<T: Tree, R: FileReader>(
     path: &TreePath,
     reader: &R,
 ) -> Result<R::Out, Stop<Wrong>>
-    ensures { ReadsAs wrong_view R.plain result (file_or_wrong (R.reads reader.now) path.now)
+    ensures reads { ReadsAs wrong_view R.plain result (file_or_wrong (R.reads reader.now) path.now)
         (held files.old (T.state tree.old)) (held files.new (T.state tree.new)) }
+    ensures asked { LooksWithin (path.now ∷ []) (kept_of files.old) (kept_of files.new) }
 {
     match read_file(alloc, files, tree, path, reader) {
         Ok(out) => Ok(out),
@@ -95,14 +98,16 @@ pub fn content<T: Tree, R: FileReader>(
     }
 }
 
-/// Whether a file stands at a path, whatever is in it. It refuses nothing.
+/// Whether a file stands at a path, whatever is in it. It refuses nothing. No other path is looked
+/// at.
 pub fn stands<T: Tree>(
     files: &mut FileCache,
     tree: &mut T,
     path: &TreePath,
 ) -> Result<bool, Stop<Wrong>>
-    ensures { ReadsAs wrong_view (λ b. b) result (λ f. Ok (is_at f path.now))
+    ensures reads { ReadsAs wrong_view (λ b. b) result (λ f. Ok (is_at f path.now))
         (held files.old (T.state tree.old)) (held files.new (T.state tree.new)) }
+    ensures asked { LooksWithin (path.now ∷ []) (kept_of files.old) (kept_of files.new) }
 {
     match file_standing(files, tree, path) {
         Ok(standing) => Ok(standing.is_there()),

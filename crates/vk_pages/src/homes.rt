@@ -3,6 +3,8 @@ ghost use Rattle.vk_catalogue.specs.Views.{wrong_view};
 ghost use Rattle.vk_files.specs.Views.{held};
 ghost use Rattle.vk_files.specs.Readings.{ReadsNoting};
 ghost use Rattle.vk_pages.specs.Homes.{home_of};
+ghost use Rattle.vk_pages.specs.Asked.{home_paths};
+ghost use Rattle.vk_pages.specs.Looked.{LooksNoting};
 ghost use Rattle.vk_pages.specs.BaselineNotes.{AreBaselines};
 ghost use Rattle.vk_pages.specs.HomeViews.{home_view, layout_view};
 ghost use Rattle.vk_pages.specs.NoteViews.{notes_of};
@@ -61,7 +63,8 @@ pub enum Home {
 
 /// Where the versions of a port are: in the first overlay that has it, or else in the registry that
 /// serves it, where an override counts before the baseline. `Refused` has the first thing that is
-/// wrong. A file that was read before isn't read again.
+/// wrong. A file that was read before isn't read again, and no path is looked at but those that are
+/// needed for the answer.
 pub fn home_of<T: Tree>(
     alloc: Global,
     layout: &Layout,
@@ -70,9 +73,13 @@ pub fn home_of<T: Tree>(
     tree: &mut T,
     port: &PortName,
 ) -> Result<Home, Stop<Wrong>>
-    ensures { ReadsNoting wrong_view home_view result (home_of (layout_view layout.now) port.now)
+    ensures reads { ReadsNoting wrong_view home_view result
+        (home_of (layout_view layout.now) port.now)
         (AreBaselines (layout_view layout.now) (notes_of baselines.old))
         (AreBaselines (layout_view layout.now) (notes_of baselines.new))
+        (held files.old (T.state tree.old)) (held files.new (T.state tree.new)) }
+    ensures asked { LooksNoting (λ f. home_paths (layout_view layout.now) f port.now)
+        (AreBaselines (layout_view layout.now) (notes_of baselines.old))
         (held files.old (T.state tree.old)) (held files.new (T.state tree.new)) }
 {
     match overlay_for(alloc, layout.overlays.as_slice(), files, tree, port)? {

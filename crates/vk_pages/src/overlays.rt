@@ -1,9 +1,10 @@
 //! The overlays of a project, and a port in one.
-ghost use Rattle.std.specs.Prelude.{◌≡◌, Ok, false, map, option_map};
+ghost use Rattle.std.specs.Prelude.{◌≡◌, ◌∷◌, [], Ok, false, map, option_map};
 ghost use Rattle.vk_spec.specs.Reading.{Gives};
 ghost use Rattle.vk_model.specs.Views.{manifest_view};
 ghost use Rattle.vk_catalogue.specs.Views.{wrong_view};
-ghost use Rattle.vk_files.specs.Views.{held};
+ghost use Rattle.vk_files.specs.Views.{held, kept_of};
+ghost use Rattle.vk_files.specs.Within.{LooksWithin, LooksWhere};
 ghost use Rattle.vk_base.specs.Stops.{has_failed};
 ghost use Rattle.vk_files.specs.StopViews.{fault_seen};
 ghost use Rattle.vk_files.specs.Readings.{ReadsAs, is_at};
@@ -11,6 +12,7 @@ ghost use Rattle.vk_opening.specs.Projects.{manifest_path};
 ghost use Rattle.vk_opening.specs.Views.{overlay_view};
 ghost use Rattle.vk_pages.specs.Homes.{is_named, port_folder, has_port, overlay_for, in_overlay};
 ghost use Rattle.vk_pages.specs.Homes.{overlay_home, named_home, folder_home, home_in};
+ghost use Rattle.vk_pages.specs.Asked.{overlay_path, overlay_paths};
 ghost use Rattle.vk_pages.specs.HomeViews.{home_view, own_home};
 
 use crate::agreement::{named, stated_version};
@@ -44,9 +46,11 @@ fn holds_port<T: Tree>(
     folder: &TreePath,
     port: &PortName,
 ) -> Result<bool, Stop<Wrong>>
-    ensures { ReadsAs wrong_view (λ b. b) result
+    ensures reads { ReadsAs wrong_view (λ b. b) result
         (λ f. Ok (is_at f (manifest_path (port_folder folder.now port.now))))
         (held files.old (T.state tree.old)) (held files.new (T.state tree.new)) }
+    ensures asked { LooksWithin (manifest_path (port_folder folder.now port.now) ∷ [])
+        (kept_of files.old) (kept_of files.new) }
 {
     let folder = port_folder(alloc, folder, port)?;
     let path = manifest_path(alloc, &folder)?;
@@ -60,9 +64,11 @@ fn has_port<T: Tree>(
     overlay: &Overlay,
     port: &PortName,
 ) -> Result<bool, Stop<Wrong>>
-    ensures { ReadsAs wrong_view (λ b. b) result
+    ensures reads { ReadsAs wrong_view (λ b. b) result
         (λ f. Ok (has_port port.now f (overlay_view overlay.now)))
         (held files.old (T.state tree.old)) (held files.new (T.state tree.new)) }
+    ensures asked { LooksWithin (overlay_path port.now (overlay_view overlay.now))
+        (kept_of files.old) (kept_of files.new) }
 {
     match overlay {
         Overlay::Port(_, manifest) => Ok(is_named(manifest, port)),
@@ -70,7 +76,8 @@ fn has_port<T: Tree>(
     }
 }
 
-/// The first overlay that has a port; `None` exactly where none has it. It refuses nothing.
+/// The first overlay that has a port; `None` exactly where none has it. It refuses nothing, and no
+/// overlay after the first is looked at.
 pub fn overlay_for<'a, T: Tree>(
     alloc: Global,
     overlays: &'a [Overlay],
@@ -78,8 +85,10 @@ pub fn overlay_for<'a, T: Tree>(
     tree: &mut T,
     port: &PortName,
 ) -> Result<Option<&'a Overlay>, Stop<Wrong>>
-    ensures { ReadsAs wrong_view (option_map (λ o. overlay_view o.now)) result
+    ensures reads { ReadsAs wrong_view (option_map (λ o. overlay_view o.now)) result
         (λ f. Ok (overlay_for (map overlay_view overlays.now) port.now f))
+        (held files.old (T.state tree.old)) (held files.new (T.state tree.new)) }
+    ensures asked { LooksWhere (λ f. overlay_paths (map overlay_view overlays.now) f port.now)
         (held files.old (T.state tree.old)) (held files.new (T.state tree.new)) }
 {
     for overlay in overlays {
@@ -173,8 +182,11 @@ fn version_in<T: Tree>(
     folder: &TreePath,
     port: &PortName,
 ) -> Result<OwnVersion, Stop<Wrong>>
-    ensures { ReadsAs wrong_view (own_home folder.now) result (folder_home port.now folder.now)
-        (held files.old (T.state tree.old)) (held files.new (T.state tree.new)) }
+    ensures reads { ReadsAs wrong_view (own_home folder.now) result
+        (folder_home port.now folder.now) (held files.old (T.state tree.old))
+        (held files.new (T.state tree.new)) }
+    ensures asked { LooksWithin (manifest_path folder.now ∷ [])
+        (kept_of files.old) (kept_of files.new) }
 {
     let path = manifest_path(alloc, folder)?;
     let manifest = content(alloc, files, tree, &path, &PortFile)?;
@@ -189,8 +201,10 @@ fn folder_home<T: Tree>(
     folder: TreePath,
     port: &PortName,
 ) -> Result<Home, Stop<Wrong>>
-    ensures { ReadsAs wrong_view home_view result (folder_home port.now folder)
+    ensures reads { ReadsAs wrong_view home_view result (folder_home port.now folder)
         (held files.old (T.state tree.old)) (held files.new (T.state tree.new)) }
+    ensures asked { LooksWithin (manifest_path folder ∷ [])
+        (kept_of files.old) (kept_of files.new) }
 {
     let own = version_in(alloc, files, tree, &folder, port)?;
     Ok(Home::Overlay {
@@ -200,7 +214,8 @@ fn folder_home<T: Tree>(
     })
 }
 
-/// The home of a port that an overlay has. `Refused` has what is wrong with its manifest.
+/// The home of a port that an overlay has. `Refused` has what is wrong with its manifest, which is
+/// the only file that is looked at.
 pub fn home_in<T: Tree>(
     alloc: Global,
     files: &mut FileCache,
@@ -208,8 +223,11 @@ pub fn home_in<T: Tree>(
     overlay: &Overlay,
     port: &PortName,
 ) -> Result<Home, Stop<Wrong>>
-    ensures { ReadsAs wrong_view home_view result (home_in (overlay_view overlay.now) port.now)
-        (held files.old (T.state tree.old)) (held files.new (T.state tree.new)) }
+    ensures reads { ReadsAs wrong_view home_view result
+        (home_in (overlay_view overlay.now) port.now) (held files.old (T.state tree.old))
+        (held files.new (T.state tree.new)) }
+    ensures asked { LooksWithin (overlay_path port.now (overlay_view overlay.now))
+        (kept_of files.old) (kept_of files.new) }
 {
     match overlay {
         Overlay::Port(folder, manifest) => port_home(alloc, folder, manifest),

@@ -1,17 +1,21 @@
 //! A port in the registry that serves it.
-ghost use Rattle.std.specs.Prelude.{◌≡◌, Ok, false, map, option_map};
+ghost use Rattle.std.specs.Prelude.{◌≡◌, ◌∷◌, [], Ok, false, map, option_map};
 ghost use Rattle.vk_spec.specs.Reading.{Gives};
 ghost use Rattle.vk_spec.specs.Pages.{override};
 ghost use Rattle.vk_version.specs.AskViews.{ask_view};
 ghost use Rattle.vk_model.specs.Views.{override_view};
 ghost use Rattle.vk_catalogue.specs.Views.{wrong_view, given_view};
-ghost use Rattle.vk_files.specs.Views.{held};
+ghost use Rattle.vk_files.specs.Views.{held, kept_of};
+ghost use Rattle.vk_files.specs.Within.{LooksWithin};
 ghost use Rattle.vk_base.specs.Stops.{has_failed};
 ghost use Rattle.vk_files.specs.StopViews.{fault_seen};
 ghost use Rattle.vk_files.specs.Readings.{ReadsAs, ReadsNoting};
 ghost use Rattle.vk_opening.specs.Starts as plain;
 ghost use Rattle.vk_pages.specs.Homes.{served_at, override_for, given_by, table_in, served_home};
 ghost use Rattle.vk_pages.specs.Homes.{registry_home};
+ghost use Rattle.vk_pages.specs.RegistryFiles.{table_path};
+ghost use Rattle.vk_pages.specs.Asked.{given_paths, served_paths, registry_paths};
+ghost use Rattle.vk_pages.specs.Looked.{LooksNoting};
 ghost use Rattle.vk_pages.specs.BaselineNotes.{AreBaselines};
 ghost use Rattle.vk_pages.specs.HomeViews.{home_view, table_home, layout_view, served_view};
 ghost use Rattle.vk_pages.specs.NoteViews.{notes_of};
@@ -61,11 +65,15 @@ fn given_by<T: Tree>(
     tree: &mut T,
     port: &PortName,
 ) -> Result<Given, Stop<Wrong>>
-    ensures { (start : plain.Start) → served_at start served.now.place ≡ Ok (served_view served.now)
+    ensures reads { (start : plain.Start)
+        → served_at start served.now.place ≡ Ok (served_view served.now)
         → ReadsNoting wrong_view given_view result
         (given_by (option_map (λ a. ask_view a.now) set.entry) (served_view served.now) port.now)
         (AreBaselines start (notes_of baselines.old)) (AreBaselines start (notes_of baselines.new))
         (held files.old (T.state tree.old)) (held files.new (T.state tree.new)) }
+    ensures asked { LooksWithin
+        (given_paths (option_map (λ a. ask_view a.now) set.entry) (served_view served.now))
+        (kept_of files.old) (kept_of files.new) }
 {
     match set {
         Some(ask) => override_given(ask),
@@ -80,8 +88,10 @@ fn table_in<T: Tree>(
     tree: &mut T,
     port: &PortName,
 ) -> Result<Table, Stop<Wrong>>
-    ensures { ReadsAs wrong_view (λ t. t) result (table_in (served_view served.now) port.now)
+    ensures reads { ReadsAs wrong_view (λ t. t) result (table_in (served_view served.now) port.now)
         (held files.old (T.state tree.old)) (held files.new (T.state tree.new)) }
+    ensures asked { LooksWithin (table_path port.now served.now.folder ∷ [])
+        (kept_of files.old) (kept_of files.new) }
 {
     let path = table_path(alloc, &served.folder, port)?;
     content(alloc, files, tree, &path, &PortTable)
@@ -103,10 +113,17 @@ fn given_table<T: Tree>(
     tree: &mut T,
     port: &PortName,
 ) -> Result<GivenTable, Stop<Wrong>>
-    ensures { (start : plain.Start) → served_at start served.now.place ≡ Ok (served_view served.now)
+    ensures reads { (start : plain.Start)
+        → served_at start served.now.place ≡ Ok (served_view served.now)
         → ReadsNoting wrong_view (table_home served.now.folder) result
         (served_home (option_map (λ a. ask_view a.now) set.entry) (served_view served.now) port.now)
         (AreBaselines start (notes_of baselines.old)) (AreBaselines start (notes_of baselines.new))
+        (held files.old (T.state tree.old)) (held files.new (T.state tree.new)) }
+    ensures asked { (start : plain.Start)
+        → served_at start served.now.place ≡ Ok (served_view served.now) → LooksNoting
+        (λ f. served_paths (option_map (λ a. ask_view a.now) set.entry) (served_view served.now)
+        f port.now)
+        (AreBaselines start (notes_of baselines.old))
         (held files.old (T.state tree.old)) (held files.new (T.state tree.new)) }
 {
     let given = given_by(alloc, set, served, files, baselines, tree, port)?;
@@ -124,11 +141,17 @@ fn served_home<T: Tree>(
     tree: &mut T,
     port: &PortName,
 ) -> Result<Home, Stop<Wrong>>
-    ensures { (start : plain.Start)
+    ensures reads { (start : plain.Start)
         → served_at start served.entry.place ≡ Ok (served_view served.entry)
         → ReadsNoting wrong_view home_view result
         (served_home (option_map (λ a. ask_view a.now) set.entry) (served_view served.entry) port.now)
         (AreBaselines start (notes_of baselines.old)) (AreBaselines start (notes_of baselines.new))
+        (held files.old (T.state tree.old)) (held files.new (T.state tree.new)) }
+    ensures asked { (start : plain.Start)
+        → served_at start served.entry.place ≡ Ok (served_view served.entry) → LooksNoting
+        (λ f. served_paths (option_map (λ a. ask_view a.now) set.entry) (served_view served.entry)
+        f port.now)
+        (AreBaselines start (notes_of baselines.old))
         (held files.old (T.state tree.old)) (held files.new (T.state tree.new)) }
 {
     let found = given_table(alloc, set, &served, files, baselines, tree, port)?;
@@ -140,7 +163,8 @@ fn served_home<T: Tree>(
 }
 
 /// The home of a port in the registry that serves it. `Refused` says that none does, that its
-/// baseline has nothing for the port, or which of the two files is wrong.
+/// baseline has nothing for the port, or which of the two files is wrong. The baseline file isn't
+/// looked at where the root manifest sets a version, nor the versions file where nothing is given.
 pub fn registry_home<T: Tree>(
     alloc: Global,
     layout: &Layout,
@@ -149,10 +173,13 @@ pub fn registry_home<T: Tree>(
     tree: &mut T,
     port: &PortName,
 ) -> Result<Home, Stop<Wrong>>
-    ensures { ReadsNoting wrong_view home_view result
+    ensures reads { ReadsNoting wrong_view home_view result
         (registry_home (layout_view layout.now) port.now)
         (AreBaselines (layout_view layout.now) (notes_of baselines.old))
         (AreBaselines (layout_view layout.now) (notes_of baselines.new))
+        (held files.old (T.state tree.old)) (held files.new (T.state tree.new)) }
+    ensures asked { LooksNoting (λ f. registry_paths (layout_view layout.now) f port.now)
+        (AreBaselines (layout_view layout.now) (notes_of baselines.old))
         (held files.old (T.state tree.old)) (held files.new (T.state tree.new)) }
 {
     let served = served_for(alloc, layout, port)?;

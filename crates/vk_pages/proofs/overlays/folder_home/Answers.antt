@@ -4,10 +4,10 @@ use Rattle.vk_pages.specs.HomeViews.{home_view}
 use Rattle.vk_opening.proofs.OpenLemmas.{reads_err, reads_last}
 use Rattle.vk_pages.proofs.overlays.folder_home.Goals as goal
 
-pub returns-in_err-own : goal.returns-in_err-own
-returns-in_err-own g c =
+pub returns-in_err-own-clause-reads : goal.returns-in_err-own-clause-reads
+returns-in_err-own-clause-reads g c =
     let p = err_from_is_err_and c.from_residual.result c.from_residual.ensures.1 in
-    rw (p.1, p.2) (reads_err home_view c.in_err-own.ensures)
+    rw (p.1, p.2) (reads_err home_view c.in_err-own.ensures.reads)
 
-pub returns : goal.returns
-returns g c = reads_last home_view _ refl c.in_ok-own.ensures
+pub returns-clause-reads : goal.returns-clause-reads
+returns-clause-reads g c = reads_last home_view _ refl c.in_ok-own.ensures.reads

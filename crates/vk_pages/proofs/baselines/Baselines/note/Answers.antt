@@ -8,6 +8,7 @@ use Rattle.vk_pages.specs.BaselineNotes.{AreBaselines, note_at}
 use Rattle.vk_pages.specs.HomeViews.{served_view}
 use Rattle.vk_pages.specs.NoteViews.{read_view, notes_of}
 use Rattle.vk_pages.proofs.BaselineLemmas.{noted_one, noted_none, same_place}
+use Rattle.vk_files.proofs.WithinLemmas.{nothing_since}
 use Rattle.vk_pages.proofs.baselines.Baselines.note.Goals as goal
 
 pub returns-in_err-reserve-clause-noted : goal.returns-in_err-reserve-clause-noted
@@ -17,12 +18,15 @@ returns-in_err-reserve-clause-noted g c = λ start is.
 pub returns-in_err-read-clause-noted : goal.returns-in_err-read-clause-noted
 returns-in_err-read-clause-noted g c = λ start is.
     let p = err_from_is_err_and c.from_residual-in_err-read.result c.from_residual-in_err-read.ensures.1 in
-    rw (p.1, p.2, c.reserve.ensures.entries) (noted_none (AreBaselines start (notes_of c.args.self.now)) c.in_err-read.field-0.0 (served_view c.args.served.now) _ _ c.in_err-read.ensures)
+    rw (p.1, p.2, c.reserve.ensures.entries) (noted_none (AreBaselines start (notes_of c.args.self.now)) c.in_err-read.field-0.0 (served_view c.args.served.now) _ _ c.in_err-read.ensures.reads)
 
 pub returns-clause-noted : goal.returns-clause-noted
 returns-clause-noted g c = λ start is.
-    noted_one start (served_view c.args.served.now) c.args.served.now.place c.in_ok-read.read _ _ _ _ is (rw c.reserve.ensures.entries at c.keep.ensures) c.in_ok-read.ensures
+    noted_one start (served_view c.args.served.now) c.args.served.now.place c.in_ok-read.read _ _ _ _ is (rw c.reserve.ensures.entries at c.keep.ensures) c.in_ok-read.ensures.reads
 
 pub returns-clause-there : goal.returns-clause-there
 returns-clause-there g c =
     subst (λ notes. IsSome (note_at c.args.served.now.place notes)) (sym c.keep.ensures) (last_noted nat_eq c.args.served.now.place (read_view c.in_ok-read.read) _ (same_place c.args.served.now.place))
+
+pub returns-in_err-reserve-clause-asked : goal.returns-in_err-reserve-clause-asked
+returns-in_err-reserve-clause-asked g c = nothing_since _ _
