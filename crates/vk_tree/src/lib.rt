@@ -5,8 +5,10 @@
 
 mod buffers;
 mod file_maps;
+mod listing;
 mod mem_sinks;
 mod mem_trees;
+mod moving;
 mod sending;
 mod sinks;
 mod trees;
@@ -15,4 +17,4 @@ pub use mem_sinks::MemSink;
 pub use mem_trees::MemTree;
 pub use sending::{OutStop, send};
 pub use sinks::{Sink, SinkFailed};
-pub use trees::{ReadFault, Tree};
+pub use trees::{Kind, ListFault, Listed, MoveFault, ReadFault, RemoveFault, Tree};
