@@ -1,5 +1,5 @@
 -- The parts of a path, one by one, and that each is a part's text.
-use Rattle.std.proofs.Common.{◌≡◌, ◌≢◌, ◌==◌, ◌&&◌, ◌<◌, ◌+◌, ◌^◌, inl, not, ℕ, suc, true, false, List, [], ◌∷◌, ◌++◌, length, drop, refl, ap, sym, ◌∙◌, subst, arith}
+use Rattle.std.proofs.Common.{◌≡◌, ◌≢◌, ◌==◌, ◌&&◌, ◌||◌, ◌<◌, ◌+◌, ◌^◌, inl, not, ℕ, suc, true, false, List, [], ◌∷◌, ◌++◌, length, drop, refl, ap, sym, ◌∙◌, subst, arith}
 use Rattle.std.proofs.lemmas.Bool.Decides.{nat_tests}
 use Rattle.std.proofs.lemmas.List.{append-nil}
 use Rattle.std.proofs.lemmas.List.Elements.{All-head, All-tail}
@@ -7,7 +7,7 @@ use Rattle.std.proofs.lemmas.Result.{IfOk-weaker}
 use Rattle.std.proofs.lemmas.Slice.Eq.{bytes_eq-Decides}
 use Rattle.std.proofs.Math.Seq.{drop-append_seam, drop-nil}
 use Rattle.std.specs.Prelude.{Bool, Option, Some, None, is_some, IsTrue, MatchOption, Result, IfOk}
-use Rattle.std.specs.List.{All}
+use Rattle.std.specs.List.{All, list_any}
 use Rattle.std.specs.Str.{bytes_eq}
 use Rattle.std.specs.declared.cmp.Ordering.TheVariants.{Less, Equal}
 use Rattle.std.specs.Cmp.{tied_itself}
@@ -64,6 +64,14 @@ both_hold one two e f = ap (λ t. t && two) e ∙ f
 lacks_test : (b : ℕ) (text : List ℕ) → Lacks b text → lacks b text ≡ true
 lacks_test b [] all = refl
 lacks_test b (c ∷ text) all = both_hold (not (c == b)) (lacks b text) (no_byte b c (All-head (λ x. x ≢ b) c text all)) (lacks_test b text (All-tail (λ x. x ≢ b) c text all))
+
+not_either : (one two : Bool) → not (one || two) ≡ (not one && not two)
+not_either true two = refl
+not_either false two = refl
+
+pub lacks_none : (b : ℕ) (text : List ℕ) → not (list_any (λ c. c == b) text) ≡ lacks b text
+lacks_none b [] = refl
+lacks_none b (c ∷ text) = not_either (c == b) (list_any (λ x. x == b) text) ∙ ap (λ t. not (c == b) && t) (lacks_none b text)
 
 other_text : (one two : List ℕ) → one ≢ two → not (bytes_eq one two) ≡ true
 other_text one two other =

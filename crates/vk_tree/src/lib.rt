@@ -9,12 +9,14 @@ mod listing;
 mod mem_sinks;
 mod mem_trees;
 mod moving;
+mod names;
 mod sending;
 mod sinks;
 mod trees;
 
 pub use mem_sinks::MemSink;
 pub use mem_trees::MemTree;
+pub use names::may_be_part;
 pub use sending::{OutStop, send};
 pub use sinks::{Sink, SinkFailed};
 pub use trees::{Kind, ListFault, Listed, MoveFault, ReadFault, RemoveFault, Tree};
