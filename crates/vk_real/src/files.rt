@@ -1,105 +1,85 @@
 //! The host's files as a tree.
-ghost use Rattle.std.specs.Prelude.{None, false};
+ghost use Rattle.std.specs.Prelude.{◌≡◌, None, false, IfOk, IsTrue};
+ghost use Rattle.std.specs.List.{All};
+ghost use Rattle.vk_spec.specs.Calls.{NoLonger, is_failed, most_entries};
+ghost use Rattle.vk_base.specs.Paths.{is_part};
+ghost use Rattle.vk_tree.specs.Answers.{list_answer};
+ghost use Rattle.vk_real.specs.Outages.{IsOutage};
 
+use crate::changing::{Moved, move_path, remove_at, write_file};
+use crate::listing::list_in;
+use crate::reading::{Found, find, find_piece};
+use crate::stands::{Stand, has_file, stand_at};
 use std::alloc::Global;
-use std::io::{ErrorKind, Read};
+use std::io;
+use std::io::ErrorKind;
 use std::rt::Files;
-use std::{fs, io};
-use vk_base::{List, Memory, Stop, TreePath};
-use vk_tree::{ReadFault, Tree};
+use vk_base::{List, Memory, Outage, Stop, TreePath};
+use vk_tree::{Kind, ListFault, Listed, MoveFault, ReadFault, RemoveFault, Tree};
+
+// The most entries of one folder.
+const MOST_ENTRIES: usize = 100_000;
 
 /// The host's files. It tells nothing of them, and counts each error.
 #[derive(Drop)]
 pub struct FileTree<R> {
     rt: R,
     alloc: Global,
+    changes: u64,
     faults: u64,
     calls: u64,
 }
 
-// What stands at a path: at most one byte more than the limit.
-enum Found {
-    Absent,
-    Long,
-    Bytes(Vec<u8>),
-}
-
-// No file stands there, or one is on the way to it.
-fn is_absent(e: &io::Error) -> bool {
-    e.kind() == ErrorKind::NotFound || e.kind() == ErrorKind::NotADirectory
-}
-
-// How long the file at a path is. A folder counts as none, and so does a link, which isn't
-// followed.
-fn file_size<R: Files>(rt: &R, path: &str) -> io::Result<Option<u64>> {
-    match fs::symlink_metadata(rt, path) {
-        Ok(found) if found.is_file() => Ok(Some(found.len())),
-        Ok(_) => Ok(None),
-        Err(e) if is_absent(&e) => Ok(None),
-        Err(e) => Err(e),
-    }
-}
-
-// One read, which gives nothing where a signal interrupts it.
-fn read_once<F: Read>(file: &mut F, room: &mut [u8]) -> io::Result<usize> {
-    match file.read(room) {
-        Err(e) if e.kind() == ErrorKind::Interrupted => Ok(0),
-        read => read,
-    }
-}
-
-// The first bytes of a file that was this long a moment ago, at most so many. A read with room for
-// one more that gives just these has met the end; else the file changed, and is read to its end.
-fn read_bytes<F: Read + Drop>(
-    alloc: Global,
-    mut file: F,
-    size: usize,
-    most: u64,
-) -> io::Result<Vec<u8>> {
-    let mut bytes = Vec::from_elem(alloc, 0, size.saturating_add(1))?;
-    let count = read_once(&mut file, &mut bytes)?;
-    bytes.truncate(count);
-    if count != size {
-        let rest = most.saturating_sub(count as u64);
-        let _ = file.take(rest).read_to_end(&mut bytes)?;
-    }
-    Ok(bytes)
-}
-
-fn find<R: Files + Alloc<A = Global>>(rt: &R, path: &str, limit: u64) -> io::Result<Found> {
-    let Some(size) = file_size(rt, path)? else {
-        return Ok(Found::Absent);
-    };
-    if size > limit {
-        return Ok(Found::Long);
-    }
-    let file = fs::open(rt, path)?;
-    let most = limit.saturating_add(1);
-    let bytes = read_bytes(rt.alloc(), file, size as usize, most)?;
-    Ok(Found::Bytes(bytes))
-}
-
-impl<R: Files + Alloc<A = Global>> FileTree<R> {
+impl<R: Files + Alloc<A = Global> + Clone + Drop> FileTree<R> {
     /// A tree whose counts are 0.
     pub fn new(rt: R) -> FileTree<R> {
         let alloc = rt.alloc();
         FileTree {
             rt,
             alloc,
+            changes: 0,
             faults: 0,
             calls: 0,
         }
     }
 }
 
-impl<R: Files + Alloc<A = Global>> Tree for FileTree<R> {
+// Why a call wasn't done: out of memory, or a failure, which counts.
+fn outage(faults: &mut u64, e: &io::Error) -> Outage
+    ensures { IsOutage result faults.old faults.new }
+{
+    if e.kind() == ErrorKind::OutOfMemory {
+        return Outage::Memory(Memory::without_allocation());
+    }
+    *faults = faults.saturating_add(1);
+    Outage::Failed
+}
+
+fn kind_at<R: Files + Alloc<A = Global> + Clone + Drop>(rt: &R, path: &str) -> io::Result<Kind> {
+    match stand_at(rt, path)? {
+        Stand::File => Ok(Kind::File),
+        Stand::Folder | Stand::Linked if has_file(rt, path)? => Ok(Kind::Folder),
+        Stand::Folder | Stand::Linked | Stand::Absent | Stand::Other => Ok(Kind::Absent),
+    }
+}
+
+impl<R: Files + Alloc<A = Global> + Clone + Drop> Tree for FileTree<R> {
     ghost state = { λ t. record {
       told = None;
-      changes = 0;
+      changes = t.changes;
       faults = t.faults;
       calls = t.calls;
       sure = false;
     } };
+
+    fn kind(&mut self, path: &TreePath) -> Result<Kind, Outage> {
+        self.calls = self.calls.saturating_add(1);
+        let text = path.text(self.alloc)?;
+        match kind_at(&self.rt, text.as_str()) {
+            Ok(kind) => Ok(kind),
+            Err(e) => Err(outage(&mut self.faults, &e)),
+        }
+    }
 
     fn read(&mut self, path: &TreePath, limit: u64) -> Result<List<u8>, Stop<ReadFault>> {
         self.calls = self.calls.saturating_add(1);
@@ -113,17 +93,85 @@ impl<R: Files + Alloc<A = Global>> Tree for FileTree<R> {
                 }
                 Ok(List::from_vec(bytes))
             }
-            Err(e) => {
-                if e.kind() == ErrorKind::OutOfMemory {
-                    return Err(Stop::Memory(Memory::without_allocation()));
-                }
-                self.faults = self.faults.saturating_add(1);
-                Err(Stop::Failed)
+            Err(e) => Err(Stop::from(outage(&mut self.faults, &e))),
+        }
+    }
+
+    fn piece(&mut self, path: &TreePath, at: u64, most: u32) -> Result<List<u8>, Stop<ReadFault>> {
+        self.calls = self.calls.saturating_add(1);
+        let text = path.text(self.alloc)?;
+        match find_piece(&self.rt, text.as_str(), at, most) {
+            Ok(Some(bytes)) => Ok(List::from_vec(bytes)),
+            Ok(None) => Err(Stop::Fault(ReadFault::Missing)),
+            Err(e) => Err(Stop::from(outage(&mut self.faults, &e))),
+        }
+    }
+
+    fn list(&mut self, dir: &TreePath) -> Result<List<Listed>, Stop<ListFault>> {
+        self.calls = self.calls.saturating_add(1);
+        let text = dir.text(self.alloc)?;
+        match list_in(&self.rt, text.as_str()) {
+            Ok(entries) => listed(entries),
+            Err(e) => Err(Stop::from(outage(&mut self.faults, &e))),
+        }
+    }
+
+    fn write(&mut self, path: &TreePath, bytes: &[u8]) -> Result<(), Outage> {
+        self.calls = self.calls.saturating_add(1);
+        let text = path.text(self.alloc)?;
+        match write_file(&self.rt, text.as_str(), bytes) {
+            Ok(()) => {
+                self.changes = self.changes.saturating_add(1);
+                Ok(())
             }
+            Err(e) => Err(outage(&mut self.faults, &e)),
+        }
+    }
+
+    fn rename(&mut self, from: &TreePath, to: &TreePath) -> Result<(), Stop<MoveFault>> {
+        self.calls = self.calls.saturating_add(1);
+        let (old, new) = (from.text(self.alloc)?, to.text(self.alloc)?);
+        match move_path(&self.rt, old.as_str(), new.as_str()) {
+            Ok(Moved::Done) => {
+                self.changes = self.changes.saturating_add(1);
+                Ok(())
+            }
+            Ok(Moved::Missing) => Err(Stop::Fault(MoveFault::Missing)),
+            Ok(Moved::Exists) => Err(Stop::Fault(MoveFault::Exists)),
+            Err(e) => Err(Stop::from(outage(&mut self.faults, &e))),
+        }
+    }
+
+    fn remove(&mut self, path: &TreePath) -> Result<(), Stop<RemoveFault>> {
+        self.calls = self.calls.saturating_add(1);
+        let text = path.text(self.alloc)?;
+        match remove_at(&self.rt, text.as_str()) {
+            Ok(true) => {
+                self.changes = self.changes.saturating_add(1);
+                Ok(())
+            }
+            Ok(false) => Err(Stop::Fault(RemoveFault::Missing)),
+            Err(e) => Err(Stop::from(outage(&mut self.faults, &e))),
         }
     }
 
     fn faults(&self) -> u64 {
         self.faults
     }
+}
+
+// The entries of a folder, unless there are none or more than may be.
+fn listed(entries: Vec<Listed>) -> Result<List<Listed>, Stop<ListFault>>
+    requires { All (λ l. IsTrue (is_part l.name)) entries.items }
+    ensures small { NoLonger most_entries (list_answer result) }
+    ensures parts { IfOk result (All (λ l. IsTrue (is_part l.name))) }
+    ensures calm { is_failed (list_answer result) ≡ false }
+{
+    if entries.is_empty() {
+        return Err(Stop::Fault(ListFault::Missing));
+    }
+    if entries.len() > MOST_ENTRIES {
+        return Err(Stop::Fault(ListFault::Many));
+    }
+    Ok(List::from_vec(entries))
 }

@@ -2,7 +2,11 @@
 //! what they promise upwards is that an error of the host is counted and answered as one.
 #![tactic(auto)]
 
+mod changing;
 mod files;
+mod listing;
+mod reading;
+mod stands;
 mod streams;
 
 pub use files::FileTree;

@@ -1,11 +1,15 @@
 -- A tree in memory: what is known of it, and what its calls do.
-use Rattle.std.specs.Prelude.{◌≡◌, ℕ, Bool, true, List, [], Option, Some, None}
+use Rattle.std.specs.Prelude.{◌≡◌, ◌/◌, ◌⊎◌, ℕ, Bool, true, List, [], length, take, Option, Some, None}
 use Rattle.std.specs.FinMap as map
 use Rattle.vk_spec.specs.Paths.{Path}
 use Rattle.vk_spec.specs.Files.{Files}
 use Rattle.vk_spec.specs.States.{Told, State}
 use Rattle.vk_base.specs.Schedules.{turn_of, is_calm, is_wrong, with_call, raised}
+use Rattle.vk_spec.specs.Standing.{Disk}
+use Rattle.vk_spec.specs.Calls.{Answer, Says, read_of, piece_of}
 use Rattle.vk_tree.specs.declared.mem_trees.MemTree.{MemTree}
+use Rattle.vk_tree.specs.declared.mem_trees.Asked.{Asked}
+use Rattle.vk_tree.specs.declared.mem_trees.Asked.TheVariants.{Whole, Piece}
 use Rattle.vk_base.specs.declared.schedules.Schedule.{Schedule}
 
 -- the bytes at each path
@@ -52,3 +56,21 @@ pub record MemCalls (failed : Bool) (before after : MemTree) : Type 0 where
   pub turn : failed ≡ is_wrong (turn_of (mem_schedule before))
   pub faults : (mem_state after).faults ≡ raised failed (mem_state before).faults
   pub schedule : mem_schedule after ≡ with_call (mem_schedule before)
+
+-- a call is counted, and is a fault where it is to fail
+abbrev pub called : MemTree → MemTree
+called m = record m { faults = raised (is_wrong (turn_of m.schedule)) m.faults; schedule = with_call m.schedule }
+
+-- what a write that failed leaves: the first half of the bytes, or, out of memory, what stood there
+abbrev pub IsHalfPut : Path → List ℕ → Files → Files → Type 0
+IsHalfPut path bytes before after = (after ≡ map.insert before path (take (length bytes / 2) bytes)) ⊎ (after ≡ before)
+
+-- what a read of a file, or of a piece of one, answers by what stands there
+abbrev pub SaysAsked : Path → Asked → Answer (List ℕ) → Disk → Type 0
+SaysAsked path (Whole limit) answer d = Says (read_of path limit) answer d
+SaysAsked path (Piece at most) answer d = Says (piece_of path at most) answer d
+
+-- the most bytes that it may give
+abbrev pub most_for : Asked → ℕ
+most_for (Whole limit) = limit
+most_for (Piece at most) = most

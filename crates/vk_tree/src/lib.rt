@@ -5,14 +5,18 @@
 
 mod buffers;
 mod file_maps;
+mod listing;
 mod mem_sinks;
 mod mem_trees;
+mod moving;
+mod names;
 mod sending;
 mod sinks;
 mod trees;
 
 pub use mem_sinks::MemSink;
 pub use mem_trees::MemTree;
+pub use names::may_be_part;
 pub use sending::{OutStop, send};
 pub use sinks::{Sink, SinkFailed};
-pub use trees::{ReadFault, Tree};
+pub use trees::{Kind, ListFault, Listed, MoveFault, ReadFault, RemoveFault, Tree};

@@ -1,19 +1,26 @@
 //! A tree of files in memory.
-ghost use Rattle.std.specs.Prelude.{◌≡◌, ◌↔◌, ◌++◌, IsTrue, IfOk, OnOk, OnErr, Some, option_map};
-ghost use Rattle.std.specs.Prelude.{false};
+ghost use Rattle.std.specs.Prelude.{◌≡◌, ◌≤◌, ◌↔◌, ◌++◌, IsTrue, IfOk, OnOk, OnErr, Some};
+ghost use Rattle.std.specs.Prelude.{option_map, true, false, take, drop};
+ghost use Rattle.std.specs.List.{All};
 ghost use Rattle.std.specs.FinMap as map;
-ghost use Rattle.vk_spec.specs.Files.{HasRoomFor};
-ghost use Rattle.vk_spec.specs.Standing.{disk_of};
-ghost use Rattle.vk_spec.specs.Calls.{Made, Says, NoLonger, read_of, is_failed, noted};
-ghost use Rattle.vk_tree.specs.Answers.{read_answer};
-ghost use Rattle.vk_base.specs.Schedules.{with_listed, with_stop};
+ghost use Rattle.vk_spec.specs.Counts.{Counted};
+ghost use Rattle.vk_spec.specs.Files.{HasRoomFor, IsTree};
+ghost use Rattle.vk_spec.specs.Standing.{disk_of, OnFiles};
+ghost use Rattle.vk_spec.specs.Calls.{Made, CanMake, NoLonger, is_failed, noted};
+ghost use Rattle.vk_spec.specs.Calls.{kind_of, read_of, piece_of, list_of, write_of, rename_of};
+ghost use Rattle.vk_spec.specs.Calls.{remove_of};
+ghost use Rattle.vk_tree.specs.Answers.{kind_answer, read_answer, list_answer, write_answer};
+ghost use Rattle.vk_tree.specs.Answers.{move_answer, remove_answer};
+ghost use Rattle.vk_base.specs.Paths.{is_part};
+ghost use Rattle.vk_base.specs.Schedules.{turn_of, is_calm, is_wrong, with_listed, with_stop};
 ghost use Rattle.vk_tree.specs.MemTrees.{IsNewTree, MemCalls, mem_files, mem_log, mem_schedule};
-ghost use Rattle.vk_tree.specs.MemTrees.{mem_state, with_file, with_schedule};
+ghost use Rattle.vk_tree.specs.MemTrees.{mem_state, with_file, with_schedule, called};
+ghost use Rattle.vk_tree.specs.MemTrees.{IsHalfPut, SaysAsked, most_for};
 
 use crate::file_maps::FileMap;
-use crate::trees::{ReadFault, Tree};
+use crate::trees::{Kind, ListFault, Listed, MoveFault, ReadFault, RemoveFault, Tree};
 use std::alloc::{AllocError, AllocFailed, Global};
-use vk_base::{List, Memory, Schedule, Stop, TreePath};
+use vk_base::{List, Memory, Outage, Schedule, Stop, TreePath};
 
 /// A tree in memory that tells its files.
 #[derive(Drop)]
@@ -50,10 +57,7 @@ impl MemTree {
         ensures err { OnErr result (mem_state self.new ≡ mem_state self.old) }
         ensures schedule { mem_schedule self.new ≡ mem_schedule self.old }
     {
-        let path = path.clone()?;
-        let held = List::from_slice(self.alloc, bytes)?;
-        self.files.put(path, held)?;
-        Ok(())
+        put_file(self.alloc, &mut self.files, path, bytes)
     }
 
     /// Whether a file may be put at a path: none stands above it or below it. Takes no memory, and
@@ -110,58 +114,210 @@ impl MemTree {
     }
 }
 
+impl MemTree {
+    // Counts a call, and tells whether it fails; then the count of faults rises.
+    fn fails(&mut self) -> bool
+        ensures failed { result ≡ is_wrong (turn_of (mem_schedule self.old)) }
+        ensures called { self.new ≡ called self.old }
+        ensures counted { Counted result (mem_state self.old).faults (mem_state self.new).faults }
+        ensures calm { is_calm (mem_schedule self.old) ≡ true → result ≡ false }
+        ensures later { (mem_state self.old).calls ≤ (mem_state self.new).calls }
+        ensures tree { IsTree (mem_files self.old) }
+    {
+        self.files.known();
+        let failed = self.schedule.next_is_wrong();
+        if failed {
+            self.faults = self.faults.saturating_add(1);
+        }
+        failed
+    }
+}
+
+// What is asked of a file.
+#[derive(Clone, Copy)]
+enum Asked {
+    // All its bytes, where they are no more than the limit.
+    Whole { limit: u64 },
+    // The bytes from a place on, as many as there are up to a number.
+    Piece { at: u64, most: u32 },
+}
+
 // What a read answers by what stands there.
-fn look(files: &FileMap, path: &TreePath, limit: u64) -> Result<List<u8>, Stop<ReadFault>>
-    ensures found { Says (read_of path.now limit) (read_answer result) (disk_of files.now) }
-    ensures small { NoLonger limit (read_answer result) }
+fn look(
+    alloc: Global,
+    files: &FileMap,
+    path: &TreePath,
+    asked: Asked,
+) -> Result<List<u8>, Stop<ReadFault>>
+    ensures found { SaysAsked path.now asked (read_answer result) (disk_of files.now) }
+    ensures small { NoLonger (most_for asked) (read_answer result) }
     ensures tree_ok { is_failed (read_answer result) ≡ false }
 {
-    match files.get(path) {
-        None => Err(Stop::Fault(ReadFault::Missing)),
-        Some(bytes) => {
+    let Some(bytes) = files.get(path) else {
+        return Err(Stop::Fault(ReadFault::Missing));
+    };
+    match asked {
+        Asked::Whole { limit } => {
             if bytes.len() as u64 > limit {
                 return Err(Stop::Fault(ReadFault::TooLarge));
             }
             Ok(bytes.clone()?)
         }
+        Asked::Piece { at, most } => {
+            let piece = part_of(bytes.as_slice(), at, most);
+            Ok(List::from_slice(alloc, piece)?)
+        }
     }
+}
+
+// The bytes from a place on, as many as there are up to a number.
+fn part_of(bytes: &[u8], at: u64, most: u32) -> &[u8]
+    ensures { result.now ≡ take most (drop at bytes.now) }
+{
+    let start = at.min(bytes.len() as u64) as usize;
+    let (_, rest) = bytes.split_at(start);
+    let (piece, _) = rest.split_at(rest.len().min(most as usize));
+    piece
 }
 
 // Looks, and notes the path where the answer tells what stands there.
 fn look_noted(
+    alloc: Global,
     files: &FileMap,
     log: &mut List<TreePath>,
     path: &TreePath,
-    limit: u64,
+    asked: Asked,
 ) -> Result<List<u8>, Stop<ReadFault>>
-    ensures found { Says (read_of path.now limit) (read_answer result) (disk_of files.now) }
-    ensures small { NoLonger limit (read_answer result) }
+    ensures found { SaysAsked path.now asked (read_answer result) (disk_of files.now) }
+    ensures small { NoLonger (most_for asked) (read_answer result) }
     ensures tree_ok { is_failed (read_answer result) ≡ false }
     ensures noted { log.new ≡ log.old ++ noted path.now (read_answer result) }
 {
-    let asked = path.clone()?;
-    let found = look(files, path, limit);
+    let noted = path.clone()?;
+    let found = look(alloc, files, path, asked);
     if let Err(Stop::Memory(memory)) = found {
         return Err(Stop::Memory(memory));
     }
-    log.push(asked)?;
+    log.push(noted)?;
     found
+}
+
+// Puts a copy of the bytes at a path above and below which no file stands.
+fn put_file(alloc: Global, files: &mut FileMap, path: &TreePath, bytes: &[u8]) -> Result<(), Memory>
+    requires { HasRoomFor path.now files.old }
+    ensures ok { OnOk result (files.new ≡ map.insert files.old path.now bytes.now) }
+    ensures err { OnErr result (files.new ≡ files.old) }
+    ensures tree { IsTree files.new }
+{
+    files.known();
+    let path = path.clone()?;
+    let held = List::from_slice(alloc, bytes)?;
+    files.put(path, held)?;
+    Ok(())
+}
+
+// Puts the first half of the bytes there, unless memory runs out.
+fn put_half(alloc: Global, files: &mut FileMap, path: &TreePath, bytes: &[u8])
+    requires { HasRoomFor path.now files.old }
+    ensures half { IsHalfPut path.now bytes.now files.old files.new }
+    ensures tree { IsTree files.new }
+{
+    let (half, _) = bytes.split_at(bytes.len() / 2);
+    let _ = put_file(alloc, files, path, half);
 }
 
 impl Tree for MemTree {
     ghost state = { mem_state };
+
+    fn kind(&mut self, path: &TreePath) -> Result<Kind, Outage>
+        ensures kind { Made (kind_of path.now) (kind_answer result) (mem_state self.old)
+            (mem_state self.new) }
+        ensures exact { MemCalls (is_failed (kind_answer result)) self.old self.new }
+    {
+        if self.fails() {
+            return Err(Outage::Failed);
+        }
+        Ok(self.files.kind(path))
+    }
 
     fn read(&mut self, path: &TreePath, limit: u64) -> Result<List<u8>, Stop<ReadFault>>
         ensures read { Made (read_of path.now limit) (read_answer result) (mem_state self.old)
             (mem_state self.new) }
         ensures exact { MemCalls (is_failed (read_answer result)) self.old self.new }
     {
-        self.files.known();
-        if self.schedule.next_is_wrong() {
-            self.faults = self.faults.saturating_add(1);
+        if self.fails() {
             return Err(Stop::Failed);
         }
-        look_noted(&self.files, &mut self.log, path, limit)
+        let asked = Asked::Whole { limit };
+        look_noted(self.alloc, &self.files, &mut self.log, path, asked)
+    }
+
+    fn piece(&mut self, path: &TreePath, at: u64, most: u32) -> Result<List<u8>, Stop<ReadFault>>
+        ensures read { Made (piece_of path.now at most) (read_answer result) (mem_state self.old)
+            (mem_state self.new) }
+        ensures exact { MemCalls (is_failed (read_answer result)) self.old self.new }
+    {
+        if self.fails() {
+            return Err(Stop::Failed);
+        }
+        let asked = Asked::Piece { at, most };
+        look_noted(self.alloc, &self.files, &mut self.log, path, asked)
+    }
+
+    fn list(&mut self, dir: &TreePath) -> Result<List<Listed>, Stop<ListFault>>
+        ensures listed { Made (list_of dir.now) (list_answer result) (mem_state self.old)
+            (mem_state self.new) }
+        ensures parts { IfOk result (All (λ l. IsTrue (is_part l.name))) }
+        ensures exact { MemCalls (is_failed (list_answer result)) self.old self.new }
+    {
+        if self.fails() {
+            return Err(Stop::Failed);
+        }
+        self.files.list(self.alloc, dir)
+    }
+
+    fn write(&mut self, path: &TreePath, bytes: &[u8]) -> Result<(), Outage>
+        requires { OnFiles (CanMake (write_of path.now bytes.now)) (mem_state self.old) }
+        ensures written { Made (write_of path.now bytes.now) (write_answer result)
+            (mem_state self.old) (mem_state self.new) }
+        ensures exact { MemCalls (is_failed (write_answer result)) self.old self.new }
+        ensures half { is_failed (write_answer result) ≡ true
+            → IsHalfPut path.now bytes.now (mem_files self.old) (mem_files self.new) }
+    {
+        if self.fails() {
+            put_half(self.alloc, &mut self.files, path, bytes);
+            return Err(Outage::Failed);
+        }
+        put_file(self.alloc, &mut self.files, path, bytes)?;
+        self.changes = self.changes.saturating_add(1);
+        Ok(())
+    }
+
+    fn rename(&mut self, from: &TreePath, to: &TreePath) -> Result<(), Stop<MoveFault>>
+        requires { OnFiles (CanMake (rename_of from.now to.now)) (mem_state self.old) }
+        ensures moved { Made (rename_of from.now to.now) (move_answer result)
+            (mem_state self.old) (mem_state self.new) }
+        ensures exact { MemCalls (is_failed (move_answer result)) self.old self.new }
+    {
+        if self.fails() {
+            return Err(Stop::Failed);
+        }
+        self.files.rename(self.alloc, from, to)?;
+        self.changes = self.changes.saturating_add(1);
+        Ok(())
+    }
+
+    fn remove(&mut self, path: &TreePath) -> Result<(), Stop<RemoveFault>>
+        ensures removed { Made (remove_of path.now) (remove_answer result)
+            (mem_state self.old) (mem_state self.new) }
+        ensures exact { MemCalls (is_failed (remove_answer result)) self.old self.new }
+    {
+        if self.fails() {
+            return Err(Stop::Failed);
+        }
+        self.files.remove(path)?;
+        self.changes = self.changes.saturating_add(1);
+        Ok(())
     }
 
     fn faults(&self) -> u64 {

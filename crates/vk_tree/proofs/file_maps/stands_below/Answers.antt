@@ -1,8 +1,8 @@
 use Rattle.std.proofs.Common.{◌≡◌, true, false, sym, ◌∙◌}
 use Rattle.std.specs.FinMap as map
 use Rattle.vk_spec.proofs.OrderLemmas.{less_below}
-use Rattle.vk_spec.proofs.RoomLemmas.{none_below, room_below}
-use Rattle.vk_tree.proofs.FileMapLemmas.{get_path, stored, found_at, of_first}
+use Rattle.vk_spec.proofs.RoomLemmas.{none_below}
+use Rattle.vk_tree.proofs.FileMapLemmas.{get_path, stored, found_at, of_first, folder_at}
 use Rattle.vk_tree.proofs.file_maps.stands_below.Goals as goal
 
 pub returns-in-Some-clause-free : goal.returns-in-Some-clause-free
@@ -17,7 +17,7 @@ pub returns-in-Some-clause-taken : goal.returns-in-Some-clause-taken
 returns-in-Some-clause-taken c is =
     let within = c.range.ensures.in_range tt in
     let first = of_first _ _ c.next.new.self _ c.in-Some.ensures.steps within.1 in
-    room_below (map.from_entries c.args.inner.now.entries) c.args.path.now c.in-Some.first.now (found_at c.args.inner.now.entries c.in-Some.first.now _ first.1) first.0.0 (c.begins.ensures.0 is)
+    folder_at (map.from_entries c.args.inner.now.entries) c.args.path.now c.in-Some.first.now (found_at c.args.inner.now.entries c.in-Some.first.now _ first.1) first.0.0 (c.begins.ensures.0 is)
 
 pub returns-in-None-clause-free : goal.returns-in-None-clause-free
 returns-in-None-clause-free c is part rest =

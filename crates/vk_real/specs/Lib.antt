@@ -1,0 +1,2 @@
+-- what functions say besides
+pub mod Outages

@@ -1,0 +1,134 @@
+//! Files of the host written, moved and removed.
+
+use crate::reading::file_size;
+use crate::stands::{Stand, bare_folders, has_file, stand_at};
+use std::alloc::Global;
+use std::fs::File;
+use std::io::{ErrorKind, Write};
+use std::rt::Files;
+use std::{fs, io};
+
+// What a file is called until it is whole.
+const UNFINISHED: &str = ".unfinished";
+
+/// Writes a file beside its path and moves it there, so that no half-written one ever has its name.
+/// The folders that it needs are made.
+pub(crate) fn write_file<R: Files + Alloc<A = Global> + Clone + Drop>(
+    rt: &R,
+    path: &str,
+    bytes: &[u8],
+) -> io::Result<()> {
+    free_of_folders(rt, path)?;
+    make_parent(rt, path)?;
+    let mut beside = String::from_str(rt.alloc(), path)?;
+    beside.push_str(UNFINISHED)?;
+    let written = write_beside(rt, beside.as_str(), path, bytes);
+    if written.is_err() {
+        let _ = fs::remove_file(rt, beside.as_str());
+    }
+    written
+}
+
+// A run that was stopped may have left such a file.
+fn write_beside<R: Files>(rt: &R, beside: &str, path: &str, bytes: &[u8]) -> io::Result<()> {
+    let _ = fs::remove_file(rt, beside);
+    let mut file = File::create_new(rt, beside)?;
+    file.write_all(bytes)?;
+    drop(file);
+    fs::rename(rt, beside, path)
+}
+
+/// What a move came to.
+pub(crate) enum Moved {
+    Done,
+    Missing,
+    Exists,
+}
+
+/// Moves a file, or a folder with files, to where none stands. The folders that it needs are made,
+/// and those that it empties are removed.
+pub(crate) fn move_path<R: Files + Alloc<A = Global> + Clone + Drop>(
+    rt: &R,
+    from: &str,
+    to: &str,
+) -> io::Result<Moved> {
+    if !has_file(rt, from)? {
+        return Ok(Moved::Missing);
+    }
+    if has_file(rt, to)? {
+        return Ok(Moved::Exists);
+    }
+    free_of_folders(rt, to)?;
+    make_parent(rt, to)?;
+    match fs::rename(rt, from, to) {
+        Ok(()) => {
+            remove_emptied(rt, from);
+            Ok(Moved::Done)
+        }
+        Err(e) => lost(e),
+    }
+}
+
+// Why a move failed: what stood there or didn't has changed meanwhile, or the host failed.
+fn lost(e: io::Error) -> io::Result<Moved> {
+    match e.kind() {
+        ErrorKind::NotFound => Ok(Moved::Missing),
+        ErrorKind::AlreadyExists => Ok(Moved::Exists),
+        ErrorKind::DirectoryNotEmpty => Ok(Moved::Exists),
+        _ => Err(e),
+    }
+}
+
+/// Removes a file and the folders that this empties; false where no file stands there.
+pub(crate) fn remove_at<R: Files>(rt: &R, path: &str) -> io::Result<bool> {
+    if file_size(rt, path)?.is_none() {
+        return Ok(false);
+    }
+    fs::remove_file(rt, path)?;
+    remove_emptied(rt, path);
+    Ok(true)
+}
+
+// Removes folders without files from a path where a file is to stand. What is neither a file nor
+// a folder stays there, and is an error.
+fn free_of_folders<R: Files + Alloc<A = Global> + Clone + Drop>(
+    rt: &R,
+    path: &str,
+) -> io::Result<()> {
+    match stand_at(rt, path)? {
+        Stand::Absent | Stand::File => Ok(()),
+        Stand::Folder => remove_bare(rt, path),
+        Stand::Linked | Stand::Other => Err(io::Error::from(ErrorKind::AlreadyExists)),
+    }
+}
+
+fn remove_bare<R: Files + Alloc<A = Global> + Clone + Drop>(rt: &R, path: &str) -> io::Result<()> {
+    let Some(mut folders) = bare_folders(rt, path)? else {
+        return Err(io::Error::from(ErrorKind::IsADirectory));
+    };
+    while let Some(folder) = folders.pop() {
+        fs::remove_dir(rt, folder.as_str())?;
+    }
+    Ok(())
+}
+
+fn make_parent<R: Files>(rt: &R, path: &str) -> io::Result<()> {
+    match path.rsplit_once('/') {
+        Some((parent, _)) => fs::create_dir_all(rt, parent),
+        None => Ok(()),
+    }
+}
+
+// Removes the folders above a path, from the lowest, as long as they are empty.
+fn remove_emptied<R: Files>(rt: &R, path: &str) {
+    let mut rest = path;
+    for _ in 0..path.len() {
+        let Some((parent, _)) = rest.rsplit_once('/') else {
+            return;
+        };
+        if parent.is_empty() || fs::remove_dir(rt, parent).is_err() {
+            return;
+        }
+        rest = parent;
+    }
+}

@@ -1,0 +1,9 @@
+use Rattle.std.proofs.Common.{refl, sym}
+use Rattle.std.proofs.lemmas.List.{append-nil}
+use Rattle.vk_spec.specs.Calls.{piece_of}
+use Rattle.vk_tree.proofs.MemTreeLemmas.{failed_call}
+use Rattle.vk_tree.proofs.mem_trees.MemTreeTree.piece.Goals as goal
+
+pub returns-then-fails-clause-read : goal.returns-then-fails-clause-read
+returns-then-fails-clause-read c =
+    failed_call (piece_of c.args.path.now c.args.at c.args.most) c.args.self.now c.fails.new.self c.fails.result c.fails.ensures.called c.fails.ensures.counted c.fails.ensures.calm c.fails.ensures.later c.fails.ensures.tree c.if-fails.true (sym (append-nil c.args.self.now.log)) refl tt (tt, refl)

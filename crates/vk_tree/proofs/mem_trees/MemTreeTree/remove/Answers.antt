@@ -1,0 +1,9 @@
+use Rattle.std.proofs.Common.{refl, sym}
+use Rattle.std.proofs.lemmas.List.{append-nil}
+use Rattle.vk_spec.specs.Calls.{remove_of}
+use Rattle.vk_tree.proofs.MemTreeLemmas.{failed_call}
+use Rattle.vk_tree.proofs.mem_trees.MemTreeTree.remove.Goals as goal
+
+pub returns-then-fails-clause-removed : goal.returns-then-fails-clause-removed
+returns-then-fails-clause-removed c =
+    failed_call (remove_of c.args.path.now) c.args.self.now c.fails.new.self c.fails.result c.fails.ensures.called c.fails.ensures.counted c.fails.ensures.calm c.fails.ensures.later c.fails.ensures.tree c.if-fails.true (sym (append-nil c.args.self.now.log)) refl tt (tt, refl)
