@@ -8,11 +8,7 @@ use std::io::{ErrorKind, Write};
 use std::rt::Files;
 use std::{fs, io};
 
-// What a file is called until it is whole.
-const UNFINISHED: &str = ".unfinished";
-
-/// Writes a file beside its path and moves it there, so that no half-written one ever has its name.
-/// The folders that it needs are made.
+/// Writes a file anew, in place of the one that stands there. The folders that it needs are made.
 pub(crate) fn write_file<R: Files + Alloc<A = Global> + Clone + Drop>(
     rt: &R,
     path: &str,
@@ -20,22 +16,11 @@ pub(crate) fn write_file<R: Files + Alloc<A = Global> + Clone + Drop>(
 ) -> io::Result<()> {
     free_of_folders(rt, path)?;
     make_parent(rt, path)?;
-    let mut beside = String::from_str(rt.alloc(), path)?;
-    beside.push_str(UNFINISHED)?;
-    let written = write_beside(rt, beside.as_str(), path, bytes);
-    if written.is_err() {
-        let _ = fs::remove_file(rt, beside.as_str());
+    if file_size(rt, path)?.is_some() {
+        fs::remove_file(rt, path)?;
     }
-    written
-}
-
-// A run that was stopped may have left such a file.
-fn write_beside<R: Files>(rt: &R, beside: &str, path: &str, bytes: &[u8]) -> io::Result<()> {
-    let _ = fs::remove_file(rt, beside);
-    let mut file = File::create_new(rt, beside)?;
-    file.write_all(bytes)?;
-    drop(file);
-    fs::rename(rt, beside, path)
+    let mut file = File::create_new(rt, path)?;
+    file.write_all(bytes)
 }
 
 /// What a move came to.
