@@ -13,6 +13,7 @@ mod names;
 mod sending;
 mod sinks;
 mod trees;
+mod walking;
 
 pub use mem_sinks::MemSink;
 pub use mem_trees::MemTree;
@@ -20,3 +21,4 @@ pub use names::may_be_part;
 pub use sending::{OutStop, send};
 pub use sinks::{Sink, SinkFailed};
 pub use trees::{Kind, ListFault, Listed, MoveFault, ReadFault, RemoveFault, Tree};
+pub use walking::{WalkFault, walk};
