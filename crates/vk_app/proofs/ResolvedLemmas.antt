@@ -101,7 +101,7 @@ only_read_once start read before after l now fresh only since =
     listed_on : (told : Option Told) → before.told ≡ told → (IsSome before.told → ArePagePaths (page_paths_in start before.told) since.asked)
         → IfSome told (λ t. (path : Path) → Contains since.asked path → IsOfPages start t.files path)
     listed_on None is within = tt
-    listed_on (Some t) is within = λ path has. subst (λ told. IsOn told path) is (within (subst IsSome (sym is) tt) path has)
+    listed_on (Some t) is within = λ path has. subst (λ told. IsOn told path) is (within (subst IsSome (sym is) refl) path has)
       where
         IsOn : Option Told → Path → Type 0
         IsOn told path = (port : List ℕ) × Contains (page_paths_in start told port) path
@@ -156,14 +156,20 @@ of_opened project (opened.Ready setting start) files path tells page = subst (λ
 of_opened project (opened.Refused e) files path tells page = absurd page
 
 -- the paths of opening, and then those of the pages
-listed_opened : (project : Project) (o : Opened) (files : Files) (first second : List Path) → Tells (Ok o) (opened_of project files)
+listed_in : (project : Project) (o : Opened) (files : Files) (first second : List Path) → Tells (Ok o) (opened_of project files)
     → IsWithin first (opening_paths project files) → ((path : Path) → Contains second path → OpenedMayAsk o files path)
     → (path : Path) → Contains (first ++ second) path → IsOfProject project files path
-listed_opened project o files first second tells early later path has = by (Contains-append_cases first second path has)
+listed_in project o files first second tells opening later path has = by (Contains-append_cases first second path has)
   where
     by : Contains first path ⊎ Contains second path → IsOfProject project files path
-    by (inl there) = inl (early path there)
+    by (inl there) = inl (opening path there)
     by (inr there) = inr (of_opened project o files path tells (later path there))
+
+listed_opened : (project : Project) (o : Opened) (first second : List Path) (told : Option Told) → IfSome told (λ t. Tells (Ok o) (opened_of project t.files))
+    → IfSome told (λ t. IsWithin first (opening_paths project t.files)) → IfSome told (λ t. (path : Path) → Contains second path → OpenedMayAsk o t.files path)
+    → IfSome told (λ t. (path : Path) → Contains (first ++ second) path → IsOfProject project t.files path)
+listed_opened project o first second None tells opening later = tt
+listed_opened project o first second (Some t) tells opening later = listed_in project o t.files first second tells opening later
 
 -- a project that was opened, and what came of it
 pub resolves_opened : (project : Project) (o : Opened) (answer : Result Outcome (Stop CloseFault)) (a b c : State) (opens : Opens project (Ok o) a b)
@@ -172,9 +178,8 @@ resolves_opened project o answer a b c opens resolves = record {
   only = record {
     only = record { asked = paths_of opens.once.more ++ resolves.only.only.asked; looks = looks_then opens.once.looks resolves.only.only.looks };
     distinct = subst (λ kept. NoRepeats (paths_of kept ++ resolves.only.only.asked)) opens.once.kept resolves.only.distinct;
-    listed = of_both a.told (of_both a.told opens.content (opening_listed opens) (λ t tells early. (tells, early)))
-        (told_before (λ f. (path : Path) → Contains resolves.only.only.asked path → OpenedMayAsk o f path) (opening.only_read opens) resolves.only.listed)
-        (λ t both later. listed_opened project o t.files (paths_of opens.once.more) resolves.only.only.asked both.0 both.1 later);
+    listed = listed_opened project o (paths_of opens.once.more) resolves.only.only.asked a.told opens.content (opening_listed opens)
+        (told_before (λ f. (path : Path) → Contains resolves.only.only.asked path → OpenedMayAsk o f path) (opening.only_read opens) resolves.only.listed);
   };
   content = of_both a.told opens.content (told_before (λ f. Resolves (OpenedComesTo o f) answer) (opening.only_read opens) resolves.content)
       (λ t tells h. resolves_map (OpenedComesTo o t.files) (ComesTo project t.files) answer (λ r is. opened_comes project o t.files r tells is) h);
@@ -204,7 +209,7 @@ pub resolves_early : (o : Opened) (e : Early) (earlier : List Path) (s : State) 
 resolves_early o e earlier s is distinct = record { only = none_asked (OpenedMayAsk o) earlier s distinct; content = rw is (of_each s.told (λ t. refl)) }
 
 -- a project that wasn't opened
-opening_alone : {project : Project} {o : Outage} {a b : State} → Opens project (Err o) a b → OnlyReadOnce (IsOfProject project) [] (was_out (Err {Opened} o)) a b
+opening_alone : {project : Project} {o : Outage} {a b : State} → Opens project (Err o) a b → OnlyReadOnce (IsOfProject project) [] (was_out {A = Opened} (Err o)) a b
 opening_alone {a = a} opens = record {
   only = record { asked = paths_of opens.once.more; looks = opens.once.looks };
   distinct = opening.none_twice opens;
