@@ -1,7 +1,10 @@
 -- What a world learns of a port, by what was found for it.
 use Rattle.std.proofs.Common.{◌≡◌, ℕ, false, List, refl, ap, sym, subst, ◌∙◌}
 use Rattle.std.specs.Prelude.{Option, Some, None, IsSome, option_map, Result, Ok, Err, IfOk, OnOk, OnErr, bytes_eq}
+use Rattle.std.specs.List.{Contains}
 use Rattle.std.proofs.lemmas.Slice.Eq.{bytes_eq-Decides}
+use Rattle.std.proofs.lemmas.List.Elements.{Contains-append_left, Contains-append_right}
+use Rattle.vk_spec.specs.Lists.{IsWithin}
 use Rattle.vk_spec.specs.Paths.{Path}
 use Rattle.vk_spec.specs.Files.{Files}
 use Rattle.vk_spec.specs.Versions as versions
@@ -25,6 +28,7 @@ use Rattle.vk_opening.specs.Starts.{Start}
 use Rattle.vk_pages.specs.Homes.{in_overlay, in_registry, home_of}
 use Rattle.vk_pages.specs.HomeViews.{layout_view}
 use Rattle.vk_pages.specs.Pages.{page_at}
+use Rattle.vk_pages.specs.Asked.{home_paths, manifest_paths, page_paths}
 use Rattle.vk_world.specs.Learning.{Learns, SaysNothing, NothingKnown}
 use Rattle.vk_world.specs.KnownVersions.{folders_in}
 use Rattle.vk_world.specs.HomeNotes.{FoundHome, homes_in, home_noted, IsHomeOf, AreHomes}
@@ -39,7 +43,7 @@ use Rattle.vk_world.specs.declared.answered.KnownVersions.{KnownVersions}
 use Rattle.vk_world.specs.declared.homes.Homes.{Homes}
 use Rattle.vk_world.specs.declared.manifests.Manifests.{Manifests}
 use Rattle.vk_world.specs.declared.libraries.Library.{Library}
-use Rattle.vk_world.proofs.LearnLemmas.{learns_pure, learns_then, learns_so}
+use Rattle.vk_world.proofs.LearnLemmas.{learns_pure, learns_then, learns_so, learns_within}
 use Rattle.vk_world.proofs.ListedLemmas.{given_on_page, version_on_page, folder_of_listed, folder_of_own}
 use Rattle.vk_world.proofs.AnsweredLemmas.{right_with}
 use Rattle.vk_world.proofs.NoteLemmas.{note_right}
@@ -71,11 +75,11 @@ start_stays : (before after : Library) → Stays before after → start_of after
 start_stays before after s = ap layout_view s.layout
 
 pub given_learned : {lib mid : Library} (port : List ℕ) {answer : Result (Result declared.Given Wrong) Outage} {a b : Held} (known : KnownVersions) (found : FoundHome)
-    → Learns {X = Unit {0}} (Ok tt) SaysNothing (IsRight lib) (IsRight mid) a b → Stays lib mid → home_noted port mid.homes ≡ Some found
+    → Learns {X = Unit {0}} (Ok tt) SaysNothing (λ f. home_paths (start_of lib) f port) (IsRight lib) (IsRight mid) a b → Stays lib mid → home_noted port mid.homes ≡ Some found
     → IfOk answer (λ given. given_said given ≡ given_in found) → OnOk answer (folders_in known ≡ folders_given port found (folders_in mid.known)) → OnErr answer (folders_in known ≡ folders_in mid.known) → was_out answer ≡ false
-    → Learns answer (SaysGivenOf (start_of lib) port) (IsRight lib) (IsRight (record mid { known = known })) a b
+    → Learns answer (SaysGivenOf (start_of lib) port) (λ f. home_paths (start_of lib) f port) (IsRight lib) (IsRight (record mid { known = known })) a b
 given_learned {lib = lib} {mid = mid} port {answer = answer} {a = a} {b = b} known found looked stays noted told ok err calm =
-    subst (λ start. Learns answer (SaysGivenOf start port) (IsRight lib) (IsRight (record mid { known = known })) a b) (start_stays lib mid stays)
+    subst (λ start. Learns answer (SaysGivenOf start port) (λ f. home_paths (start_of lib) f port) (IsRight lib) (IsRight (record mid { known = known })) a b) (start_stays lib mid stays)
     (learns_then looked (learns_pure answer (SaysGivenOf (start_of mid) port) (λ f. IsRight mid f × SaysNothing {X = Unit {0}} f tt) (IsRight (record mid { known = known })) b calm
     (λ f both.
     let right = both.0 in
@@ -100,11 +104,11 @@ version_says start files port found ask (Ok v) before after is told ok err right
 version_says start files port found ask (Err stop) before after is told ok err right = (subst (AreRight (IsFolderOf start files)) (sym err) right, tt)
 
 pub version_learned : {lib mid : Library} (port : List ℕ) {answer : Result (Option Version) Outage} {a b : Held} (ask : Ask) (known : KnownVersions) (found : FoundHome)
-    → Learns {X = Unit {0}} (Ok tt) SaysNothing (IsRight lib) (IsRight mid) a b → Stays lib mid → home_noted port mid.homes ≡ Some found
+    → Learns {X = Unit {0}} (Ok tt) SaysNothing (λ f. home_paths (start_of lib) f port) (IsRight lib) (IsRight mid) a b → Stays lib mid → home_noted port mid.homes ≡ Some found
     → IfOk answer (λ v. v ≡ option_map (λ (l : versions.Version × Path). l.0) (listed_in found ask)) → OnOk answer (folders_in known ≡ folders_listed port (listed_in found ask) (folders_in mid.known)) → OnErr answer (folders_in known ≡ folders_in mid.known) → was_out answer ≡ false
-    → Learns answer (SaysVersionOf (start_of lib) port ask) (IsRight lib) (IsRight (record mid { known = known })) a b
+    → Learns answer (SaysVersionOf (start_of lib) port ask) (λ f. home_paths (start_of lib) f port) (IsRight lib) (IsRight (record mid { known = known })) a b
 version_learned {lib = lib} {mid = mid} port {answer = answer} {a = a} {b = b} ask known found looked stays noted told ok err calm =
-    subst (λ start. Learns answer (SaysVersionOf start port ask) (IsRight lib) (IsRight (record mid { known = known })) a b) (start_stays lib mid stays)
+    subst (λ start. Learns answer (SaysVersionOf start port ask) (λ f. home_paths (start_of lib) f port) (IsRight lib) (IsRight (record mid { known = known })) a b) (start_stays lib mid stays)
     (learns_then looked (learns_pure answer (SaysVersionOf (start_of mid) port ask) (λ f. IsRight mid f × SaysNothing {X = Unit {0}} f tt) (IsRight (record mid { known = known })) b calm
     (λ f both.
     let right = both.0 in
@@ -124,22 +128,34 @@ manifest_says start files port found ask (Ok m) is says = λ some.
     ∙ ap (λ h. manifest_in (page_at port files h) ask) is
 manifest_says start files port found ask (Err stop) is says = tt
 
+-- what is looked at to find the home of a port is of its page
+pub of_home : {X : Type 0} (start : Start) (port : List ℕ) {answer : Result X Outage} {Says : Files → X → Type 0} {Before After : Files → Type 0} {a b : Held}
+    → Learns answer Says (λ f. home_paths start f port) Before After a b → Learns answer Says (λ f. page_paths start f port) Before After a b
+of_home start port one =
+    learns_within (λ f. page_paths start f port) (λ f before path. Contains-append_left (home_paths start f port) (manifest_paths (home_of start port f)) path) one
+
+-- and so are the manifests of the rows there
+rows_within : (start : Start) (files : Files) (port : List ℕ) (found : FoundHome) → found ≡ home_of start port files → IsWithin (manifest_paths found) (page_paths start files port)
+rows_within start files port found is path has =
+    Contains-append_right (home_paths start files port) (manifest_paths (home_of start port files)) path (subst (λ h. Contains (manifest_paths h) path) is has)
+
 pub manifest_learned : {Z : Type 0} {lib mid : Library} (port : List ℕ) {answer : Result (Result (Rc Manifest Z) Wrong) Outage} {a b c : Held} (ask : Ask) (files : FileCache) (found : FoundHome)
-    → Learns {X = Unit {0}} (Ok tt) SaysNothing (IsRight lib) (IsRight mid) a b → Stays lib mid → home_noted port mid.homes ≡ Some found
-    → Learns answer (IsManifestFor port found ask) NothingKnown NothingKnown b c
-    → Learns answer (SaysManifestOf (start_of lib) port ask) (IsRight lib) (IsRight (record mid { files = files })) a c
+    → Learns {X = Unit {0}} (Ok tt) SaysNothing (λ f. home_paths (start_of lib) f port) (IsRight lib) (IsRight mid) a b → Stays lib mid → home_noted port mid.homes ≡ Some found
+    → Learns answer (IsManifestFor port found ask) (λ f. manifest_paths found) NothingKnown NothingKnown b c
+    → Learns answer (SaysManifestOf (start_of lib) port ask) (λ f. page_paths (start_of lib) f port) (IsRight lib) (IsRight (record mid { files = files })) a c
 manifest_learned {lib = lib} {mid = mid} port {answer = answer} {a = a} {c = c} ask files found looked stays noted read =
-    subst (λ start. Learns answer (SaysManifestOf start port ask) (IsRight lib) (IsRight (record mid { files = files })) a c) (start_stays lib mid stays)
-    (learns_then looked (learns_so answer (SaysManifestOf (start_of mid) port ask) (λ f. IsRight mid f × SaysNothing {X = Unit {0}} f tt) (IsRight (record mid { files = files })) refl (λ f both. tt)
+    subst (λ start. Learns answer (SaysManifestOf start port ask) (λ f. page_paths (start_of lib) f port) (IsRight lib) (IsRight (record mid { files = files })) a c) (start_stays lib mid stays)
+    (learns_then (of_home (start_of lib) port looked) (learns_within (λ f. page_paths (start_of lib) f port) (λ f both. rows_within (start_of lib) f port found (subst (λ start. found ≡ home_of start port f) (start_stays lib mid stays) (home_is (start_of mid) mid.homes f port found both.0.homes noted)))
+    (learns_so answer (SaysManifestOf (start_of mid) port ask) (λ f. IsRight mid f × SaysNothing {X = Unit {0}} f tt) (IsRight (record mid { files = files })) refl (λ f both. tt)
     (λ f both after says.
     let right = both.0 in
-    (record { homes = right.homes; manifests = right.manifests; folders = right.folders }, manifest_says (start_of mid) f port found ask answer (home_is (start_of mid) mid.homes f port found right.homes noted) says)) read))
+    (record { homes = right.homes; manifests = right.manifests; folders = right.folders }, manifest_says (start_of mid) f port found ask answer (home_is (start_of mid) mid.homes f port found right.homes noted) says)) read)))
 
 -- what was read is kept besides
 pub manifest_kept : {Z : Type 0} {lib mid : Library} (port : List ℕ) (m : Result (Rc Manifest Z) Wrong) {answer : Result (Result (Rc Manifest Z) Wrong) Outage} {a b : Held} (ask : Ask) (manifests : Manifests)
-    → Learns (Ok m) (SaysManifestOf (start_of lib) port ask) (IsRight lib) (IsRight mid) a b → Stays lib mid → was_out answer ≡ false → IfOk answer (λ x. x ≡ m)
+    → Learns (Ok m) (SaysManifestOf (start_of lib) port ask) (λ f. page_paths (start_of lib) f port) (IsRight lib) (IsRight mid) a b → Stays lib mid → was_out answer ≡ false → IfOk answer (λ x. x ≡ m)
     → ((start : Start) (files : Files) → AreManifests start mid.manifests files → IsManifestOf start files port ask (manifest_said m) → AreManifests start manifests files)
-    → Learns answer (SaysManifestOf (start_of lib) port ask) (IsRight lib) (IsRight (record mid { manifests = manifests })) a b
+    → Learns answer (SaysManifestOf (start_of lib) port ask) (λ f. page_paths (start_of lib) f port) (IsRight lib) (IsRight (record mid { manifests = manifests })) a b
 manifest_kept {Z = Z} {lib = lib} {mid = mid} port m {answer = answer} ask manifests read stays calm is kept =
     learns_so answer (SaysManifestOf (start_of lib) port ask) (IsRight lib) (IsRight (record mid { manifests = manifests })) calm (λ f right. right)
     (λ f before right says. (
@@ -158,7 +174,7 @@ manifest_kept {Z = Z} {lib = lib} {mid = mid} port m {answer = answer} ask manif
 -- what was kept is answered again
 pub manifest_again : {Z : Type 0} (lib : Library) (port : List ℕ) {answer : Result (Result (Rc Manifest Z) Wrong) Outage} (h : Held) (ask : declared_ask.Ask) (found : FoundManifest)
     → manifest_noted port (ask_view ask) lib.manifests ≡ Some found → IfOk answer (λ m. manifest_said m ≡ found) → was_out answer ≡ false
-    → Learns answer (SaysManifestOf (start_of lib) port (ask_view ask)) (IsRight lib) (IsRight lib) h h
+    → Learns answer (SaysManifestOf (start_of lib) port (ask_view ask)) (λ f. page_paths (start_of lib) f port) (IsRight lib) (IsRight lib) h h
 manifest_again {Z = Z} lib port {answer = answer} h ask found noted told calm =
     learns_pure answer (SaysManifestOf (start_of lib) port (ask_view ask)) (IsRight lib) (IsRight lib) h calm
     (λ f right. (right, again answer told f (note_right (start_of lib) f port ask lib.manifests found right.manifests noted)))

@@ -20,7 +20,7 @@ use Rattle.vk_world.specs.HomeNotes.{FoundHome}
 use Rattle.vk_world.specs.Listed.{own_listed, row_listed, table_listed, listed_at, listed_in, row_meant}
 use Rattle.vk_world.specs.Answered.{given_in}
 
-some_is : {X : Type 0} {x y : X} → Some x ≡ Some y → x ≡ y
+pub some_is : {X : Type 0} {x y : X} → Some x ≡ Some y → x ≡ y
 some_is e = (cc)
 
 twice : {X Y Z : Type 0} (f : X → Y) (g : Y → Z) (o : Option X) → option_map g (option_map f o) ≡ option_map (λ x. g (f x)) o

@@ -1,10 +1,12 @@
 -- A world over a tree: it stays sound, and its answers are what the pages say.
-use Rattle.std.proofs.Common.{◌≡◌, ◌≤◌, ◌-◌, ℕ, suc, Bool, List, [], ◌∷◌, ◌++◌, length, take, drop, refl, ap, sym, subst, ◌∙◌, length-append, arith}
-use Rattle.std.specs.Prelude.{Option, Some, None, option_map, IfSome, Result, Ok, Err, IfOk}
-use Rattle.std.proofs.lemmas.List.{append-nil, append_assoc, map-append, take-append-le, take-append-drop, drop-append-le}
+use Rattle.std.proofs.Common.{◌≡◌, ◌≤◌, ◌-◌, ℕ, suc, Bool, inl, inr, List, [], ◌∷◌, ◌++◌, length, take, drop, refl, ap, sym, subst, ◌∙◌, length-append, arith}
+use Rattle.std.specs.Prelude.{Option, Some, None, option_map, IfSome, IsSome, Result, Ok, Err, IfOk}
+use Rattle.std.proofs.lemmas.List.Elements.{Contains-append_cases}
+use Rattle.std.proofs.lemmas.List.{append-nil, append_assoc, append_cancel_left, map-append, take-append-le, take-append-drop, drop-append-le}
 use Rattle.std.proofs.Math.ListN.{drop_of_length-le}
 use Rattle.std.proofs.Math.Seq.{take-append_seam, take-length}
-use Rattle.vk_spec.specs.Lists.{NoRepeats}
+use Rattle.vk_spec.specs.Lists.{NoRepeats, IsWithin}
+use Rattle.vk_spec.proofs.ListLemmas.{contains_nothing}
 use Rattle.vk_spec.specs.Paths.{Path}
 use Rattle.vk_spec.specs.Files.{Files}
 use Rattle.vk_spec.specs.Calls.{is_failed}
@@ -16,16 +18,18 @@ use Rattle.vk_base.specs.Stops.{was_out}
 use Rattle.vk_catalogue.specs.Views.{seen_by}
 use Rattle.vk_base.specs.declared.stops.Outage.{Outage}
 use Rattle.vk_base.specs.declared.stops.Outage.TheVariants as outage
-use Rattle.vk_files.specs.Kept.{Kept, paths_of, IsOf, IsSeen, ReadOnce}
+use Rattle.vk_files.specs.Kept.{Kept, paths_of, IsOf, IsSeen, Held, ReadOnce}
+use Rattle.vk_files.specs.Within.{LooksWithin}
 use Rattle.vk_files.specs.Views.{kept_of, held}
 use Rattle.vk_files.proofs.NoteLemmas.{right_more}
 use Rattle.vk_opening.specs.Starts.{Start}
 use Rattle.vk_pages.specs.HomeViews.{layout_view}
 use Rattle.vk_pages.specs.Pages.{page_of}
+use Rattle.vk_pages.specs.Asked.{page_paths}
 use Rattle.vk_world.specs.Learning.{Learns}
 use Rattle.vk_world.specs.Libraries.{start_of, IsRight, Stays}
 use Rattle.vk_world.specs.Worlds.{paths_in, opened_in, asked_since, log_before, without_asked, places_in, page_paths_in}
-use Rattle.vk_world.specs.Worlds.{origin_on, learned_view, world_state, IsSoundOn, IsSound, IsReadSince}
+use Rattle.vk_world.specs.Worlds.{ArePagePaths, origin_on, learned_view, world_state, IsSoundOn, IsSound, IsReadSince}
 use Rattle.vk_world.specs.declared.libraries.Library.{Library}
 
 -- ---- lists
@@ -53,6 +57,17 @@ within_more : {failed : Bool} (before after : Library) {s s' : State} → before
 within_more before after within stays r =
     rw (stays.opened) (omega (arith, within, ap length (paths_more before after r), length-append (paths_in (learned_view before)) (paths_of r.more)))
 
+-- the paths of a call about a port are of its page
+more_paths : (paths : List ℕ → List Path) (port : List ℕ) (asked more : List Path) → ArePagePaths paths asked → IsWithin more (paths port) → ArePagePaths paths (asked ++ more)
+more_paths paths port asked more old new p has =
+    elim (Contains-append_cases asked more p has) [
+      | inl before ↦ old p before
+      | inr since ↦ (port, new p since)
+    ]
+
+looked_within : {failed : Bool} {paths : List Path} {a b : Held} (r : ReadOnce failed a b) → LooksWithin paths a.kept b.kept → IsWithin (paths_of r.more) paths
+looked_within {paths = paths} {a = a} r looks = subst (λ more. IsWithin (paths_of more) paths) (append_cancel_left a.kept looks.more r.more (sym looks.kept ∙ r.kept)) looks.within
+
 -- what opening had looked at stays
 opened_stays : {failed : Bool} {before after : Library} {s s' : State} → before.opened ≤ length (paths_in (learned_view before)) → Stays before after → ReadOnce failed (held before.files s) (held after.files s') → opened_in (learned_view after) ≡ opened_in (learned_view before)
 opened_stays {before = before} {after = after} within stays r =
@@ -63,28 +78,33 @@ start_stays before after s = ap layout_view s.layout
 
 -- ---- it stays sound
 
-sound_on : {X : Type 0} {answer : Result X Outage} {Says : Files → X → Type 0} (before after : Library) {s s' : State} → before.opened ≤ length (paths_in (learned_view before)) → Stays before after
-    → (l : Learns answer Says (IsRight before) (IsRight after) (held before.files s) (held after.files s')) → (t : Told)
+sound_on : {X : Type 0} {answer : Result X Outage} {Says : Files → X → Type 0} (before after : Library) (port : List ℕ) {s s' : State} → before.opened ≤ length (paths_in (learned_view before)) → Stays before after
+    → (l : Learns answer Says (λ f. page_paths (start_of before) f port) (IsRight before) (IsRight after) (held before.files s) (held after.files s')) → (t : Told)
     → IsOf t.files l.once.more → (IsOf t.files (kept_of before.files) → IsRight before t.files → IsRight after t.files × IfOk answer (Says t.files))
+    → (IsOf t.files (kept_of before.files) → IsRight before t.files → LooksWithin (page_paths (start_of before) t.files port) (kept_of before.files) (kept_of after.files))
     → IsSoundOn before t → IsSoundOn after (record { files = t.files; log = t.log ++ paths_of l.once.more })
-sound_on before after within stays l t more content sound = record {
+sound_on before after port within stays l t more content looks sound = record {
   files = subst (IsOf t.files) (sym l.once.kept) (right_more (IsSeen t.files) (kept_of before.files) l.once.more sound.files more);
   right = (content sound.files sound.right).0;
   before = sound.before;
   log = ap (λ log. log ++ paths_of l.once.more) sound.log ∙ append_assoc sound.before (asked_since (learned_view before)) (paths_of l.once.more) ∙ ap (λ asked. sound.before ++ asked) (sym (since_more before after within stays l.once));
+  within = subst (λ start. ArePagePaths (page_paths start t.files) (asked_since (learned_view after))) (sym (start_stays before after stays))
+      (subst (ArePagePaths (page_paths (start_of before) t.files)) (sym (since_more before after within stays l.once))
+      (more_paths (page_paths (start_of before) t.files) port (asked_since (learned_view before)) (paths_of l.once.more) sound.within (looked_within l.once (looks sound.files sound.right))));
 }
 
-pub still_sound : {X : Type 0} {answer : Result X Outage} {Says : Files → X → Type 0} (before after : Library) {s s' : State} → IsSound s before → Stays before after
-    → Learns answer Says (IsRight before) (IsRight after) (held before.files s) (held after.files s') → IsSound s' after
-still_sound {answer = answer} {Says = Says} before after {s = s} {s' = s'} sound stays l = record {
+pub still_sound : {X : Type 0} {answer : Result X Outage} {Says : Files → X → Type 0} (before after : Library) (port : List ℕ) {s s' : State} → IsSound s before → Stays before after
+    → Learns answer Says (λ f. page_paths (start_of before) f port) (IsRight before) (IsRight after) (held before.files s) (held after.files s') → IsSound s' after
+still_sound {answer = answer} {Says = Says} before after port {s = s} {s' = s'} sound stays l = record {
   opened = within_more before after sound.opened stays l.once;
-  told = subst (λ o. IfSome o (IsSoundOn after)) (sym l.once.looks.told) (by s.told l.once.right l.content sound.told);
+  told = subst (λ o. IfSome o (IsSoundOn after)) (sym l.once.looks.told) (by s.told l.once.right l.content l.asked.within sound.told);
 }
   where
-    by : (o : Option Told) → IfSome o (λ t. IsOf t.files l.once.more) → IfSome o (λ t. IsOf t.files (kept_of before.files) → IsRight before t.files → IsRight after t.files × IfOk answer (Says t.files)) → IfSome o (IsSoundOn before)
+    by : (o : Option Told) → IfSome o (λ t. IsOf t.files l.once.more) → IfSome o (λ t. IsOf t.files (kept_of before.files) → IsRight before t.files → IsRight after t.files × IfOk answer (Says t.files))
+        → IfSome o (λ t. IsOf t.files (kept_of before.files) → IsRight before t.files → LooksWithin (page_paths (start_of before) t.files port) (kept_of before.files) (kept_of after.files)) → IfSome o (IsSoundOn before)
         → IfSome (with_asked (paths_of l.once.more) o) (IsSoundOn after)
-    by None more content old = tt
-    by (Some t) more content old = sound_on before after sound.opened stays l t more content old
+    by None more content looks old = tt
+    by (Some t) more content looks old = sound_on before after port sound.opened stays l t more content looks old
 
 -- ---- it only asked
 
@@ -121,12 +141,12 @@ same_failed view (Ok x) = refl
 same_failed view (Err outage.Failed) = refl
 same_failed view (Err (outage.Memory m)) = refl
 
-only_asked : {X : Type 0} {answer : Result X Outage} {Says : Files → X → Type 0} (before after : Library) {s s' : State} → IsSound s before → Stays before after
-    → Learns answer Says (IsRight before) (IsRight after) (held before.files s) (held after.files s') → OnlyAsked (was_out answer) (world_state s (learned_view before)) (world_state s' (learned_view after))
-only_asked before after {s = s} {s' = s'} sound stays l =
+only_asked : {X : Type 0} {answer : Result X Outage} {Says : Files → X → Type 0} (before after : Library) (port : List ℕ) {s s' : State} → IsSound s before → Stays before after
+    → Learns answer Says (λ f. page_paths (start_of before) f port) (IsRight before) (IsRight after) (held before.files s) (held after.files s') → OnlyAsked (was_out answer) (world_state s (learned_view before)) (world_state s' (learned_view after))
+only_asked before after port {s = s} {s' = s'} sound stays l =
     let looks = l.once.looks in
     let since = since_more before after sound.opened stays l.once in
-    let later = still_sound before after sound stays l in
+    let later = still_sound before after port sound stays l in
     record {
       pages = ap (λ start. option_map (λ t. page_of start t.files) s'.told) (start_stays before after stays) ∙ ap (option_map (λ t. page_of (start_of before) t.files)) looks.told ∙ pages_stay (start_of before) (paths_of l.once.more) s.told;
       origin = λ i. record {
@@ -149,11 +169,11 @@ only_asked before after {s = s} {s' = s'} sound stays l =
 pub asks_learned : {X A : Type 0} {answer : Result X Outage} {Says : Files → X → Type 0} (before after : Library) {s s' : State} (view : X → A) (port : List ℕ) (PageSays : Page Condition → A → Type 0)
     → ((start : Start) (files : Files) → ArePages (page_of start files)) → IsSound s before → Stays before after
     → ((t : Told) → s.told ≡ Some t → (x : X) → Says t.files x → PageSays (page_of (start_of before) t.files port) (view x))
-    → Learns answer Says (IsRight before) (IsRight after) (held before.files s) (held after.files s') → Asks port PageSays (seen_by view answer) (world_state s (learned_view before)) (world_state s' (learned_view after))
+    → Learns answer Says (λ f. page_paths (start_of before) f port) (IsRight before) (IsRight after) (held before.files s) (held after.files s') → Asks port PageSays (seen_by view answer) (world_state s (learned_view before)) (world_state s' (learned_view after))
 asks_learned {X} {answer = answer} {Says = Says} before after {s = s} {s' = s'} view port PageSays pages sound stays page_says l = record {
   told = told answer s.told refl l.content sound.told;
   kept = kept s.told;
-  only = subst (λ failed. OnlyAsked failed (world_state s (learned_view before)) (world_state s' (learned_view after))) (sym (same_failed view answer)) (only_asked before after sound stays l);
+  only = subst (λ failed. OnlyAsked failed (world_state s (learned_view before)) (world_state s' (learned_view after))) (sym (same_failed view answer)) (only_asked before after port sound stays l);
 }
   where
     kept : (o : Option Told) → IfSome (option_map (λ t. page_of (start_of before) t.files) o) ArePages
@@ -185,7 +205,13 @@ sound_on_start lib s opened files right = record { opened = rw (opened, length_p
   where
     by : (o : Option Told) → IfSome o (λ t. IsOf t.files (kept_of lib.files)) → IfSome o (IsSoundOn lib)
     by None of = tt
-    by (Some t) of = record { files = of; right = right t.files; before = t.log; log = sym (append-nil t.log) ∙ ap (λ asked. t.log ++ asked) (sym (nothing_since lib opened)) }
+    by (Some t) of = record {
+      files = of;
+      right = right t.files;
+      before = t.log;
+      log = sym (append-nil t.log) ∙ ap (λ asked. t.log ++ asked) (sym (nothing_since lib opened));
+      within = subst (ArePagePaths (page_paths (start_of lib) t.files)) (sym (nothing_since lib opened)) (λ p has. absurd (contains_nothing p has));
+    }
 
 -- what the origin told, and what was looked at since, is what the tree tells
 told_since : (lib : Library) (o : Option Told) → IfSome o (IsSoundOn lib)
@@ -200,6 +226,12 @@ told_since lib (Some t) sound =
 once_in_all : (lib : Library) → NoRepeats (paths_in (learned_view lib)) → NoRepeats (opened_in (learned_view lib) ++ asked_since (learned_view lib))
 once_in_all lib distinct = subst NoRepeats (sym (take-append-drop lib.opened (paths_in (learned_view lib)))) distinct
 
+-- each path that was looked at since is one of a port's page
+page_paths_since : (lib : Library) (o : Option Told) → IfSome o (IsSoundOn lib)
+    → IsSome (option_map (without_asked (asked_since (learned_view lib))) o) → ArePagePaths (page_paths_in (start_of lib) o) (asked_since (learned_view lib))
+page_paths_since lib None sound some = (cc)
+page_paths_since lib (Some t) sound some = sound.within
+
 pub read_since : (lib : Library) (s : State) → IsSound s lib → NoRepeats (paths_in (learned_view lib))
     → IsReadSince (world_state s (learned_view lib)).origin s
 read_since lib s sound distinct = record {
@@ -207,6 +239,7 @@ read_since lib s sound distinct = record {
   told = told_since lib s.told sound.told;
   changes = refl;
   distinct = once_in_all lib distinct;
+  within = page_paths_since lib s.told sound.told;
 }
 
 -- as a world begins, its origin is what the tree tells

@@ -1,6 +1,7 @@
 -- What is known of a world over a tree of files.
 use Rattle.std.specs.Prelude.{◌≡◌, ◌≤◌, ◌++◌, ◌-◌, ℕ, List, [], length, take, drop}
-use Rattle.std.specs.Prelude.{Option, Some, None, option_map, IfSome}
+use Rattle.std.specs.Prelude.{Option, Some, None, option_map, IfSome, IsSome}
+use Rattle.std.specs.List.{Contains}
 use Rattle.vk_spec.specs.Lists.{NoRepeats}
 use Rattle.vk_spec.specs.Paths.{Path}
 use Rattle.vk_spec.specs.States.{Told, State, with_asked}
@@ -15,7 +16,7 @@ use Rattle.vk_pages.specs.Pages.{page_of}
 use Rattle.vk_pages.specs.Asked.{page_paths}
 use Rattle.vk_pages.specs.declared.homes.Layout.{Layout}
 use Rattle.vk_world.specs.KnownVersions.{folders_in, pairs_of}
-use Rattle.vk_world.specs.Libraries.{IsRight}
+use Rattle.vk_world.specs.Libraries.{start_of, IsRight}
 use Rattle.vk_world.specs.VersionFolders.{place_in}
 use Rattle.vk_world.specs.declared.answered.PortVersion.{PortVersion}
 use Rattle.vk_world.specs.declared.libraries.Library.{Library}
@@ -65,6 +66,10 @@ abbrev pub page_paths_in : Start → Option Told → List ℕ → List Path
 page_paths_in start None port = []
 page_paths_in start (Some t) port = page_paths start t.files port
 
+-- each of these is one of the paths of some port's page
+abbrev pub ArePagePaths : (List ℕ → List Path) → List Path → Type 0
+ArePagePaths paths asked = (p : Path) → Contains asked p → (port : List ℕ) × Contains (paths port) p
+
 -- what a world comes from that is made on this tree with this start, when these paths were read
 abbrev pub origin_on : Start → List Path → State → Origin
 origin_on start opened tree = record {
@@ -112,12 +117,14 @@ state_of state w = world_state (state w.tree) w.learned
 abbrev pub known_in : Learned → List (List ℕ × Version)
 known_in l = pairs_of l.folders
 
--- all that is kept is that of what the tree tells, whose log ends with what was looked at since
+-- all that is kept is that of what the tree tells, whose log ends with what was looked at since, of
+-- which each path is one of a port's page
 pub record IsSoundOn (lib : Library) (t : Told) : Type 0 where
   pub files : IsOf t.files (kept_of lib.files)
   pub right : IsRight lib t.files
   pub before : List Path
   pub log : t.log ≡ before ++ asked_since (learned_view lib)
+  pub within : ArePagePaths (page_paths (start_of lib) t.files) (asked_since (learned_view lib))
 
 -- what every world keeps
 pub record IsSound (tree : State) (lib : Library) : Type 0 where
@@ -125,9 +132,10 @@ pub record IsSound (tree : State) (lib : Library) : Type 0 where
   pub told : IfSome tree.told (IsSoundOn lib)
 
 -- since then these paths were looked at, none of them twice or by opening too, and nothing else was
--- done
+-- done; where files are told, each is one of the paths of some port's page
 pub record IsReadSince (origin : Origin) (tree : State) : Type 0 where
   pub asked : List Path
   pub told : tree.told ≡ with_asked asked origin.told
   pub changes : tree.changes ≡ origin.changes
   pub distinct : NoRepeats (origin.opened ++ asked)
+  pub within : IsSome origin.told → ArePagePaths origin.page_paths asked

@@ -7,6 +7,7 @@ ghost use Rattle.vk_spec.specs.Files.{Files};
 ghost use Rattle.vk_opening.specs.Starts.{Start};
 ghost use Rattle.vk_files.specs.Views.{held};
 ghost use Rattle.vk_pages.specs.Homes.{home_of};
+ghost use Rattle.vk_pages.specs.Asked.{home_paths};
 ghost use Rattle.vk_pages.specs.HomeViews.{layout_view};
 ghost use Rattle.vk_pages.specs.BaselineNotes.{AreBaselines};
 ghost use Rattle.vk_pages.specs.NoteViews.{notes_of};
@@ -41,6 +42,7 @@ fn find_home<T: Tree>(
     port: &PortName,
 ) -> Result<Result<Home, Wrong>, Outage>
     ensures { Learns result (Means found_home (home_of (layout_view layout.now) port.now))
+        (λ f. home_paths (layout_view layout.now) f port.now)
         (AreBaselines (layout_view layout.now) (notes_of baselines.old))
         (AreBaselines (layout_view layout.now) (notes_of baselines.new))
         (held files.old (T.state tree.old)) (held files.new (T.state tree.new)) }
@@ -80,7 +82,9 @@ impl Homes {
         port: &PortName,
     ) -> Result<(), Outage>
         requires { home_noted port.now self.old ≡ None }
-        ensures learns { Learns result SaysNothing (AreHomes (layout_view layout.now) self.old)
+        ensures learns { Learns result SaysNothing
+            (λ f. home_paths (layout_view layout.now) f port.now)
+            (AreHomes (layout_view layout.now) self.old)
             (AreHomes (layout_view layout.now) self.new) (held files.old (T.state tree.old))
             (held files.new (T.state tree.new)) }
         ensures there { OnOk result (IsSome (home_noted port.now self.new)) }
@@ -101,7 +105,9 @@ impl Homes {
         tree: &mut T,
         port: &PortName,
     ) -> Result<(), Outage>
-        ensures learns { Learns result SaysNothing (AreHomes (layout_view layout.now) self.old)
+        ensures learns { Learns result SaysNothing
+            (λ f. home_paths (layout_view layout.now) f port.now)
+            (AreHomes (layout_view layout.now) self.old)
             (AreHomes (layout_view layout.now) self.new) (held files.old (T.state tree.old))
             (held files.new (T.state tree.new)) }
         ensures there { OnOk result (IsSome (home_noted port.now self.new)) }

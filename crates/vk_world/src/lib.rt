@@ -1,6 +1,6 @@
 //! The world that a plan is made from: what the files of a project say of each port, read as it is
-//! asked for. It promises upwards that each answer is what the files say, and that no file is read
-//! twice.
+//! asked for. It promises upwards that each answer is what the files say, that no file is read
+//! twice, and that each path that is looked at is one of those that some port's page asks for.
 #![tactic(auto)]
 
 mod answered;

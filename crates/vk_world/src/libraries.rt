@@ -5,6 +5,7 @@ ghost use Rattle.vk_version.specs.AskViews.{ask_view};
 ghost use Rattle.vk_catalogue.specs.Views.{given_answer, version_answer};
 ghost use Rattle.vk_files.specs.Views.{held, kept_of};
 ghost use Rattle.vk_opening.specs.Views.{start_view, opened_files};
+ghost use Rattle.vk_pages.specs.Asked.{home_paths, page_paths};
 ghost use Rattle.vk_world.specs.Learning.{Learns, SaysNothing};
 ghost use Rattle.vk_world.specs.KnownVersions.{folders_in, pairs_of};
 ghost use Rattle.vk_world.specs.HomeNotes.{home_noted};
@@ -74,7 +75,8 @@ impl Library {
 
     // Looks for the home of a port.
     fn look<T: Tree>(&mut self, alloc: Global, tree: &mut T, port: &PortName) -> Result<(), Outage>
-        ensures learns { Learns result SaysNothing (IsRight self.old) (IsRight self.new)
+        ensures learns { Learns result SaysNothing (λ f. home_paths (start_of self.old) f port.now)
+            (IsRight self.old) (IsRight self.new)
             (held self.old.files (T.state tree.old)) (held self.new.files (T.state tree.new)) }
         ensures there { OnOk result (IsSome (home_noted port.now self.new.homes)) }
         ensures stays { Stays self.old self.new }
@@ -91,7 +93,8 @@ impl Library {
         tree: &mut T,
         port: &PortName,
     ) -> Result<Result<Given, Wrong>, Outage>
-        ensures learns { Learns result (SaysGivenOf (start_of self.old) port.now) (IsRight self.old)
+        ensures learns { Learns result (SaysGivenOf (start_of self.old) port.now)
+            (λ f. home_paths (start_of self.old) f port.now) (IsRight self.old)
             (IsRight self.new) (held self.old.files (T.state tree.old))
             (held self.new.files (T.state tree.new)) }
         ensures stays { Stays self.old self.new }
@@ -112,7 +115,8 @@ impl Library {
         ask: &Ask,
     ) -> Result<Option<Version>, Outage>
         ensures learns { Learns result
-            (SaysVersionOf (start_of self.old) port.now (ask_view ask.now)) (IsRight self.old)
+            (SaysVersionOf (start_of self.old) port.now (ask_view ask.now))
+            (λ f. home_paths (start_of self.old) f port.now) (IsRight self.old)
             (IsRight self.new) (held self.old.files (T.state tree.old))
             (held self.new.files (T.state tree.new)) }
         ensures stays { Stays self.old self.new }
@@ -133,7 +137,8 @@ impl Library {
         ask: &Ask,
     ) -> Result<Result<Rc<Manifest>, Wrong>, Outage>
         ensures learns { Learns result
-            (SaysManifestOf (start_of self.old) port.now (ask_view ask.now)) (IsRight self.old)
+            (SaysManifestOf (start_of self.old) port.now (ask_view ask.now))
+            (λ f. page_paths (start_of self.old) f port.now) (IsRight self.old)
             (IsRight self.new) (held self.old.files (T.state tree.old))
             (held self.new.files (T.state tree.new)) }
         ensures stays { Stays self.old self.new }
@@ -153,7 +158,8 @@ impl Library {
         ask: &Ask,
     ) -> Result<Result<Rc<Manifest>, Wrong>, Outage>
         ensures learns { Learns result
-            (SaysManifestOf (start_of self.old) port.now (ask_view ask.now)) (IsRight self.old)
+            (SaysManifestOf (start_of self.old) port.now (ask_view ask.now))
+            (λ f. page_paths (start_of self.old) f port.now) (IsRight self.old)
             (IsRight self.new) (held self.old.files (T.state tree.old))
             (held self.new.files (T.state tree.new)) }
         ensures stays { Stays self.old self.new }
@@ -174,7 +180,8 @@ impl Library {
         ask: &Ask,
     ) -> Result<Result<Rc<Manifest>, Wrong>, Outage>
         ensures learns { Learns result
-            (SaysManifestOf (start_of self.old) port.now (ask_view ask.now)) (IsRight self.old)
+            (SaysManifestOf (start_of self.old) port.now (ask_view ask.now))
+            (λ f. page_paths (start_of self.old) f port.now) (IsRight self.old)
             (IsRight self.new) (held self.old.files (T.state tree.old))
             (held self.new.files (T.state tree.new)) }
         ensures stays { Stays self.old self.new }

@@ -1,5 +1,5 @@
 //! The manifest of a version, which is read where it stands.
-ghost use Rattle.std.specs.Prelude.{◌≡◌, Ok, Err, IfOk, false};
+ghost use Rattle.std.specs.Prelude.{◌≡◌, ◌∷◌, [], map, Ok, Err, IfOk, false};
 ghost use Rattle.vk_spec.specs.Reading.{Gives};
 ghost use Rattle.vk_registry.specs.TableViews.{row_view};
 ghost use Rattle.vk_version.specs.AskViews.{ask_view};
@@ -9,9 +9,11 @@ ghost use Rattle.vk_model.specs.Views.{manifest_view};
 ghost use Rattle.vk_catalogue.specs.Views.{manifest_said, wrong_view};
 ghost use Rattle.vk_files.specs.StopViews.{fault_seen};
 ghost use Rattle.vk_files.specs.Readings.{ReadsAs};
-ghost use Rattle.vk_files.specs.Views.{held};
+ghost use Rattle.vk_files.specs.Within.{LooksWithin};
+ghost use Rattle.vk_files.specs.Views.{held, kept_of};
 ghost use Rattle.vk_opening.specs.Projects.{manifest_path};
 ghost use Rattle.vk_pages.specs.Pages.{row_folder, row_manifest};
+ghost use Rattle.vk_pages.specs.Asked.{row_path, manifest_paths};
 ghost use Rattle.vk_pages.specs.HomeViews.{home_view};
 ghost use Rattle.vk_world.specs.Learning.{Learns, Means, NothingKnown};
 ghost use Rattle.vk_world.specs.Listed.{agreed, manifest_at};
@@ -66,9 +68,10 @@ fn manifest_at<T: Tree>(
     port: &PortName,
     version: &Version,
 ) -> Result<Rc<Manifest>, Stop<Wrong>>
-    ensures { ReadsAs wrong_view (λ m. manifest_view m.value) result
+    ensures reads { ReadsAs wrong_view (λ m. manifest_view m.value) result
         (manifest_at path.now port.now version.now)
         (held files.old (T.state tree.old)) (held files.new (T.state tree.new)) }
+    ensures asked { LooksWithin (path.now ∷ []) (kept_of files.old) (kept_of files.new) }
 {
     let manifest = content(alloc, files, tree, path, &PortFile)?;
     agreed(alloc, path, port, version, manifest)
@@ -85,7 +88,7 @@ fn row_manifest<T: Tree>(
 ) -> Result<Result<Rc<Manifest>, Wrong>, Outage>
     ensures { Learns result
         (Means manifest_said (row_manifest port.now registry.now (row_view row.now)))
-        NothingKnown NothingKnown
+        (λ f. row_path registry.now (row_view row.now) ∷ []) NothingKnown NothingKnown
         (held files.old (T.state tree.old)) (held files.new (T.state tree.new)) }
 {
     let path = row_path(alloc, registry, row)?;
@@ -110,7 +113,7 @@ fn table_manifest<T: Tree>(
     ask: &Ask,
 ) -> Result<Result<Rc<Manifest>, Wrong>, Outage>
     ensures { Learns result (IsRowManifest port.now registry.now table.now (ask_view ask.now))
-        NothingKnown NothingKnown
+        (λ f. map (row_path registry.now) table.now) NothingKnown NothingKnown
         (held files.old (T.state tree.old)) (held files.new (T.state tree.new)) }
 {
     match row_meant(table, ask) {
@@ -129,7 +132,7 @@ fn home_manifest<T: Tree>(
     ask: &Ask,
 ) -> Result<Result<Rc<Manifest>, Wrong>, Outage>
     ensures { Learns result (IsManifestFor port.now (Ok (home_view home.now)) (ask_view ask.now))
-        NothingKnown NothingKnown
+        (λ f. manifest_paths (Ok (home_view home.now))) NothingKnown NothingKnown
         (held files.old (T.state tree.old)) (held files.new (T.state tree.new)) }
 {
     match home {
@@ -151,7 +154,7 @@ pub fn manifest_for<T: Tree>(
     ask: &Ask,
 ) -> Result<Result<Rc<Manifest>, Wrong>, Outage>
     ensures { Learns result (IsManifestFor port.now (found_home found.now) (ask_view ask.now))
-        NothingKnown NothingKnown
+        (λ f. manifest_paths (found_home found.now)) NothingKnown NothingKnown
         (held files.old (T.state tree.old)) (held files.new (T.state tree.new)) }
 {
     match found {

@@ -23,7 +23,8 @@ use vk_tree::Tree;
 use vk_version::{Ask, Version};
 
 /// The pages of ports that the files of a tree hold, read as they are asked for. No path is read
-/// twice, and none that opening had read.
+/// twice, and none that opening had read. Where the tree tells its files, each path that is looked
+/// at is one of those that some port's page asks for.
 #[derive(Drop)]
 pub struct World<T: Tree> {
     alloc: Global,
@@ -93,7 +94,8 @@ impl<T: Tree> World<T> {
         }
     }
 
-    /// The tree as it stands: no path was looked at twice, by opening or since. Takes no memory.
+    /// The tree as it stands: no path was looked at twice, by opening or since, and where it tells
+    /// its files, each path since is one that some port's page asks for. Takes no memory.
     pub fn into_tree(self) -> T
         ensures tree { result ≡ self.tree }
         ensures read { IsReadSince (state_of T.state self).origin (T.state result) }

@@ -9,7 +9,7 @@ use Rattle.vk_world.proofs.WorldLemmas.{still_sound, asks_learned, on_page}
 use Rattle.vk_world.proofs.worlds.WorldCatalogue.manifest.Goals as goal
 
 pub invariant_of-self : goal.invariant_of-self
-invariant_of-self g c = still_sound c.self.inside.library c.manifest.new.self c.self.invariant c.manifest.ensures.stays c.manifest.ensures.learns
+invariant_of-self g c = still_sound c.self.inside.library c.manifest.new.self c.args.port.now c.self.invariant c.manifest.ensures.stays c.manifest.ensures.learns
 
 pub returns-clause-asks : goal.returns-clause-asks
 returns-clause-asks g c =
