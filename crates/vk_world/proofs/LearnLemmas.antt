@@ -21,8 +21,9 @@ use Rattle.vk_base.specs.declared.stops.Stop.{Stop}
 use Rattle.vk_base.specs.declared.stops.Stop.TheVariants as stop
 use Rattle.vk_files.proofs.OnceLemmas.{nothing_read, once_then}
 use Rattle.vk_files.proofs.ReadMore.{known_before}
-use Rattle.vk_files.proofs.WithinLemmas.{nothing_since, within_then, within_wider}
+use Rattle.vk_files.proofs.WithinLemmas.{within_then, within_wider}
 use Rattle.vk_pages.specs.Looked.{LooksNoting}
+use Rattle.vk_pages.proofs.AskedLemmas.{looked_nothing}
 use Rattle.vk_spec.proofs.OptionLemmas.{of_each, of_both}
 use Rattle.vk_world.specs.Learning.{Learns, Means, settled}
 
@@ -47,17 +48,13 @@ learns_settled {view = view} {answer = answer} {meaning = meaning} {a = a} resul
   asked = looks;
 })
 
--- one list, whatever the files give
-pub looks_each : {paths : List Path} {a b : Held} (Known : Files → Type 0) → LooksWithin paths a.kept b.kept → LooksNoting (λ f. paths) Known a b
-looks_each {a = a} Known one = record { within = of_each a.tree.told (λ t old known. one) }
-
 -- what needs no file
 pub learns_pure : {X : Type 0} {paths : Files → List Path} (answer : Result X Outage) (Says : Files → X → Type 0) (Before After : Files → Type 0) (h : Held) → was_out answer ≡ false
     → ((f : Files) → Before f → After f × IfOk answer (Says f)) → Learns answer Says paths Before After h h
 learns_pure {paths = paths} answer Says Before After h calm holds = record {
   once = rw calm (nothing_read h);
   content = of_each h.tree.told (λ t old. holds t.files);
-  asked = record { within = of_each h.tree.told (λ t old right. nothing_since (paths t.files) h.kept) };
+  asked = looked_nothing paths Before h;
 }
 
 -- out of memory

@@ -1,6 +1,6 @@
 -- The manifest of a row, by what stands at its path.
 use Rattle.std.proofs.Common.{◌≡◌, ℕ, Bool, true, false, cond, List, [], ◌∷◌, map, refl, ap, sym, subst, ◌∙◌}
-use Rattle.std.specs.Prelude.{Option, Some, option_map, Result, Ok, Err, IfOk}
+use Rattle.std.specs.Prelude.{Some, option_map, Result, Ok, Err, IfOk}
 use Rattle.std.specs.List.{Contains, find}
 use Rattle.vk_spec.specs.Paths.{Path}
 use Rattle.vk_spec.specs.Files.{Files}

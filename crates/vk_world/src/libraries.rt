@@ -76,8 +76,8 @@ impl Library {
     // Looks for the home of a port.
     fn look<T: Tree>(&mut self, alloc: Global, tree: &mut T, port: &PortName) -> Result<(), Outage>
         ensures learns { Learns result SaysNothing (λ f. home_paths (start_of self.old) f port.now)
-            (IsRight self.old) (IsRight self.new)
-            (held self.old.files (T.state tree.old)) (held self.new.files (T.state tree.new)) }
+            (IsRight self.old) (IsRight self.new) (held self.old.files (T.state tree.old))
+            (held self.new.files (T.state tree.new)) }
         ensures there { OnOk result (IsSome (home_noted port.now self.new.homes)) }
         ensures stays { Stays self.old self.new }
         ensures known { self.new.known ≡ self.old.known }
@@ -94,9 +94,8 @@ impl Library {
         port: &PortName,
     ) -> Result<Result<Given, Wrong>, Outage>
         ensures learns { Learns result (SaysGivenOf (start_of self.old) port.now)
-            (λ f. home_paths (start_of self.old) f port.now) (IsRight self.old)
-            (IsRight self.new) (held self.old.files (T.state tree.old))
-            (held self.new.files (T.state tree.new)) }
+            (λ f. home_paths (start_of self.old) f port.now) (IsRight self.old) (IsRight self.new)
+            (held self.old.files (T.state tree.old)) (held self.new.files (T.state tree.new)) }
         ensures stays { Stays self.old self.new }
         ensures known { pairs_of (folders_in self.new.known) ≡ pairs_given port.now
             (given_answer result) (pairs_of (folders_in self.old.known)) }
@@ -116,9 +115,8 @@ impl Library {
     ) -> Result<Option<Version>, Outage>
         ensures learns { Learns result
             (SaysVersionOf (start_of self.old) port.now (ask_view ask.now))
-            (λ f. home_paths (start_of self.old) f port.now) (IsRight self.old)
-            (IsRight self.new) (held self.old.files (T.state tree.old))
-            (held self.new.files (T.state tree.new)) }
+            (λ f. home_paths (start_of self.old) f port.now) (IsRight self.old) (IsRight self.new)
+            (held self.old.files (T.state tree.old)) (held self.new.files (T.state tree.new)) }
         ensures stays { Stays self.old self.new }
         ensures known { pairs_of (folders_in self.new.known) ≡ pairs_listed port.now
             (version_answer result) (pairs_of (folders_in self.old.known)) }
@@ -138,9 +136,8 @@ impl Library {
     ) -> Result<Result<Rc<Manifest>, Wrong>, Outage>
         ensures learns { Learns result
             (SaysManifestOf (start_of self.old) port.now (ask_view ask.now))
-            (λ f. page_paths (start_of self.old) f port.now) (IsRight self.old)
-            (IsRight self.new) (held self.old.files (T.state tree.old))
-            (held self.new.files (T.state tree.new)) }
+            (λ f. page_paths (start_of self.old) f port.now) (IsRight self.old) (IsRight self.new)
+            (held self.old.files (T.state tree.old)) (held self.new.files (T.state tree.new)) }
         ensures stays { Stays self.old self.new }
         ensures known { self.new.known ≡ self.old.known }
     {
@@ -159,9 +156,8 @@ impl Library {
     ) -> Result<Result<Rc<Manifest>, Wrong>, Outage>
         ensures learns { Learns result
             (SaysManifestOf (start_of self.old) port.now (ask_view ask.now))
-            (λ f. page_paths (start_of self.old) f port.now) (IsRight self.old)
-            (IsRight self.new) (held self.old.files (T.state tree.old))
-            (held self.new.files (T.state tree.new)) }
+            (λ f. page_paths (start_of self.old) f port.now) (IsRight self.old) (IsRight self.new)
+            (held self.old.files (T.state tree.old)) (held self.new.files (T.state tree.new)) }
         ensures stays { Stays self.old self.new }
         ensures known { self.new.known ≡ self.old.known }
     {
@@ -181,9 +177,8 @@ impl Library {
     ) -> Result<Result<Rc<Manifest>, Wrong>, Outage>
         ensures learns { Learns result
             (SaysManifestOf (start_of self.old) port.now (ask_view ask.now))
-            (λ f. page_paths (start_of self.old) f port.now) (IsRight self.old)
-            (IsRight self.new) (held self.old.files (T.state tree.old))
-            (held self.new.files (T.state tree.new)) }
+            (λ f. page_paths (start_of self.old) f port.now) (IsRight self.old) (IsRight self.new)
+            (held self.old.files (T.state tree.old)) (held self.new.files (T.state tree.new)) }
         ensures stays { Stays self.old self.new }
         ensures known { self.new.known ≡ self.old.known }
     {

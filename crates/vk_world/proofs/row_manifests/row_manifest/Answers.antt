@@ -4,8 +4,9 @@ use Rattle.vk_catalogue.specs.Views.{manifest_said}
 use Rattle.vk_files.specs.Views.{held}
 use Rattle.vk_files.proofs.NotingLemmas.{noting_none}
 use Rattle.vk_pages.specs.Pages.{row_manifest}
+use Rattle.vk_pages.proofs.AskedLemmas.{looked_each}
 use Rattle.vk_world.specs.Learning.{Means, NothingKnown}
-use Rattle.vk_world.proofs.LearnLemmas.{learns_memory, learns_settled, looks_each}
+use Rattle.vk_world.proofs.LearnLemmas.{learns_memory, learns_settled}
 use Rattle.vk_world.proofs.ManifestLemmas.{row_learned}
 use Rattle.vk_world.proofs.row_manifests.row_manifest.Goals as goal
 
@@ -17,4 +18,4 @@ returns-in_err-path g c =
 pub returns : goal.returns
 returns g c =
     row_learned c.args.port.now c.args.registry.now (row_view c.args.row.now) c.in_ok-path.path c.in_ok-path.ensures
-    (learns_settled c.settle.result c.settle.ensures (noting_none NothingKnown c.manifest_at.ensures.reads) (looks_each NothingKnown c.manifest_at.ensures.asked))
+    (learns_settled c.settle.result c.settle.ensures (noting_none NothingKnown c.manifest_at.ensures.reads) (looked_each NothingKnown c.manifest_at.ensures.asked))
