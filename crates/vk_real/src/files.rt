@@ -131,7 +131,12 @@ impl<R: Files + Alloc<A = Global> + Clone + Drop> Tree for FileTree<R> {
     fn rename(&mut self, from: &TreePath, to: &TreePath) -> Result<(), Stop<MoveFault>> {
         self.calls = self.calls.saturating_add(1);
         let (old, new) = (from.text(self.alloc)?, to.text(self.alloc)?);
-        match move_path(&self.rt, old.as_str(), new.as_str()) {
+        let moved = if from.overlaps(to) {
+            Err(io::Error::from(ErrorKind::InvalidInput))
+        } else {
+            move_path(&self.rt, old.as_str(), new.as_str())
+        };
+        match moved {
             Ok(Moved::Done) => {
                 self.changes = self.changes.saturating_add(1);
                 Ok(())
