@@ -1,0 +1,151 @@
+//! The rows, each a question and its words:
+//! - `group TITLE`, `case TITLE`: what follows belongs together;
+//! - `mem CALL`, `host CALL`: a call of the tree in memory, or of the host's;
+//! - `both CALL`: the call of both, which have to answer the same.
+//!
+//! The calls are those of `looks` and `walks`, and `write PATH BYTES`, `move FROM TO`,
+//! `remove PATH`.
+
+ghost use Rattle.std.specs.Prelude.{IsTrue};
+ghost use Rattle.vk_spec.specs.Paths.{Begins};
+
+use crate::changes::{moved, paths_of, remove, written};
+use crate::{looks, walks};
+use std::alloc::{AllocError, Global};
+use std::rt::Files;
+use vk_base::{Memory, Text, TreePath};
+use vk_real::FileTree;
+use vk_row_text::{Answering, Reply, cut};
+use vk_tree::{MemTree, Tree};
+
+/// A tree in memory, which is empty at first, and the host's files.
+#[derive(Drop)]
+pub struct Session<R> {
+    mem: MemTree,
+    host: FileTree<R>,
+}
+
+// A call that every tree does.
+fn call<T: Tree>(tree: &mut T, question: &str, row: &str, reply: &mut Reply) {
+    match question {
+        "walk" => walks::answer(tree, row, reply),
+        "remove" => remove(tree, row, reply),
+        _ => looks::answer(tree, question, row, reply),
+    }
+}
+
+fn write_in_memory(tree: &mut MemTree, row: &str, reply: &mut Reply) {
+    let (path, bytes) = cut(row);
+    let path = reply.path(path);
+    let bytes = reply.bytes(bytes);
+    if tree.has_room(&path) {
+        written(tree.write(&path, bytes.as_slice()), reply);
+    } else {
+        reply.push("no room");
+    }
+}
+
+fn write_on_host<R: Files + Alloc<A = Global> + Clone + Drop>(
+    tree: &mut FileTree<R>,
+    row: &str,
+    reply: &mut Reply,
+) {
+    let (path, bytes) = cut(row);
+    let path = reply.path(path);
+    let bytes = reply.bytes(bytes);
+    written(tree.write(&path, bytes.as_slice()), reply);
+}
+
+// Whether neither of two paths begins the other.
+fn are_apart(one: &TreePath, other: &TreePath) -> bool
+    ensures left { IsTrue result → Begins one.now other.now → ⊥ }
+    ensures right { IsTrue result → Begins other.now one.now → ⊥ }
+{
+    !one.begins(other) && !other.begins(one)
+}
+
+fn move_in_memory(tree: &mut MemTree, row: &str, reply: &mut Reply) {
+    let (from, to) = paths_of(row, reply);
+    if tree.has_room(&to) && are_apart(&from, &to) {
+        moved(tree.rename(&from, &to), reply);
+    } else {
+        reply.push("no room");
+    }
+}
+
+fn move_on_host<R: Files + Alloc<A = Global> + Clone + Drop>(
+    tree: &mut FileTree<R>,
+    row: &str,
+    reply: &mut Reply,
+) {
+    let (from, to) = paths_of(row, reply);
+    moved(tree.rename(&from, &to), reply);
+}
+
+// What two trees told, where they told the same.
+fn tell_both(
+    one: Result<Option<Text>, AllocError>,
+    other: Result<Option<Text>, AllocError>,
+    reply: &mut Reply,
+) {
+    match (one, other) {
+        (Ok(Some(one)), Ok(Some(other))) => {
+            reply.push(one.as_str());
+            if one != other {
+                reply.push(" in memory, on the host ");
+                reply.push(other.as_str());
+            }
+        }
+        (_, _) => reply.refuse(),
+    }
+}
+
+impl<R: Files + Alloc<A = Global> + Clone + Drop> Session<R> {
+    /// No files in memory, and those of the host.
+    pub fn new(rt: R) -> Result<Session<R>, Memory> {
+        let mem = MemTree::new(rt.alloc())?;
+        Ok(Session {
+            mem,
+            host: FileTree::new(rt),
+        })
+    }
+
+    fn in_memory(&mut self, row: &str, reply: &mut Reply) {
+        let (question, rest) = cut(row);
+        match question {
+            "write" => write_in_memory(&mut self.mem, rest, reply),
+            "move" => move_in_memory(&mut self.mem, rest, reply),
+            _ => call(&mut self.mem, question, rest, reply),
+        }
+    }
+
+    fn on_host(&mut self, row: &str, reply: &mut Reply) {
+        let (question, rest) = cut(row);
+        match question {
+            "write" => write_on_host(&mut self.host, rest, reply),
+            "move" => move_on_host(&mut self.host, rest, reply),
+            _ => call(&mut self.host, question, rest, reply),
+        }
+    }
+
+    fn on_both(&mut self, row: &str, reply: &mut Reply) {
+        let mut one = Reply::new(reply.alloc());
+        self.in_memory(row, &mut one);
+        let mut other = Reply::new(reply.alloc());
+        self.on_host(row, &mut other);
+        tell_both(one.end(), other.end(), reply);
+    }
+}
+
+impl<R: Files + Alloc<A = Global> + Clone + Drop> Answering for Session<R> {
+    fn answer(&mut self, row: &str, reply: &mut Reply) {
+        let (question, rest) = cut(row);
+        match question {
+            "group" | "case" => reply.silence(),
+            "mem" => self.in_memory(rest, reply),
+            "host" => self.on_host(rest, reply),
+            "both" => self.on_both(rest, reply),
+            _ => reply.refuse(),
+        }
+    }
+}
