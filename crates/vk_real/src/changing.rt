@@ -1,19 +1,22 @@
 //! Files of the host written, moved and removed.
 
 use crate::reading::file_size;
-use crate::stands::{Stand, bare_folders, has_file, stand_at};
+use crate::stands::{Stand, bare_folders, has_file, stand_at, text_of};
 use std::alloc::Global;
 use std::fs::File;
 use std::io::{ErrorKind, Write};
 use std::rt::Files;
 use std::{fs, io};
+use vk_base::TreePath;
 
 /// Writes a file anew, in place of the one that stands there. The folders that it needs are made.
-pub(crate) fn write_file<R: Files + Alloc<A = Global> + Clone + Drop>(
+pub(crate) fn write_file<R: Files + Alloc<A = Global>>(
     rt: &R,
-    path: &str,
+    path: &TreePath,
     bytes: &[u8],
 ) -> io::Result<()> {
+    let text = text_of(rt.alloc(), path)?;
+    let path = text.as_str();
     free_of_folders(rt, path)?;
     make_parent(rt, path)?;
     if file_size(rt, path)?.is_some() {
@@ -31,12 +34,21 @@ pub(crate) enum Moved {
 }
 
 /// Moves a file, or a folder with files, to where none stands. The folders that it needs are made,
-/// and those that it empties are removed.
-pub(crate) fn move_path<R: Files + Alloc<A = Global> + Clone + Drop>(
+/// and those that it empties are removed. A move into or out of itself is an error.
+pub(crate) fn move_path<R: Files + Alloc<A = Global>>(
     rt: &R,
-    from: &str,
-    to: &str,
+    from: &TreePath,
+    to: &TreePath,
 ) -> io::Result<Moved> {
+    if from.overlaps(to) {
+        return Err(io::Error::from(ErrorKind::InvalidInput));
+    }
+    let old = text_of(rt.alloc(), from)?;
+    let new = text_of(rt.alloc(), to)?;
+    move_text(rt, old.as_str(), new.as_str())
+}
+
+fn move_text<R: Files + Alloc<A = Global>>(rt: &R, from: &str, to: &str) -> io::Result<Moved> {
     if !has_file(rt, from)? {
         return Ok(Moved::Missing);
     }
@@ -65,7 +77,9 @@ fn lost(e: io::Error) -> io::Result<Moved> {
 }
 
 /// Removes a file and the folders that this empties; false where no file stands there.
-pub(crate) fn remove_at<R: Files>(rt: &R, path: &str) -> io::Result<bool> {
+pub(crate) fn remove_at<R: Files + Alloc<A = Global>>(rt: &R, path: &TreePath) -> io::Result<bool> {
+    let text = text_of(rt.alloc(), path)?;
+    let path = text.as_str();
     if file_size(rt, path)?.is_none() {
         return Ok(false);
     }
@@ -76,10 +90,7 @@ pub(crate) fn remove_at<R: Files>(rt: &R, path: &str) -> io::Result<bool> {
 
 // Removes folders without files from a path where a file is to stand. What is neither a file nor
 // a folder stays there, and is an error.
-fn free_of_folders<R: Files + Alloc<A = Global> + Clone + Drop>(
-    rt: &R,
-    path: &str,
-) -> io::Result<()> {
+fn free_of_folders<R: Files + Alloc<A = Global>>(rt: &R, path: &str) -> io::Result<()> {
     match stand_at(rt, path)? {
         Stand::Absent | Stand::File => Ok(()),
         Stand::Folder => remove_bare(rt, path),
@@ -87,7 +98,7 @@ fn free_of_folders<R: Files + Alloc<A = Global> + Clone + Drop>(
     }
 }
 
-fn remove_bare<R: Files + Alloc<A = Global> + Clone + Drop>(rt: &R, path: &str) -> io::Result<()> {
+fn remove_bare<R: Files + Alloc<A = Global>>(rt: &R, path: &str) -> io::Result<()> {
     let Some(mut folders) = bare_folders(rt, path)? else {
         return Err(io::Error::from(ErrorKind::IsADirectory));
     };

@@ -9,7 +9,7 @@ ghost use Rattle.vk_real.specs.Outages.{IsOutage};
 use crate::changing::{Moved, move_path, remove_at, write_file};
 use crate::listing::list_in;
 use crate::reading::{Found, find, find_piece};
-use crate::stands::{Stand, has_file, stand_at};
+use crate::stands::{Stand, has_file, stand_at, text_of};
 use std::alloc::Global;
 use std::io;
 use std::io::ErrorKind;
@@ -24,19 +24,16 @@ const MOST_ENTRIES: usize = 100_000;
 #[derive(Drop)]
 pub struct FileTree<R> {
     rt: R,
-    alloc: Global,
     changes: u64,
     faults: u64,
     calls: u64,
 }
 
-impl<R: Files + Alloc<A = Global> + Clone + Drop> FileTree<R> {
+impl<R: Files + Alloc<A = Global>> FileTree<R> {
     /// A tree whose counts are 0.
     pub fn new(rt: R) -> FileTree<R> {
-        let alloc = rt.alloc();
         FileTree {
             rt,
-            alloc,
             changes: 0,
             faults: 0,
             calls: 0,
@@ -55,15 +52,16 @@ fn outage(faults: &mut u64, e: &io::Error) -> Outage
     Outage::Failed
 }
 
-fn kind_at<R: Files + Alloc<A = Global> + Clone + Drop>(rt: &R, path: &str) -> io::Result<Kind> {
-    match stand_at(rt, path)? {
+fn kind_at<R: Files + Alloc<A = Global>>(rt: &R, path: &TreePath) -> io::Result<Kind> {
+    let text = text_of(rt.alloc(), path)?;
+    match stand_at(rt, text.as_str())? {
         Stand::File => Ok(Kind::File),
-        Stand::Folder | Stand::Linked if has_file(rt, path)? => Ok(Kind::Folder),
+        Stand::Folder | Stand::Linked if has_file(rt, text.as_str())? => Ok(Kind::Folder),
         Stand::Folder | Stand::Linked | Stand::Absent | Stand::Other => Ok(Kind::Absent),
     }
 }
 
-impl<R: Files + Alloc<A = Global> + Clone + Drop> Tree for FileTree<R> {
+impl<R: Files + Alloc<A = Global>> Tree for FileTree<R> {
     ghost state = { λ t. record {
       told = None;
       changes = t.changes;
@@ -74,8 +72,7 @@ impl<R: Files + Alloc<A = Global> + Clone + Drop> Tree for FileTree<R> {
 
     fn kind(&mut self, path: &TreePath) -> Result<Kind, Outage> {
         self.calls = self.calls.saturating_add(1);
-        let text = path.text(self.alloc)?;
-        match kind_at(&self.rt, text.as_str()) {
+        match kind_at(&self.rt, path) {
             Ok(kind) => Ok(kind),
             Err(e) => Err(outage(&mut self.faults, &e)),
         }
@@ -83,8 +80,7 @@ impl<R: Files + Alloc<A = Global> + Clone + Drop> Tree for FileTree<R> {
 
     fn read(&mut self, path: &TreePath, limit: u64) -> Result<List<u8>, Stop<ReadFault>> {
         self.calls = self.calls.saturating_add(1);
-        let text = path.text(self.alloc)?;
-        match find(&self.rt, text.as_str(), limit) {
+        match find(&self.rt, path, limit) {
             Ok(Found::Absent) => Err(Stop::Fault(ReadFault::Missing)),
             Ok(Found::Long) => Err(Stop::Fault(ReadFault::TooLarge)),
             Ok(Found::Bytes(bytes)) => {
@@ -99,8 +95,7 @@ impl<R: Files + Alloc<A = Global> + Clone + Drop> Tree for FileTree<R> {
 
     fn piece(&mut self, path: &TreePath, at: u64, most: u32) -> Result<List<u8>, Stop<ReadFault>> {
         self.calls = self.calls.saturating_add(1);
-        let text = path.text(self.alloc)?;
-        match find_piece(&self.rt, text.as_str(), at, most) {
+        match find_piece(&self.rt, path, at, most) {
             Ok(Some(bytes)) => Ok(List::from_vec(bytes)),
             Ok(None) => Err(Stop::Fault(ReadFault::Missing)),
             Err(e) => Err(Stop::from(outage(&mut self.faults, &e))),
@@ -109,8 +104,7 @@ impl<R: Files + Alloc<A = Global> + Clone + Drop> Tree for FileTree<R> {
 
     fn list(&mut self, dir: &TreePath) -> Result<List<Listed>, Stop<ListFault>> {
         self.calls = self.calls.saturating_add(1);
-        let text = dir.text(self.alloc)?;
-        match list_in(&self.rt, text.as_str()) {
+        match list_in(&self.rt, dir) {
             Ok(entries) => listed(entries),
             Err(e) => Err(Stop::from(outage(&mut self.faults, &e))),
         }
@@ -118,8 +112,7 @@ impl<R: Files + Alloc<A = Global> + Clone + Drop> Tree for FileTree<R> {
 
     fn write(&mut self, path: &TreePath, bytes: &[u8]) -> Result<(), Outage> {
         self.calls = self.calls.saturating_add(1);
-        let text = path.text(self.alloc)?;
-        match write_file(&self.rt, text.as_str(), bytes) {
+        match write_file(&self.rt, path, bytes) {
             Ok(()) => {
                 self.changes = self.changes.saturating_add(1);
                 Ok(())
@@ -130,13 +123,7 @@ impl<R: Files + Alloc<A = Global> + Clone + Drop> Tree for FileTree<R> {
 
     fn rename(&mut self, from: &TreePath, to: &TreePath) -> Result<(), Stop<MoveFault>> {
         self.calls = self.calls.saturating_add(1);
-        let (old, new) = (from.text(self.alloc)?, to.text(self.alloc)?);
-        let moved = if from.overlaps(to) {
-            Err(io::Error::from(ErrorKind::InvalidInput))
-        } else {
-            move_path(&self.rt, old.as_str(), new.as_str())
-        };
-        match moved {
+        match move_path(&self.rt, from, to) {
             Ok(Moved::Done) => {
                 self.changes = self.changes.saturating_add(1);
                 Ok(())
@@ -149,8 +136,7 @@ impl<R: Files + Alloc<A = Global> + Clone + Drop> Tree for FileTree<R> {
 
     fn remove(&mut self, path: &TreePath) -> Result<(), Stop<RemoveFault>> {
         self.calls = self.calls.saturating_add(1);
-        let text = path.text(self.alloc)?;
-        match remove_at(&self.rt, text.as_str()) {
+        match remove_at(&self.rt, path) {
             Ok(true) => {
                 self.changes = self.changes.saturating_add(1);
                 Ok(())

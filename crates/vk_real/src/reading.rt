@@ -2,11 +2,12 @@
 ghost use Rattle.std.specs.Prelude.{◌≤◌, IfOk, IfSome};
 ghost use Rattle.std.specs.Prelude.{vec_len};
 
-use crate::stands::is_absent;
+use crate::stands::{is_absent, text_of};
 use std::alloc::Global;
 use std::io::{ErrorKind, Read, Seek, SeekFrom};
 use std::rt::Files;
 use std::{fs, io};
+use vk_base::TreePath;
 
 /// What stands at a path: at most one byte more than the limit.
 pub(crate) enum Found {
@@ -55,9 +56,11 @@ fn read_bytes<F: Read + Drop>(
 /// The file at a path, unless it is longer than the limit.
 pub(crate) fn find<R: Files + Alloc<A = Global>>(
     rt: &R,
-    path: &str,
+    path: &TreePath,
     limit: u64,
 ) -> io::Result<Found> {
+    let text = text_of(rt.alloc(), path)?;
+    let path = text.as_str();
     let Some(size) = file_size(rt, path)? else {
         return Ok(Found::Absent);
     };
@@ -73,12 +76,14 @@ pub(crate) fn find<R: Files + Alloc<A = Global>>(
 /// The bytes of the file at a path from a place on, as many as there are up to a number.
 pub(crate) fn find_piece<R: Files + Alloc<A = Global>>(
     rt: &R,
-    path: &str,
+    path: &TreePath,
     at: u64,
     most: u32,
 ) -> io::Result<Option<Vec<u8>>>
     ensures { IfOk result (λ found. IfSome found (λ bytes. vec_len bytes ≤ most)) }
 {
+    let text = text_of(rt.alloc(), path)?;
+    let path = text.as_str();
     let Some(size) = file_size(rt, path)? else {
         return Ok(None);
     };
