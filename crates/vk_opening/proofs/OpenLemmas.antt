@@ -11,6 +11,7 @@ use Rattle.vk_files.specs.Within.{LooksWhere}
 use Rattle.vk_files.specs.declared.caches.FileCache.{FileCache}
 use Rattle.vk_base.specs.declared.stops.Stop.{Stop}
 use Rattle.vk_base.specs.declared.stops.Stop.TheVariants as stop
+use Rattle.vk_model.specs.Views.{override_view}
 use Rattle.vk_model.specs.declared.projects.Project.{Project}
 use Rattle.vk_config.specs.Configs.{Config}
 use Rattle.vk_opening.specs.Asked.{opening_paths}
@@ -46,7 +47,7 @@ use Rattle.vk_spec.proofs.OptionLemmas.{of_both}
 
 -- what was found is put together
 pub found_is : (project : Project) (root : Root) (config : Config) (found : Found)
-    → found.own.folder ≡ project.folder → found.own.overrides ≡ root.manifest.overrides
+    → found.own.folder ≡ project.folder → found.own.overrides ≡ map override_view root.manifest.overrides
     → found.own.features ≡ project.features
     → opening_with project (root_view root) config (triplets_view found.triplets) (map overlay_view found.overlays)
     ≡ opening_found project (root_view root) config found

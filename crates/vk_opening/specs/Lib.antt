@@ -1,5 +1,6 @@
 -- what is promised
 pub mod Projects
+pub mod Overrides
 pub mod Starts
 pub mod Roots
 pub mod Configurations

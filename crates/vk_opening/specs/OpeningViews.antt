@@ -1,6 +1,5 @@
 -- What was read of a project, as plain data, and the answer that it makes.
 use Rattle.std.specs.Prelude.{List, map, Result, Ok, Err, IfOk}
-use Rattle.vk_model.specs.Views.{override_view}
 use Rattle.vk_model.specs.SettingViews.{setting_view, instance_view}
 use Rattle.vk_resolution.specs.RootLaws.{with_off}
 use Rattle.vk_config.specs.Views.{config_view}
@@ -27,7 +26,7 @@ use Rattle.vk_base.specs.declared.stops.Outage.{Outage}
 use Rattle.vk_base.specs.declared.stops.Outage.TheVariants as outage
 
 abbrev pub opening_view : Opening → plain.Opening
-opening_view o = record { setting = with_off (setting_view o.setting); start = record { folder = o.folder; config = config_view o.config; overlays = map overlay_view o.overlays; overrides = map override_view o.overrides } }
+opening_view o = record { setting = with_off (setting_view o.setting); start = record { folder = o.folder; config = config_view o.config; overlays = map overlay_view o.overlays; overrides = o.overrides } }
 
 -- the opening that is made of what was found, beside a root and a configuration
 abbrev pub opening_found : Project → Root → Config → Found → plain.Opening
@@ -45,7 +44,7 @@ opening_found project root config found = record {
     folder = found.own.folder;
     config = config;
     overlays = map overlay_view found.overlays;
-    overrides = map override_view found.own.overrides;
+    overrides = found.own.overrides;
   };
 }
 

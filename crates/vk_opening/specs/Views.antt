@@ -1,7 +1,7 @@
 -- What contracts see of a start and of a setting: plain data.
 use Rattle.std.specs.Prelude.{map}
 use Rattle.vk_json.specs.DocumentView.{doc_data}
-use Rattle.vk_model.specs.Views.{manifest_view, override_view}
+use Rattle.vk_model.specs.Views.{manifest_view}
 use Rattle.vk_model.specs.SettingViews.{setting_view}
 use Rattle.vk_resolution.specs.RootLaws.{with_off}
 use Rattle.vk_config.specs.Views.{config_view}
@@ -23,7 +23,7 @@ overlay_view (overlay.Port folder manifest) = plain.is_port folder (manifest_vie
 overlay_view (overlay.Ports folder) = plain.has_ports folder
 
 abbrev pub start_view : Start → plain.Start
-start_view s = record { folder = s.folder; config = config_view s.config; overlays = map overlay_view s.overlays; overrides = map override_view s.overrides }
+start_view s = record { folder = s.folder; config = config_view s.config; overlays = map overlay_view s.overlays; overrides = s.overrides }
 
 abbrev pub root_view : Root → plain_root.Root
 root_view r = record { manifest = manifest_view r.manifest; document = doc_data r.document }

@@ -7,6 +7,7 @@ mod configurations;
 mod laws;
 mod opens;
 mod overlays;
+mod overrides;
 mod projects;
 mod readings;
 mod roots;
@@ -15,6 +16,7 @@ mod triplet_files;
 
 pub use laws::{early_files, first_triplet, two_places};
 pub use opens::{Opened, open};
+pub use overrides::Overrides;
 pub use projects::{from_folder, manifest_path};
 pub use roots::PortFile;
 pub use starts::{Overlay, Start};

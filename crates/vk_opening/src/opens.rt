@@ -10,6 +10,7 @@ ghost use Rattle.vk_opening.specs.Roots.{root_in, early_at};
 ghost use Rattle.vk_opening.specs.Openings.{opened_of, triplets_of, overlays_of};
 ghost use Rattle.vk_opening.specs.Openings.{after_root, after_config};
 ghost use Rattle.vk_opening.specs.Asked.{triplets_asked, overlays_asked};
+ghost use Rattle.vk_model.specs.Views.{override_view};
 ghost use Rattle.vk_opening.specs.Asked.{found_paths, rest_paths, opening_paths};
 ghost use Rattle.vk_opening.specs.Opened.{Opens};
 ghost use Rattle.vk_opening.specs.Views.{root_view, triplets_view, overlay_view};
@@ -22,6 +23,7 @@ ghost use Rattle.vk_model.specs.SettingViews.{setting_view, instance_view};
 
 use crate::configurations::read_configuration;
 use crate::overlays::read_overlays;
+use crate::overrides::Overrides;
 use crate::projects::{folders, manifest_path};
 use crate::readings::read_early;
 use crate::roots::{Root, RootFile};
@@ -31,7 +33,7 @@ use std::alloc::Global;
 use vk_base::{FeatureName, Instance, List, Memory, Outage, Stop, TreePath};
 use vk_config::Config;
 use vk_files::FileCache;
-use vk_model::{Early, Override, Project, Setting};
+use vk_model::{Early, Project, Setting};
 use vk_rules::off_list;
 use vk_tree::Tree;
 
@@ -51,14 +53,14 @@ struct Opening {
     folder: TreePath,
     config: Config,
     overlays: List<Overlay>,
-    overrides: List<Override>,
+    overrides: Overrides,
 }
 
 // What a setting and a start take from the words and from the root manifest.
 #[derive(Drop)]
 struct Own {
     folder: TreePath,
-    overrides: List<Override>,
+    overrides: Overrides,
     features: List<FeatureName>,
 }
 
@@ -144,14 +146,15 @@ fn overlays_of<T: Tree>(
 }
 
 // What the setting and the start take from words and root manifest.
-fn own_of(project: &Project, root: &Root) -> Result<Own, Memory>
+fn own_of(alloc: Global, project: &Project, root: &Root) -> Result<Own, Memory>
     ensures folder { IfOk result (λ o. o.folder ≡ project.now.folder) }
-    ensures overrides { IfOk result (λ o. o.overrides ≡ root.now.manifest.overrides) }
+    ensures overrides { IfOk result
+        (λ o. o.overrides ≡ map override_view root.now.manifest.overrides) }
     ensures features { IfOk result (λ o. o.features ≡ project.now.features) }
 {
     Ok(Own {
         folder: project.folder.clone()?,
-        overrides: root.manifest.overrides.clone()?,
+        overrides: Overrides::of(alloc, &root.manifest.overrides)?,
         features: project.features.clone()?,
     })
 }
@@ -172,7 +175,7 @@ fn read_found<T: Tree>(
     ensures within { LooksWhere (found_paths project.now (config_view config.now))
         (held files.old (T.state tree.old)) (held files.new (T.state tree.new)) }
 {
-    let own = own_of(project, root)?;
+    let own = own_of(alloc, project, root)?;
     let triplets = triplets_of(alloc, files, tree, project, config)?;
     let overlays = overlays_of(alloc, files, tree, project, config)?;
     Ok(Found {

@@ -1,8 +1,9 @@
+use crate::overrides::Overrides;
 use std::rc::Rc;
 use vk_base::{List, TreePath};
 use vk_config::Config;
 use vk_files::FileCache;
-use vk_model::{Manifest, Override};
+use vk_model::Manifest;
 
 /// A folder that stands before every registry.
 #[derive(Drop)]
@@ -23,7 +24,7 @@ pub struct Start {
     /// Its overlays: those that the words name, then those of the configuration.
     pub overlays: List<Overlay>,
     /// The versions that the root manifest sets.
-    pub overrides: List<Override>,
+    pub overrides: Overrides,
     /// All that was read, by path.
     pub files: FileCache,
 }

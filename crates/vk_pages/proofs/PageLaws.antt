@@ -28,7 +28,8 @@ use Rattle.vk_pages.specs.RegistryFiles.{table_path}
 use Rattle.vk_pages.specs.Wrongs.{or_wrong, manifest_file, stated_version}
 use Rattle.vk_opening.specs.Roots.{port_in}
 use Rattle.vk_pages.specs.Agreement.{class_word, name_text, same_in, named, version_agrees, agreeing}
-use Rattle.vk_pages.specs.Homes.{Home, in_overlay, in_registry, Served, served_by, served_for, override_for, baseline_file, baseline_given, given_by, table_in, overlay_home, named_home, port_folder, home_in, home_with, served_home, registry_home, overlay_for, home_by, home_of}
+use Rattle.vk_pages.specs.Homes.{Home, in_overlay, in_registry, Served, served_by, served_for, baseline_file, baseline_given, given_by, table_in, overlay_home, named_home, port_folder, home_in, home_with, served_home, registry_home, overlay_for, home_by, home_of}
+use Rattle.vk_opening.specs.Overrides.{override_for}
 use Rattle.vk_pages.specs.Pages.{row_folder, row_manifest, page_row, page_at, page_of}
 
 -- ---- what can be wrong

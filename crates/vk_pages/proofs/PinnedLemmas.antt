@@ -37,7 +37,8 @@ use Rattle.vk_opening.specs.Openings.{Opening, triplets_of, overlays_of, opening
 use Rattle.vk_pages.specs.RegistryFiles.{baseline_path, table_path}
 use Rattle.vk_pages.specs.Wrongs.{or_wrong, manifest_file}
 use Rattle.vk_pages.specs.Agreement.{name_text, named}
-use Rattle.vk_pages.specs.Homes.{Home, in_overlay, in_registry, Served, served_by, source_in, served_for, override_for, baseline_file, baseline_given, given_by, table_in, overlay_home, named_home, port_folder, home_in, home_with, served_home, registry_home, overlay_for, has_port, home_by, IsPinned}
+use Rattle.vk_pages.specs.Homes.{Home, in_overlay, in_registry, Served, served_by, source_in, served_for, baseline_file, baseline_given, given_by, table_in, overlay_home, named_home, port_folder, home_in, home_with, served_home, registry_home, overlay_for, has_port, home_by, IsPinned}
+use Rattle.vk_opening.specs.Overrides.{override_for}
 use Rattle.vk_pages.specs.Pages.{page_at, page_of}
 
 -- ---- what an opening has

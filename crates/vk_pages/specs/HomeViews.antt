@@ -1,7 +1,7 @@
 -- What contracts see of a port's home: plain data.
 use Rattle.std.specs.Prelude.{map}
 use Rattle.vk_spec.specs.Paths.{Path}
-use Rattle.vk_model.specs.Views.{manifest_view, override_view}
+use Rattle.vk_model.specs.Views.{manifest_view}
 use Rattle.vk_config.specs.Views.{config_view}
 use Rattle.vk_catalogue.specs.Views.{given_view}
 use Rattle.vk_opening.specs.Starts.{Start}
@@ -19,7 +19,7 @@ home_view (home.Overlay folder version manifest) = plain.in_overlay folder versi
 home_view (home.Registry given folder table) = plain.in_registry (given_view given) folder table
 
 abbrev pub layout_view : Layout → Start
-layout_view l = record { folder = l.folder; config = config_view l.config; overlays = map overlay_view l.overlays; overrides = map override_view l.overrides }
+layout_view l = record { folder = l.folder; config = config_view l.config; overlays = map overlay_view l.overlays; overrides = l.overrides }
 
 abbrev pub served_view : Served → plain.Served
 served_view s = record { folder = s.folder; baseline = s.baseline.now }

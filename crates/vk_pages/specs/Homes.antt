@@ -15,6 +15,7 @@ use Rattle.vk_registry.specs.Baselines.{Entry, ask_for, baseline_by}
 use Rattle.vk_registry.specs.Tables.{Row, table_of}
 use Rattle.vk_files.specs.Readings.{Bad, is_at, file_at}
 use Rattle.vk_opening.specs.Projects.{manifest_path}
+use Rattle.vk_opening.specs.Overrides.{override_for}
 use Rattle.vk_opening.specs.Starts.{Overlay, is_port, has_ports, Start}
 use Rattle.vk_pages.specs.RegistryFiles.{baseline_path, table_path}
 use Rattle.vk_pages.specs.Wrongs.{or_wrong, file_or_wrong, manifest_file, stated_version}
@@ -90,10 +91,6 @@ served_at start place = served_by start.folder (source_at start.config place)
 -- the registry that serves the port
 abbrev pub served_for : Start → List ℕ → Result Served Wrong
 served_for start port = served_by start.folder (source_in start.config (place_of start.config port))
-
--- what the root manifest sets for the port
-abbrev pub override_for : List Override → List ℕ → Option Ask
-override_for overrides port = option_map (λ o. o.ask) (find (λ o. bytes_eq o.name port) overrides)
 
 -- the registry's baseline
 abbrev pub baseline_file : Served → Files → Result (List Entry) Bad

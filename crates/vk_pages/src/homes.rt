@@ -18,8 +18,8 @@ use vk_base::{List, PortName, Stop, TreePath};
 use vk_catalogue::{Given, Wrong};
 use vk_config::Config;
 use vk_files::FileCache;
-use vk_model::{Manifest, Override};
-use vk_opening::Overlay;
+use vk_model::Manifest;
+use vk_opening::{Overlay, Overrides};
 use vk_registry::Table;
 use vk_tree::Tree;
 use vk_version::Version;
@@ -35,7 +35,7 @@ pub struct Layout {
     /// Its overlays, in order.
     pub overlays: List<Overlay>,
     /// The versions that the root manifest sets.
-    pub overrides: List<Override>,
+    pub overrides: Overrides,
 }
 
 /// Where a port's versions are.

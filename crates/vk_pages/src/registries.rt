@@ -3,7 +3,6 @@ ghost use Rattle.std.specs.Prelude.{◌≡◌, ◌∷◌, [], Ok, false, map, op
 ghost use Rattle.vk_spec.specs.Reading.{Gives};
 ghost use Rattle.vk_spec.specs.Pages.{override};
 ghost use Rattle.vk_version.specs.AskViews.{ask_view};
-ghost use Rattle.vk_model.specs.Views.{override_view};
 ghost use Rattle.vk_catalogue.specs.Views.{wrong_view, given_view};
 ghost use Rattle.vk_files.specs.Views.{held, kept_of};
 ghost use Rattle.vk_files.specs.Within.{LooksWithin};
@@ -11,7 +10,7 @@ ghost use Rattle.vk_base.specs.Stops.{has_failed};
 ghost use Rattle.vk_files.specs.StopViews.{fault_seen};
 ghost use Rattle.vk_files.specs.Readings.{ReadsAs, ReadsNoting};
 ghost use Rattle.vk_opening.specs.Starts as plain;
-ghost use Rattle.vk_pages.specs.Homes.{served_at, override_for, given_by, table_in, served_home};
+ghost use Rattle.vk_pages.specs.Homes.{served_at, given_by, table_in, served_home};
 ghost use Rattle.vk_pages.specs.Homes.{registry_home};
 ghost use Rattle.vk_pages.specs.RegistryFiles.{table_path};
 ghost use Rattle.vk_pages.specs.Asked.{given_paths, served_paths, registry_paths};
@@ -29,23 +28,9 @@ use std::alloc::Global;
 use vk_base::{PortName, Stop};
 use vk_catalogue::{Given, Wrong};
 use vk_files::FileCache;
-use vk_model::Override;
 use vk_registry::Table;
 use vk_tree::Tree;
 use vk_version::Ask;
-
-// What the root manifest sets for a port.
-fn override_for<'a>(overrides: &'a [Override], port: &PortName) -> Option<&'a Ask>
-    ensures { option_map (λ a. ask_view a.now) result ≡ override_for
-        (map override_view overrides.now) port.now }
-{
-    for one in overrides {
-        if one.name.as_str() == port.as_str() {
-            return Some(&one.ask);
-        }
-    }
-    None
-}
 
 fn override_given(ask: &Ask) -> Result<Given, Stop<Wrong>>
     ensures told { Gives given_view (fault_seen wrong_view) result
@@ -183,6 +168,6 @@ pub fn registry_home<T: Tree>(
         (held files.old (T.state tree.old)) (held files.new (T.state tree.new)) }
 {
     let served = served_for(alloc, layout, port)?;
-    let set = override_for(layout.overrides.as_slice(), port);
+    let set = layout.overrides.ask_for(port);
     served_home(alloc, set, served, files, baselines, tree, port)
 }

@@ -7,7 +7,8 @@ use Rattle.vk_files.proofs.NotingLemmas.{noting_pure, noting_then}
 use Rattle.vk_spec.proofs.ReadingLemmas.{fails_on}
 use Rattle.vk_pages.specs.BaselineNotes.{AreBaselines}
 use Rattle.vk_pages.specs.Asked.{served_paths, registry_paths}
-use Rattle.vk_pages.specs.Homes.{override_for, served_for, served_home, registry_home}
+use Rattle.vk_pages.specs.Homes.{served_for, served_home, registry_home}
+use Rattle.vk_opening.specs.Overrides.{override_for}
 use Rattle.vk_pages.specs.HomeViews.{home_view, layout_view, served_view}
 use Rattle.vk_pages.specs.NoteViews.{notes_of}
 use Rattle.vk_pages.proofs.AskedLemmas.{looked_nothing, looked_after}
@@ -29,7 +30,7 @@ returns-clause-reads g c =
     let known = AreBaselines l (notes_of c.args.baselines.now) in
     noting_then (λ served f. served_home (override_for l.overrides c.args.port.now) served c.args.port.now f)
     (noting_pure wrong_view served_view (Ok c.in_ok-served.served) (λ f. served_for l c.args.port.now) known known _ refl (λ f old right. (right, c.in_ok-served.ensures.told)))
-    (rw (c.override_for-set.ensures, c.as_slice.ensures) at c.served_home.ensures.reads l c.in_ok-served.ensures.place)
+    (rw c.ask_for-set.ensures at c.served_home.ensures.reads l c.in_ok-served.ensures.place)
 
 pub returns-in_err-served-clause-asked : goal.returns-in_err-served-clause-asked
 returns-in_err-served-clause-asked g c =
@@ -40,4 +41,4 @@ pub returns-clause-asked : goal.returns-clause-asked
 returns-clause-asked g c =
     let l = layout_view c.args.layout.now in
     looked_after (λ served f. served_paths (override_for l.overrides c.args.port.now) served f c.args.port.now) c.in_ok-served.ensures.told
-    (rw (c.override_for-set.ensures, c.as_slice.ensures) at c.served_home.ensures.asked l c.in_ok-served.ensures.place)
+    (rw c.ask_for-set.ensures at c.served_home.ensures.asked l c.in_ok-served.ensures.place)
