@@ -9,8 +9,8 @@ use Rattle.vk_spec.specs.Calls.{CanMake, write_of, rename_of}
 
 no_folder : (path : Path) (f : Files) → HasRoomFor path f → IsFolder (disk_of f) path → ⊥
 no_folder path f room folder =
-    let none : map.get f (path ++ folder.0 ∷ folder.1.0) ≡ None = room.below folder.0 folder.1.0 in
-    let some = folder.1.1 in
+    let none : map.get f (path ++ folder.0 ∷ folder.1) ≡ None = room.below folder.0 folder.1 in
+    let some = folder.2 in
     let clash : false ≡ true = sym (ap is_some none) ∙ some in
     (cc)
 
