@@ -1,6 +1,7 @@
 //! The kinds of rows, by their first two words.
 
 use crate::configurations::Question as OfConfiguration;
+use crate::digests::Question as OfDigest;
 use crate::documents::Question as OfJson;
 use crate::expressions::Question as OfExpression;
 use crate::fields::Question as OfField;
@@ -17,6 +18,7 @@ pub enum Kind {
     Name(OfName),
     Path(OfPath),
     Token(OfToken),
+    Digest(OfDigest),
     Version(OfVersion),
     Expression(OfExpression),
     Triplet(OfTriplet),
@@ -44,7 +46,7 @@ pub fn kind_of(words: &str) -> Option<Kind> {
     meaning(&KINDS, words)
 }
 
-const KINDS: [(&str, Kind); 59] = [
+const KINDS: [(&str, Kind); 62] = [
     ("name port", Kind::Name(OfName::Port)),
     ("name triplet", Kind::Name(OfName::Triplet)),
     ("name feature", Kind::Name(OfName::Feature)),
@@ -62,6 +64,9 @@ const KINDS: [(&str, Kind); 59] = [
     ("token read", Kind::Token(OfToken::Read)),
     ("token grow", Kind::Token(OfToken::Grow)),
     ("token double", Kind::Token(OfToken::Double)),
+    ("digest of", Kind::Digest(OfDigest::Of)),
+    ("digest pieces", Kind::Digest(OfDigest::Pieces)),
+    ("digest read", Kind::Digest(OfDigest::Read)),
     ("decimal u32", Kind::Token(OfToken::Small)),
     ("decimal u64", Kind::Token(OfToken::Large)),
     ("version read", Kind::Version(OfVersion::Read)),

@@ -1,10 +1,11 @@
-//! Answers rows about what is read of one text: names, paths, tokens, decimals, versions,
+//! Answers rows about what is read of one text: names, paths, tokens, digests, decimals, versions,
 //! platform expressions, triplet files, JSON documents and what is read of those, the words of
 //! command lines, and reports.
 #![tactic(auto)]
 
 mod command_lines;
 mod configurations;
+mod digests;
 mod documents;
 mod expressions;
 mod fields;

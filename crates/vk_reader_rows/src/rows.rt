@@ -3,8 +3,8 @@
 
 use crate::kinds::{Kind, kind_of};
 use crate::{
-    command_lines, configurations, documents, expressions, fields, manifests, names, paths,
-    registries, reports, tokens, triplets, versions,
+    command_lines, configurations, digests, documents, expressions, fields, manifests, names,
+    paths, registries, reports, tokens, triplets, versions,
 };
 use vk_row_text::{Answering, Reply, cut};
 
@@ -17,6 +17,7 @@ fn answer(kind: Kind, rest: &str, reply: &mut Reply) {
         Kind::Name(question) => names::answer(question, rest, reply),
         Kind::Path(question) => paths::answer(question, rest, reply),
         Kind::Token(question) => tokens::answer(question, rest, reply),
+        Kind::Digest(question) => digests::answer(question, rest, reply),
         Kind::Version(question) => versions::answer(question, rest, reply),
         Kind::Expression(question) => expressions::answer(question, rest, reply),
         Kind::Triplet(question) => triplets::answer(question, rest, reply),
