@@ -1,17 +1,21 @@
 -- What is known of a world over a tree of files.
-use Rattle.std.specs.Prelude.{◌≡◌, ◌≤◌, ◌++◌, ◌-◌, ℕ, List, [], length, take, drop}
+use Rattle.std.specs.Prelude.{◌≡◌, ◌≤◌, ◌++◌, ◌-◌, ℕ, List, [], length, map, take, drop}
 use Rattle.std.specs.Prelude.{Option, Some, None, option_map, IfSome, IsSome}
 use Rattle.std.specs.List.{Contains}
 use Rattle.vk_spec.specs.Lists.{NoRepeats}
 use Rattle.vk_spec.specs.Paths.{Path}
 use Rattle.vk_spec.specs.States.{Told, State, with_asked}
 use Rattle.vk_spec.specs.Versions.{Version}
+use Rattle.vk_spec.specs.Manifests.{Override}
 use Rattle.vk_spec.specs.Catalogues.{Pages, Places, Origin, CatalogueState}
 use Rattle.vk_spec.specs.Conditions.{Condition}
 use Rattle.vk_files.specs.Kept.{Kept, IsOf, paths_of}
 use Rattle.vk_files.specs.Views.{kept_of}
+use Rattle.vk_config.specs.Configs.{Config}
+use Rattle.vk_config.specs.Views.{config_view}
 use Rattle.vk_opening.specs.Starts.{Start}
-use Rattle.vk_pages.specs.HomeViews.{layout_view}
+use Rattle.vk_opening.specs.Views.{overlay_view}
+use Rattle.vk_opening.specs.declared.starts.Overlay.{Overlay}
 use Rattle.vk_pages.specs.Pages.{page_of}
 use Rattle.vk_pages.specs.Asked.{page_paths}
 use Rattle.vk_pages.specs.declared.homes.Layout.{Layout}
@@ -21,20 +25,30 @@ use Rattle.vk_world.specs.VersionFolders.{place_in}
 use Rattle.vk_world.specs.declared.answered.PortVersion.{PortVersion}
 use Rattle.vk_world.specs.declared.libraries.Library.{Library}
 
+-- what is known of the project, with its overlays as they are kept
+pub record Ground : Type 0 where
+  pub folder : Path
+  pub config : Config
+  pub overlays : List Overlay
+  pub overrides : List Override
+
+abbrev pub ground_of : Layout → Ground
+ground_of l = record { folder = l.folder; config = config_view l.config; overlays = l.overlays; overrides = l.overrides }
+
 -- what a world learned: the project, the files that were read, those of the opening first, how many
 -- these were, and the folders of the versions that were answered
 pub record Learned : Type 0 where
-  pub layout : Layout
+  pub ground : Ground
   pub kept : Kept
   pub opened : ℕ
   pub folders : List (PortVersion × Path)
 
 abbrev pub learned_view : Library → Learned
-learned_view lib = record { layout = lib.layout; kept = kept_of lib.files; opened = lib.opened; folders = folders_in lib.known }
+learned_view lib = record { ground = ground_of lib.layout; kept = kept_of lib.files; opened = lib.opened; folders = folders_in lib.known }
 
 -- what is known of the project
 abbrev pub start_in : Learned → Start
-start_in l = layout_view l.layout
+start_in l = record { folder = l.ground.folder; config = l.ground.config; overlays = map overlay_view l.ground.overlays; overrides = l.ground.overrides }
 
 -- the paths that were looked at
 abbrev pub paths_in : Learned → List Path
