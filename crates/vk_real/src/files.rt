@@ -27,6 +27,7 @@ pub struct FileTree<R> {
     changes: u64,
     faults: u64,
     calls: u64,
+    widest: u64,
 }
 
 impl<R: Files + Alloc<A = Global>> FileTree<R> {
@@ -37,6 +38,7 @@ impl<R: Files + Alloc<A = Global>> FileTree<R> {
             changes: 0,
             faults: 0,
             calls: 0,
+            widest: 0,
         }
     }
 }
@@ -67,9 +69,11 @@ impl<R: Files + Alloc<A = Global>> Tree for FileTree<R> {
       changes = t.changes;
       faults = t.faults;
       calls = t.calls;
+      widest = t.widest;
       sure = false;
     } };
 
+    #[tactic(auto, using(vk_spec::proofs::CallLemmas::no_wider))]
     fn kind(&mut self, path: &TreePath) -> Result<Kind, Outage> {
         self.calls = self.calls.saturating_add(1);
         match kind_at(&self.rt, path) {
@@ -80,6 +84,7 @@ impl<R: Files + Alloc<A = Global>> Tree for FileTree<R> {
 
     fn read(&mut self, path: &TreePath, limit: u64) -> Result<List<u8>, Stop<ReadFault>> {
         self.calls = self.calls.saturating_add(1);
+        self.widest = self.widest.max(limit);
         match find(&self.rt, path, limit) {
             Ok(Found::Absent) => Err(Stop::Fault(ReadFault::Missing)),
             Ok(Found::Long) => Err(Stop::Fault(ReadFault::TooLarge)),
@@ -95,6 +100,7 @@ impl<R: Files + Alloc<A = Global>> Tree for FileTree<R> {
 
     fn piece(&mut self, path: &TreePath, at: u64, most: u32) -> Result<List<u8>, Stop<ReadFault>> {
         self.calls = self.calls.saturating_add(1);
+        self.widest = self.widest.max(most as u64);
         match find_piece(&self.rt, path, at, most) {
             Ok(Some(bytes)) => Ok(List::from_vec(bytes)),
             Ok(None) => Err(Stop::Fault(ReadFault::Missing)),
@@ -102,6 +108,7 @@ impl<R: Files + Alloc<A = Global>> Tree for FileTree<R> {
         }
     }
 
+    #[tactic(auto, using(vk_spec::proofs::CallLemmas::no_wider))]
     fn list(&mut self, dir: &TreePath) -> Result<List<Listed>, Stop<ListFault>> {
         self.calls = self.calls.saturating_add(1);
         match list_in(&self.rt, dir) {
@@ -110,6 +117,7 @@ impl<R: Files + Alloc<A = Global>> Tree for FileTree<R> {
         }
     }
 
+    #[tactic(auto, using(vk_spec::proofs::CallLemmas::no_wider))]
     fn write(&mut self, path: &TreePath, bytes: &[u8]) -> Result<(), Outage> {
         self.calls = self.calls.saturating_add(1);
         match write_file(&self.rt, path, bytes) {
@@ -121,6 +129,7 @@ impl<R: Files + Alloc<A = Global>> Tree for FileTree<R> {
         }
     }
 
+    #[tactic(auto, using(vk_spec::proofs::CallLemmas::no_wider))]
     fn rename(&mut self, from: &TreePath, to: &TreePath) -> Result<(), Stop<MoveFault>> {
         self.calls = self.calls.saturating_add(1);
         match move_path(&self.rt, from, to) {
@@ -134,6 +143,7 @@ impl<R: Files + Alloc<A = Global>> Tree for FileTree<R> {
         }
     }
 
+    #[tactic(auto, using(vk_spec::proofs::CallLemmas::no_wider))]
     fn remove(&mut self, path: &TreePath) -> Result<(), Stop<RemoveFault>> {
         self.calls = self.calls.saturating_add(1);
         match remove_at(&self.rt, path) {

@@ -87,11 +87,8 @@ pub(crate) fn find_piece<R: Files + Alloc<A = Global>>(
     let Some(size) = file_size(rt, path)? else {
         return Ok(None);
     };
-    if at >= size {
-        return Ok(Some(Vec::new(rt.alloc())));
-    }
     let file = open_at(rt, path, at)?;
-    let left = (size - at).min(u64::from(most));
+    let left = size.saturating_sub(at).min(u64::from(most));
     let mut bytes = read_bytes(rt.alloc(), file, left as usize, u64::from(most))?;
     bytes.truncate(most as usize);
     Ok(Some(bytes))

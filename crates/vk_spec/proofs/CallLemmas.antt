@@ -1,13 +1,14 @@
 -- A call that reads only reads; what its answer says; and what a map in memory does.
 use Rattle.std.proofs.Common.{◌≡◌, ◌≤◌, subst, ◌++◌, ℕ, List, true, false, refl, sym, ap, ◌∙◌}
-use Rattle.std.specs.Prelude.{Bool, Option, Some, None, IfSome, Result, Ok, Err}
+use Rattle.std.specs.Prelude.{max, Bool, Option, Some, None, IfSome, Result, Ok, Err}
+use Rattle.std.proofs.Math.Nat.{max-le, max-zero}
 use Rattle.std.specs.FinMap as map
 use Rattle.vk_spec.specs.Counts.{counted_up}
 use Rattle.vk_spec.specs.Files.{Files}
 use Rattle.vk_spec.specs.Paths.{Path}
-use Rattle.vk_spec.specs.States.{Told, State, with_asked, Ends, Looks, OnlyRead}
-use Rattle.vk_spec.specs.Standing.{Disk, disk_of, OnFiles}
-use Rattle.vk_spec.specs.Calls.{Call, kind_of, read_of, piece_of, list_of, write_of, rename_of, remove_of, Output, Answer, is_failed, refuses, fails, lacks, Says, LeavesDone, LeavesFailed, Leaves, Content, ToldBecomes, IsSmall, IsTreeWhereTold, noted_by, is_reading, changes_after, Made}
+use Rattle.vk_spec.specs.States.{Told, State, with_asked, Ends, Looks, OnlyRead, IsNarrow, OnlyListed}
+use Rattle.vk_spec.specs.Standing.{Disk, disk_of, OnFiles, Entry}
+use Rattle.vk_spec.specs.Calls.{Call, kind_of, read_of, piece_of, list_of, write_of, rename_of, remove_of, Output, Answer, is_failed, refuses, fails, lacks, Says, LeavesDone, LeavesFailed, Leaves, Content, ToldBecomes, IsSmall, IsTreeWhereTold, noted_by, is_reading, changes_after, width_of, Made}
 use Rattle.vk_spec.proofs.FileLemmas.{path_total}
 use Rattle.vk_spec.proofs.StateLemmas.{read_then}
 
@@ -56,6 +57,18 @@ looks_of {call = call} {answer = answer} {a = a} {b = b} is m = record {
 -- one call that reads
 pub read_once : {call : Call} {answer : Answer (Output call)} {failed : Bool} {a b : State} → is_reading call ≡ true → Made call answer a b → is_failed answer ≡ failed → OnlyRead failed a b
 read_once {call = call} {answer = answer} {a = a} {b = b} is m e = subst (λ f. OnlyRead f a b) e (record { asked = noted_by call answer; looks = looks_of is m })
+
+-- a call gives no more bytes than it is to
+pub narrow_of : {call : Call} {answer : Answer (Output call)} {a b : State} → Made call answer a b → IsNarrow (width_of call) a b
+narrow_of m = record { keeps = λ width before fits. subst (λ w. w ≤ width) (sym m.widest) (max-le before fits) }
+
+-- one that gives no bytes leaves how many one was to give
+pub no_wider : (n : ℕ) → n ≡ max n 0
+no_wider n = sym (max-zero n)
+
+-- one folder is listed
+pub listed_once : {path : Path} {answer : Answer (List Entry)} {failed : Bool} {a b : State} → Made (list_of path) answer a b → is_failed answer ≡ failed → OnlyListed failed a b
+listed_once {a = a} {b = b} m e = subst (λ f. OnlyListed f a b) e (record { looks = looks_of refl m; narrow = narrow_of m })
 
 -- one call more
 pub read_more : {call : Call} {answer : Answer (Output call)} {failed : Bool} {a b c : State} → is_reading call ≡ true → Made call answer b c → OnlyRead false a b → is_failed answer ≡ failed → OnlyRead failed a c

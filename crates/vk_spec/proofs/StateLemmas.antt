@@ -1,12 +1,12 @@
 -- Nothing was done; one after the other.
-use Rattle.std.proofs.Common.{◌≡◌, subst, ℕ, List, [], ◌++◌, true, false, ap, refl, sym, ◌∙◌, arith}
+use Rattle.std.proofs.Common.{◌≡◌, ◌≤◌, subst, ℕ, List, [], ◌++◌, true, false, ap, refl, sym, ◌∙◌, arith}
 use Rattle.std.specs.Prelude.{Bool, Option, Some, None, IfSome}
 use Rattle.std.proofs.lemmas.List.{append-nil, append_assoc}
 use Rattle.vk_spec.specs.Counts.{MayHaveRisen, Rose}
 use Rattle.vk_spec.proofs.CountLemmas.{counted_then, counted_risen, counted_rose}
 use Rattle.vk_spec.specs.Paths.{Path}
 use Rattle.vk_spec.specs.Files.{Files}
-use Rattle.vk_spec.specs.States.{Told, State, with_asked, Ends, Looks, OnlyRead}
+use Rattle.vk_spec.specs.States.{Told, State, with_asked, Ends, Looks, OnlyRead, IsNarrow, OnlyListed}
 
 asked_none : (told : Option Told) → told ≡ with_asked [] told
 asked_none None = refl
@@ -47,6 +47,30 @@ read_nothing s = record { asked = []; looks = looks_nothing s }
 -- one after the other
 pub read_then : {failed : Bool} {a b c : State} → OnlyRead false a b → OnlyRead failed b c → OnlyRead failed a c
 read_then x y = record { asked = x.asked ++ y.asked; looks = looks_then x.looks y.looks }
+
+-- ---- how many bytes a call is to give
+
+pub narrow_nothing : (most : ℕ) (s : State) → IsNarrow most s s
+narrow_nothing most s = record { keeps = λ width before fits. before }
+
+pub narrow_then : {most : ℕ} {a b c : State} → IsNarrow most a b → IsNarrow most b c → IsNarrow most a c
+narrow_then x y = record { keeps = λ width before fits. y.keeps width (x.keeps width before fits) fits }
+
+-- calls that give less give no more
+pub narrow_more : {less most : ℕ} {a b : State} → less ≤ most → IsNarrow less a b → IsNarrow most a b
+narrow_more fewer x = record { keeps = λ width before fits. x.keeps width before (omega (arith, fewer, fits)) }
+
+pub listed_nothing : (s : State) → OnlyListed false s s
+listed_nothing s = record { looks = looks_nothing s; narrow = narrow_nothing 0 s }
+
+pub listed_then : {failed : Bool} {a b c : State} → OnlyListed false a b → OnlyListed failed b c → OnlyListed failed a c
+listed_then x y = record { looks = looks_then x.looks y.looks; narrow = narrow_then x.narrow y.narrow }
+
+-- listing is reading
+pub listed_reads : {failed : Bool} {a b : State} → OnlyListed failed a b → OnlyRead failed a b
+listed_reads x = record { asked = []; looks = x.looks }
+
+-- ---- what a run says
 
 -- what a run that only reads says of its failures
 pub risen_where : {failed : Bool} {a b : State} → OnlyRead failed a b → failed ≡ true → MayHaveRisen a.faults b.faults

@@ -1,5 +1,5 @@
 -- The calls of a tree as one relation: what each asks, what its answer says, and what it leaves.
-use Rattle.std.specs.Prelude.{◌≡◌, ◌≤◌, ◌<◌, ◌⊎◌, ◌++◌, [], ◌∷◌, ℕ, List, length, take, drop, Bool, true, false, Option, Some, None, IfSome, IsSome, Result, Ok, Err}
+use Rattle.std.specs.Prelude.{◌≡◌, ◌≤◌, ◌<◌, ◌⊎◌, ◌++◌, [], ◌∷◌, ℕ, List, length, take, drop, max, Bool, true, false, Option, Some, None, IfSome, IsSome, Result, Ok, Err}
 use Rattle.vk_spec.specs.Counts.{counted_up}
 use Rattle.vk_spec.specs.Paths.{Path, Begins}
 use Rattle.vk_spec.specs.Files.{Files, IsTree}
@@ -198,6 +198,16 @@ IsSmall (write_of p bytes) answer = Unit {0}
 IsSmall (rename_of p q) answer = Unit {0}
 IsSmall (remove_of p) answer = Unit {0}
 
+-- how many bytes a call is to give at most
+abbrev pub width_of : Call → ℕ
+width_of (kind_of p) = 0
+width_of (read_of p limit) = limit
+width_of (piece_of p at most) = most
+width_of (list_of p) = 0
+width_of (write_of p bytes) = 0
+width_of (rename_of p q) = 0
+width_of (remove_of p) = 0
+
 -- where it is told, no file lies below a file
 abbrev pub IsTreeWhereTold : State → Type 0
 IsTreeWhereTold s = IfSome s.told (λ t. IsTree t.files)
@@ -214,6 +224,7 @@ pub record Made (call : Call) (answer : Answer (Output call)) (before after : St
   pub changes : after.changes ≡ changes_after (is_reading call) answer before.changes
   pub calls : after.calls ≡ counted_up before.calls
   pub later : before.calls ≤ after.calls
+  pub widest : after.widest ≡ max before.widest (width_of call)
   pub ends : Ends (is_failed answer) before after
 
 -- ---- what a caller has to see to

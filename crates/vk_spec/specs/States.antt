@@ -1,5 +1,5 @@
 -- What is known of a tree of files, and what a caller that only reads leaves.
-use Rattle.std.specs.Prelude.{◌≡◌, ◌≤◌, ◌++◌, ℕ, Bool, true, false, List, Option, Some, None}
+use Rattle.std.specs.Prelude.{◌≡◌, ◌≤◌, ◌++◌, ℕ, Bool, true, false, List, [], Option, Some, None}
 use Rattle.vk_spec.specs.Counts.{Counted}
 use Rattle.vk_spec.specs.Paths.{Path}
 use Rattle.vk_spec.specs.Files.{Files}
@@ -18,6 +18,8 @@ pub record State : Type 0 where
   pub faults : ℕ
   -- how many calls were made
   pub calls : ℕ
+  -- the most bytes that one call was to give
+  pub widest : ℕ
   -- no call is to fail
   pub sure : Bool
 
@@ -43,3 +45,12 @@ pub record Looks (asked : List Path) (failed : Bool) (before after : State) : Ty
 pub record OnlyRead (failed : Bool) (before after : State) : Type 0 where
   pub asked : List Path
   pub looks : Looks asked failed before after
+
+-- no call was to give more bytes than this, or than one before
+pub record IsNarrow (most : ℕ) (before after : State) : Type 0 where
+  pub keeps : (width : ℕ) → before.widest ≤ width → most ≤ width → after.widest ≤ width
+
+-- folders were listed, and nothing else was done
+pub record OnlyListed (failed : Bool) (before after : State) : Type 0 where
+  pub looks : Looks [] failed before after
+  pub narrow : IsNarrow 0 before after

@@ -5,12 +5,12 @@ use Rattle.std.proofs.lemmas.List.{map-append}
 use Rattle.std.proofs.lemmas.List.Elements.{Contains-append_right}
 use Rattle.std.specs.Prelude.{Bool, Ok, Err}
 use Rattle.vk_spec.specs.Paths.{Path, Begins}
-use Rattle.vk_spec.specs.States.{State, OnlyRead}
+use Rattle.vk_spec.specs.States.{State, OnlyRead, OnlyListed}
 use Rattle.vk_spec.proofs.ListLemmas.{contains_first}
 use Rattle.vk_spec.specs.Standing.{Disk, Entry, IsAs, IsListing, OnFiles}
 use Rattle.vk_spec.specs.Calls as calls
 use Rattle.vk_spec.specs.Calls.{refuses, fails, lacks, stops, missing, many, most_entries, Made, list_of, Says, IsOutput, Refuses}
-use Rattle.vk_spec.proofs.CallLemmas.{read_once, says_of}
+use Rattle.vk_spec.proofs.CallLemmas.{read_once, listed_once, says_of}
 use Rattle.vk_base.specs.declared.stops.Stop.{Stop}
 use Rattle.vk_base.specs.declared.stops.Stop.TheVariants.{Fault, Failed, Memory}
 use Rattle.vk_tree.specs.Answers.{entry_of, entries_of, fault_by, list_refusal}
@@ -165,8 +165,8 @@ stops_alike (Fault list.Many) = refl
 stops_alike Failed = refl
 stops_alike (Memory memory) = refl
 
-pub root_read : (folder : Path) (a b : State) (stop : Stop ListFault) → Made (list_of folder) (Err (fault_by list_refusal stop)) a b → OnlyRead (walk_stops (unlisted stop)) a b
-root_read folder a b stop m = read_once {answer = Err (fault_by list_refusal stop)} refl m (stops_alike stop)
+pub root_read : (folder : Path) (a b : State) (stop : Stop ListFault) → Made (list_of folder) (Err (fault_by list_refusal stop)) a b → OnlyListed (walk_stops (unlisted stop)) a b
+root_read folder a b stop m = listed_once m (stops_alike stop)
 
 pub root_ready : (most : Limits) (folder : Path) (left : ℕ) (es : List Entry) (a b : State) → Made (list_of folder) (Ok es) a b → OnFiles (Ready most folder folder left es []) b
 root_ready most folder left es a b m =

@@ -1,5 +1,5 @@
 -- A tree in memory: what is known of it, and what its calls do.
-use Rattle.std.specs.Prelude.{◌≡◌, ◌/◌, ◌⊎◌, ℕ, Bool, true, List, [], length, take, Option, Some, None}
+use Rattle.std.specs.Prelude.{◌≡◌, ◌/◌, ◌⊎◌, ℕ, Bool, true, List, [], length, take, max, Option, Some, None}
 use Rattle.std.specs.FinMap as map
 use Rattle.vk_spec.specs.Paths.{Path}
 use Rattle.vk_spec.specs.Files.{Files}
@@ -31,12 +31,13 @@ mem_state m = record {
   changes = m.changes;
   faults = m.faults;
   calls = m.schedule.calls;
+  widest = m.widest;
   sure = is_calm m.schedule;
 }
 
 -- a tree without files
 pub record IsNewTree (m : MemTree) : Type 0 where
-  pub state : mem_state m ≡ record { told = Some (record { files = map.empty; log = [] }); changes = 0; faults = 0; calls = 0; sure = true }
+  pub state : mem_state m ≡ record { told = Some (record { files = map.empty; log = [] }); changes = 0; faults = 0; calls = 0; widest = 0; sure = true }
   pub calm : is_calm (mem_schedule m) ≡ true
 
 -- a file is put, and nothing else is changed
@@ -57,9 +58,9 @@ pub record MemCalls (failed : Bool) (before after : MemTree) : Type 0 where
   pub faults : (mem_state after).faults ≡ raised failed (mem_state before).faults
   pub schedule : mem_schedule after ≡ with_call (mem_schedule before)
 
--- a call is counted, and is a fault where it is to fail
-abbrev pub called : MemTree → MemTree
-called m = record m { faults = raised (is_wrong (turn_of m.schedule)) m.faults; schedule = with_call m.schedule }
+-- a call that is to give so many bytes is counted, and is a fault where it is to fail
+abbrev pub called : ℕ → MemTree → MemTree
+called width m = record m { widest = max m.widest width; faults = raised (is_wrong (turn_of m.schedule)) m.faults; schedule = with_call m.schedule }
 
 -- what a write that failed leaves: the first half of the bytes, or, out of memory, what stood there
 abbrev pub IsHalfPut : Path → List ℕ → Files → Files → Type 0

@@ -30,6 +30,7 @@ pub struct MemTree {
     log: List<TreePath>,
     changes: u64,
     faults: u64,
+    widest: u64,
     schedule: Schedule,
 }
 
@@ -44,6 +45,7 @@ impl MemTree {
             log: List::new(alloc),
             changes: 0,
             faults: 0,
+            widest: 0,
             schedule: Schedule::new(alloc),
         })
     }
@@ -115,16 +117,18 @@ impl MemTree {
 }
 
 impl MemTree {
-    // Counts a call, and tells whether it fails; then the count of faults rises.
-    fn fails(&mut self) -> bool
+    // Counts a call that is to give so many bytes at most, and tells whether it fails; then the
+    // count of faults rises.
+    fn fails(&mut self, width: u64) -> bool
         ensures failed { result ≡ is_wrong (turn_of (mem_schedule self.old)) }
-        ensures called { self.new ≡ called self.old }
+        ensures called { self.new ≡ called width self.old }
         ensures counted { Counted result (mem_state self.old).faults (mem_state self.new).faults }
         ensures calm { is_calm (mem_schedule self.old) ≡ true → result ≡ false }
         ensures later { (mem_state self.old).calls ≤ (mem_state self.new).calls }
         ensures tree { IsTree (mem_files self.old) }
     {
         self.files.known();
+        self.widest = self.widest.max(width);
         let failed = self.schedule.next_is_wrong();
         if failed {
             self.faults = self.faults.saturating_add(1);
@@ -234,7 +238,7 @@ impl Tree for MemTree {
             (mem_state self.new) }
         ensures exact { MemCalls (is_failed (kind_answer result)) self.old self.new }
     {
-        if self.fails() {
+        if self.fails(0) {
             return Err(Outage::Failed);
         }
         Ok(self.files.kind(path))
@@ -245,7 +249,7 @@ impl Tree for MemTree {
             (mem_state self.new) }
         ensures exact { MemCalls (is_failed (read_answer result)) self.old self.new }
     {
-        if self.fails() {
+        if self.fails(limit) {
             return Err(Stop::Failed);
         }
         let asked = Asked::Whole { limit };
@@ -257,7 +261,7 @@ impl Tree for MemTree {
             (mem_state self.new) }
         ensures exact { MemCalls (is_failed (read_answer result)) self.old self.new }
     {
-        if self.fails() {
+        if self.fails(most as u64) {
             return Err(Stop::Failed);
         }
         let asked = Asked::Piece { at, most };
@@ -270,7 +274,7 @@ impl Tree for MemTree {
         ensures parts { IfOk result (All (λ l. IsTrue (is_part l.name))) }
         ensures exact { MemCalls (is_failed (list_answer result)) self.old self.new }
     {
-        if self.fails() {
+        if self.fails(0) {
             return Err(Stop::Failed);
         }
         self.files.list(self.alloc, dir)
@@ -284,7 +288,7 @@ impl Tree for MemTree {
         ensures half { is_failed (write_answer result) ≡ true
             → IsHalfPut path.now bytes.now (mem_files self.old) (mem_files self.new) }
     {
-        if self.fails() {
+        if self.fails(0) {
             put_half(self.alloc, &mut self.files, path, bytes);
             return Err(Outage::Failed);
         }
@@ -299,7 +303,7 @@ impl Tree for MemTree {
             (mem_state self.old) (mem_state self.new) }
         ensures exact { MemCalls (is_failed (move_answer result)) self.old self.new }
     {
-        if self.fails() {
+        if self.fails(0) {
             return Err(Stop::Failed);
         }
         self.files.rename(self.alloc, from, to)?;
@@ -312,7 +316,7 @@ impl Tree for MemTree {
             (mem_state self.old) (mem_state self.new) }
         ensures exact { MemCalls (is_failed (remove_answer result)) self.old self.new }
     {
-        if self.fails() {
+        if self.fails(0) {
             return Err(Stop::Failed);
         }
         self.files.remove(path)?;

@@ -2,13 +2,13 @@
 ghost use Rattle.std.specs.Prelude.{◌≡◌, ◌≤◌, ◌+◌, length, IfOk, IsTrue};
 ghost use Rattle.std.specs.List.{All};
 ghost use Rattle.std.specs.List.Sorted.{IsPermutation, IsSorted};
-ghost use Rattle.vk_spec.specs.States.{OnlyRead};
+ghost use Rattle.vk_spec.specs.States.{OnlyListed};
 ghost use Rattle.vk_spec.specs.Standing.{OnFiles};
 ghost use Rattle.vk_spec.specs.Calls.{most_entries};
 ghost use Rattle.vk_base.specs.Paths.{is_part};
 ghost use Rattle.vk_tree.specs.Answers.{entries_of};
 ghost use Rattle.vk_tree.specs.Walks.{AreSeen, text_order};
-ghost use Rattle.vk_tree.specs.Walked.{Ready, Walked, ListedIn, Took, IsInOrder, WalkIs};
+ghost use Rattle.vk_tree.specs.Walked.{IsTreeDisk, Ready, Walked, ListedIn, Took, IsInOrder, WalkIs};
 ghost use Rattle.vk_tree.specs.Walked.{limits_of, walk_limits, unlisted, walk_failed};
 
 use crate::trees::{ListFault, Listed, Tree};
@@ -54,7 +54,8 @@ pub fn walk<T: Tree>(
     dir: &TreePath,
 ) -> Result<List<TreePath>, Stop<WalkFault>>
     ensures is { OnFiles (WalkIs walk_limits dir.now result) (T.state tree.old) }
-    ensures reads { OnlyRead (walk_failed result) (T.state tree.old) (T.state tree.new) }
+    ensures reads { OnlyListed (walk_failed result) (T.state tree.old) (T.state tree.new) }
+    ensures tree { OnFiles IsTreeDisk (T.state tree.old) }
 {
     let job = Job {
         folder: dir,
@@ -100,7 +101,8 @@ fn walk_in_order<T: Tree>(
 ) -> Result<List<TreePath>, Stop<WalkFault>>
     ensures is { OnFiles (IsInOrder (limits_of job.entry) job.entry.folder.now result)
         (T.state tree.old) }
-    ensures reads { OnlyRead (walk_failed result) (T.state tree.old) (T.state tree.new) }
+    ensures reads { OnlyListed (walk_failed result) (T.state tree.old) (T.state tree.new) }
+    ensures tree { OnFiles IsTreeDisk (T.state tree.old) }
 {
     let entries = match tree.list(job.folder) {
         Ok(entries) => entries,
@@ -141,7 +143,7 @@ fn walk_entries<T: Tree>(
     requires parts { All (λ l. IsTrue (is_part l.name)) entries.now }
     ensures walked { OnFiles (Walked (limits_of job.entry) job.entry.folder.now at.now result
         found.new) (T.state tree.old) }
-    ensures reads { OnlyRead (walk_failed result) (T.state tree.old) (T.state tree.new) }
+    ensures reads { OnlyListed (walk_failed result) (T.state tree.old) (T.state tree.new) }
 {
     for entry in entries {
         let path = at.child(alloc, entry.name.as_str())?;
@@ -167,7 +169,7 @@ fn list_below<T: Tree>(
     ensures listed { OnFiles (ListedIn at.now result) (T.state tree.old) }
     ensures small { IfOk result (λ ls. length (entries_of ls) ≤ most_entries) }
     ensures parts { IfOk result (All (λ l. IsTrue (is_part l.name))) }
-    ensures reads { OnlyRead (walk_failed result) (T.state tree.old) (T.state tree.new) }
+    ensures reads { OnlyListed (walk_failed result) (T.state tree.old) (T.state tree.new) }
 {
     match tree.list(at) {
         Ok(entries) => Ok(entries),
