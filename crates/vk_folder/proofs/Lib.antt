@@ -1,0 +1,7 @@
+pub mod FolderLaws
+pub mod FolderLemmas
+pub mod MemberLemmas
+pub mod PathLemmas
+pub mod PieceLemmas
+pub mod TextLemmas
+pub mod WalkedLemmas

@@ -1,0 +1,4 @@
+-- what is promised
+pub mod Folders
+-- what functions and laws say besides
+pub mod Hashed
