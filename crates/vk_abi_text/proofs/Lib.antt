@@ -1,0 +1,13 @@
+pub mod Digests
+pub mod FormLemmas
+pub mod Gathers
+pub mod Lasts
+pub mod LineBytes
+pub mod LineParts
+pub mod NeverBoth
+pub mod OneInput
+pub mod PathTexts
+pub mod PutLemmas
+pub mod ReadLemmas
+pub mod SameTexts
+pub mod Selections

@@ -1,0 +1,40 @@
+use Rattle.std.proofs.Common.{codes}
+use Rattle.std.specs.Prelude.{bytes_eq}
+use Rattle.std.proofs.lemmas.Slice.Eq.{bytes_eq-Decides}
+use Rattle.vk_abi_text.specs.Adding.{gathering_view}
+use Rattle.vk_abi_text.proofs.ReadLemmas.{ends_refused, heading_refused, led_more, led_refused, led_start, led_utf8, none_refused, other_heading, same_heading}
+use Rattle.vk_abi_text.proofs.readers.read_abi.Goals as goal
+
+pub returns-in_default : goal.returns-in_default
+returns-in_default c = ends_refused c.args.bytes.now 1 c.refused.result c.refused.ensures (none_refused c.args.bytes.now c.in_default.ensures)
+
+pub returns-then-ne : goal.returns-then-ne
+returns-then-ne c =
+    ends_refused c.args.bytes.now 1 c.refused-then-ne.result c.refused-then-ne.ensures
+    (heading_refused c.args.bytes.now c.in-Some.heading.now c.in-Some.rest.now c.in-Some.ensures.0 c.in-Some.ensures.1
+    (other_heading (bytes_eq c.in-Some.heading.now (codes "abi 2")) (bytes_eq-Decides c.in-Some.heading.now (codes "abi 2")) c.if-ne.ensures))
+
+pub loop-line-init : goal.loop-line-init
+loop-line-init c =
+    led_start c.args.bytes.now c.requires c.in-Some.heading.now c.in-Some.rest.now c.in-Some.ensures.0
+    (same_heading (bytes_eq c.in-Some.heading.now (codes "abi 2")) (bytes_eq-Decides c.in-Some.heading.now (codes "abi 2")) c.if-ne.ensures)
+    (gathering_view c.new-gathering.result) c.new-gathering.ensures
+
+pub follow-requires-text-last : goal.follow-requires-text-last
+follow-requires-text-last c κs = led_utf8 c.args.bytes.now (gathering_view c.loop-line.gathering) c.loop-line.last.now c.loop-line.left.now c.loop-line.number c.loop-line.invariant
+
+pub returns-then-not-branch : goal.returns-then-not-branch
+returns-then-not-branch c =
+    ends_refused c.args.bytes.now c.loop-line.number c.refused-then-not-branch.result c.refused-then-not-branch.ensures
+    (led_refused c.args.bytes.now (gathering_view c.loop-line.gathering) (gathering_view c.follow.new.gathering) c.loop-line.last.now c.loop-line.left.now c.in-Some-text_line.line.now c.in-Some-text_line.more.now c.loop-line.number
+    c.loop-line.invariant c.in-Some-text_line.ensures.0 c.in-Some-text_line.ensures.1
+    (rw c.if-not-branch.true at c.in_ok-follow.ensures))
+
+pub loop-line-preserved : goal.loop-line-preserved
+loop-line-preserved c =
+    led_more c.args.bytes.now (gathering_view c.loop-line.gathering) (gathering_view c.follow.new.gathering) c.loop-line.last.now c.loop-line.left.now c.in-Some-text_line.line.now c.in-Some-text_line.more.now c.loop-line.number
+    c.loop-line.invariant c.in-Some-text_line.ensures.0
+    (rw c.if-not-branch.false at c.in_ok-follow.ensures)
+
+pub returns : goal.returns
+returns c = c.finish.ensures c.args.bytes.now c.loop-line.last.now c.loop-line.invariant

@@ -1,0 +1,6 @@
+use Rattle.vk_report_reader.proofs.Through.{none_made}
+use Rattle.vk_abi_text.proofs.FormLemmas.{dep_parts_are}
+use Rattle.vk_abi_text.proofs.values.AnyDepForm.read.Goals as goal
+
+pub returns-in-None : goal.returns-in-None
+returns-in-None c = none_made dep_parts_are c.args.text.now (rw c.in-None.is at c.in_ok-parts.ensures)

@@ -1,0 +1,8 @@
+use Rattle.std.proofs.Common.{map, take}
+use Rattle.vk_abi_text.specs.Views.{file_view}
+use Rattle.vk_abi_text.specs.Lines.{file_line, line_text}
+use Rattle.vk_abi_text.specs.Puts.{Puts}
+use Rattle.vk_abi_text.proofs.writing.put_files.Given as goal
+
+abbrev pub invariant-loop-file : goal.invariant-loop-file
+invariant-loop-file l = Puts (map line_text (map file_line (map file_view (take l.file-index l.files)))) l.initial.lines.keys l.lines.keys
