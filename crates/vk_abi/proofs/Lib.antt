@@ -1,0 +1,6 @@
+mod Digests
+mod NodeLemmas
+mod PlanLemmas
+mod ProgressLemmas
+mod TextLemmas
+pub mod Uniques
