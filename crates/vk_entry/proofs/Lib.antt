@@ -1,0 +1,9 @@
+pub mod PackageLemmas
+pub mod DigestLemmas
+pub mod LineForms
+pub mod OrderLemmas
+pub mod ReadLemmas
+pub mod Outcomes
+pub mod PackageRules
+pub mod SameTexts
+pub mod PackageLists

@@ -1,0 +1,10 @@
+-- what is promised
+pub mod Packages
+pub mod PackageViews
+pub mod Contents
+pub mod ContentViews
+pub mod ContentLists
+pub mod Answers
+-- what functions say besides
+pub mod Places
+pub mod Readings
