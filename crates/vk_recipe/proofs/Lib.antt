@@ -1,0 +1,10 @@
+pub mod PathLemmas
+pub mod OverlapLemmas
+pub mod TakenLemmas
+pub mod BuildLemmas
+pub mod OrderLemmas
+pub mod TellingLemmas
+pub mod DistinctLemmas
+pub mod FolderLemmas
+pub mod LawLemmas
+pub mod FaultLemmas
