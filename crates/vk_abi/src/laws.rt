@@ -1,4 +1,5 @@
 //! Laws over the definitions alone.
+ghost use Rattle.vk_abi.specs.LawsOnPlans.{TextsAreOne, TextsExist};
 ghost use Rattle.vk_abi.specs.Nodes.{TextsTellNodes};
 
 /// Builds with one ABI text are one build: the same builder, version, features and triplet, the
@@ -6,4 +7,12 @@ ghost use Rattle.vk_abi.specs.Nodes.{TextsTellNodes};
 /// two different messages among their files, triplet files and texts have one SHA-256.
 pub fn builds_with_one_text_are_one()
     ensures { TextsTellNodes }
+{}
+
+/// Over files that stand at paths, none below another, a plan whose ports stand in folders has the
+/// ABI texts of its builds, or a first folder that passes a limit, with that limit. Over any files
+/// it has at most one of these answers.
+pub fn a_plan_has_texts_or_passes_a_limit()
+    ensures exists { TextsExist }
+    ensures one { TextsAreOne }
 {}
