@@ -1,0 +1,4 @@
+pub mod DigitLemmas
+pub mod FilePaths
+pub mod ListTexts
+pub mod LoadLemmas
