@@ -13,10 +13,10 @@ use Rattle.vk_gen.specs.Loads.{File, port_name, project_files, port_files, load_
 use Rattle.vk_gen.specs.Puts.{with_files}
 
 -- the number in a port's name
-abbrev number_in : List ℕ → ℕ
+abbrev pub number_in : List ℕ → ℕ
 number_in part = (slice_index part 1 - 48) * 1000 + (slice_index part 2 - 48) * 100 + (slice_index part 3 - 48) * 10 + (slice_index part 4 - 48)
 
-number_named : (k : ℕ) → k < 10000 → number_in (port_name k) ≡ k
+pub number_named : (k : ℕ) → k < 10000 → number_in (port_name k) ≡ k
 number_named k small = omega arith
 
 -- a number for each path of the load, greater than those before it
@@ -33,7 +33,7 @@ abbrev pub AreInLine : ℕ → List File → Type 0
 AreInLine r [] = Unit {0}
 AreInLine r (e ∷ es) = (r ≤ rank_of e.0) × AreInLine (rank_of e.0 + 1) es
 
-abbrev AreBelow : ℕ → List File → Type 0
+abbrev pub AreBelow : ℕ → List File → Type 0
 AreBelow r [] = Unit {0}
 AreBelow r (e ∷ es) = (rank_of e.0 < r) × AreBelow r es
 
@@ -46,7 +46,7 @@ below_push r [] e below last = (last, tt)
 below_push r (d ∷ es) e below last = (below.0, below_push r es e below.1 last)
 
 -- a path of a greater rank is none of these
-none_found : (p : Path) (es : List File) → AreBelow (rank_of p) es → map.find path_cmp p es ≡ None
+pub none_found : (p : Path) (es : List File) → AreBelow (rank_of p) es → map.find path_cmp p es ≡ None
 none_found p [] below = refl
 none_found p (e ∷ es) below =
     ap (λ b. cond b (Some e.1) (map.find path_cmp p es)) (ties_other p e.0 (λ same. omega (arith, ap rank_of same, below.0))) ∙ none_found p es below.1
@@ -66,6 +66,12 @@ ports_line size k zero r few low = tt
 ports_line size k (suc n) r few low =
     let named : number_in (port_name k) ≡ k = number_named k (omega (arith, few)) in
     (omega (arith, named, low), (omega arith, (omega arith, ports_line size (k + 1) n _ (omega (arith, few)) (omega (arith, named)))))
+
+pub ports_below : (size k n r : ℕ) → k + n ≤ 10000 → 50 + 3 * (k + n) ≤ r → AreBelow r (flat_map (port_files size) (range_with_len k n))
+ports_below size k zero r few high = tt
+ports_below size k (suc n) r few high =
+    let named : number_in (port_name k) ≡ k = number_named k (omega (arith, few)) in
+    (omega (arith, named, high), (omega (arith, named, high), (omega (arith, named, high), ports_below size (k + 1) n r (omega (arith, few)) (omega (arith, high)))))
 
 pub load_line : (size : ℕ) → size ≤ 10000 → AreInLine 0 (load_list size)
 load_line size few = (omega arith, (omega arith, (omega arith, (omega arith, ports_line size 0 size 41 (omega (arith, few)) (omega arith)))))
