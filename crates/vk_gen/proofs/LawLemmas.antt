@@ -29,11 +29,11 @@ found_listed p v [] e = let clash : None ≡ Some v = e in (cc)
 found_listed p v (d ∷ es) e =
     elim (same_or_other p d.0) [
       | inl same ↦ (
-        let is : Some d.1 ≡ Some v = ap (λ b. cond b (Some d.1) (map.find path_cmp p es)) (sym (ties_same p d.0 same)) ∙ e in
-        let value : d.1 ≡ v = (cc) in
-        let pair : d ≡ (p, v) = λ i. (sym same i, value i) in
-        subst (Contains (d ∷ es)) pair (contains_first d es)
-      )
+          let is : Some d.1 ≡ Some v = ap (λ b. cond b (Some d.1) (map.find path_cmp p es)) (sym (ties_same p d.0 same)) ∙ e in
+          let value : d.1 ≡ v = (cc) in
+          let pair : d ≡ (p, v) = λ i. (sym same i, value i) in
+          subst (Contains (d ∷ es)) pair (contains_first d es)
+          )
       | inr other ↦ contains_later d (p, v) es (found_listed p v es (ap (λ b. cond b (Some d.1) (map.find path_cmp p es)) (sym (ties_other p d.0 other)) ∙ e))
     ]
 
@@ -44,9 +44,9 @@ listed_found r p v (d ∷ es) line h =
     elim (contains_cases d (p, v) es h) [
       | inl same ↦ ap (λ b. cond b (Some d.1) (map.find path_cmp p es)) (ties_same p d.0 (sym (ap (λ (y : File). y.0) same))) ∙ ap (λ (y : File). Some y.1) same
       | inr later ↦ (
-        let more = ranked (rank_of d.0 + 1) es (p, v) line.1 later in
-        ap (λ b. cond b (Some d.1) (map.find path_cmp p es)) (ties_other p d.0 (λ e. omega (arith, more, ap rank_of e))) ∙ listed_found (rank_of d.0 + 1) p v es line.1 later
-      )
+          let more = ranked (rank_of d.0 + 1) es (p, v) line.1 later in
+          ap (λ b. cond b (Some d.1) (map.find path_cmp p es)) (ties_other p d.0 (λ e. omega (arith, more, ap rank_of e))) ∙ listed_found (rank_of d.0 + 1) p v es line.1 later
+          )
     ]
 
 get_load : (size : ℕ) (p : Path) → map.get (load_files size) p ≡ map.find path_cmp p (load_list size)

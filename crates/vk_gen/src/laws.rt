@@ -11,15 +11,13 @@ ghost use Rattle.vk_gen.specs.Loads.{older, older_manifest, table_path, table_te
 pub fn a_load_holds_its_list()
     ensures { (size : ℕ) → size ≤ 10000 → (path : Path) (bytes : List ℕ)
         → (map.get (load_files size) path ≡ Some bytes)
-            ↔ Contains (load_list size) (path, bytes) }
-{
-}
+        ↔ Contains (load_list size) (path, bytes) }
+{}
 
 /// A load has three files for each port, and four besides.
 pub fn a_load_has_three_files_for_each_port()
     ensures { (size : ℕ) → size ≤ 10000 → map.len (load_files size) ≡ 3 * size + 4 }
-{
-}
+{}
 
 /// Each port of a load has a versions file and the manifests of its two versions; no other port has
 /// a versions file.
@@ -32,11 +30,9 @@ pub fn each_port_has_two_versions()
         → map.get (load_files size) (manifest_path k newer) ≡ Some (newer_manifest size k) }
     ensures others { (size k : ℕ) → size ≤ k → k < 10000
         → map.get (load_files size) (table_path k) ≡ None }
-{
-}
+{}
 
 /// No file of a load lies below another one.
 pub fn a_load_is_a_tree()
     ensures { (size : ℕ) → IsTree (load_files size) }
-{
-}
+{}

@@ -1,5 +1,5 @@
 //! The paths of the load's files.
-ghost use Rattle.std.specs.Prelude.{◌≡◌, ◌<◌, ◌++◌, ◌∷◌, [], IfOk, IsTrue, codes};
+ghost use Rattle.std.specs.Prelude.{◌≡◌, ◌<◌, ◌∷◌, [], IfOk, IsTrue, codes};
 ghost use Rattle.vk_base.specs.Paths.{is_part};
 ghost use Rattle.vk_gen.specs.Loads.{at, baseline_path, manifest_path, port_name, table_path};
 ghost use Rattle.vk_gen.specs.Loads.{configuration_path, root_path, triplet_path};

@@ -1,9 +1,9 @@
 //! The texts of the load's files.
-ghost use Rattle.std.specs.Prelude.{◌≡◌, ◌<◌, ◌≤◌, ◌++◌, ℕ, List, IfOk, codes, map, string_bytes};
+ghost use Rattle.std.specs.Prelude.{◌≡◌, ◌<◌, ◌≤◌, ◌++◌, IfOk, codes, map, string_bytes};
 ghost use Rattle.std.specs.List.{range_with_len};
 ghost use Rattle.vk_gen.specs.Json.{with_commas};
-ghost use Rattle.vk_gen.specs.Loads.{older, newer, asks_for, asks_for_newer, older_asks, newer_asks};
-ghost use Rattle.vk_gen.specs.Loads.{port_name, baseline_entry, baseline_text, table_row, table_text};
+ghost use Rattle.vk_gen.specs.Loads.{asks_for, asks_for_newer, older_asks, newer_asks};
+ghost use Rattle.vk_gen.specs.Loads.{baseline_entry, baseline_text, table_row, table_text};
 ghost use Rattle.vk_gen.specs.Loads.{manifest_text, older_manifest, newer_manifest};
 
 use crate::names::port_name;
