@@ -1,0 +1,5 @@
+pub mod DigitLemmas
+pub mod FilePaths
+pub mod LawLemmas
+pub mod ListTexts
+pub mod LoadLemmas
