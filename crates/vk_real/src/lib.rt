@@ -4,9 +4,8 @@
 
 mod changing;
 mod files;
-mod listing;
-mod reading;
-mod stands;
+mod hosts;
+mod looking;
 mod streams;
 
 pub use files::FileTree;

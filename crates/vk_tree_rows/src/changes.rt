@@ -1,7 +1,7 @@
 //! What a tree tells of what it changes.
 
 use crate::looks::out;
-use vk_base::{Outage, Stop, TreePath};
+use vk_base::{List, Memory, Outage, Stop, TreePath};
 use vk_row_text::{Reply, cut};
 use vk_tree::{MoveFault, RemoveFault, Tree};
 
@@ -39,4 +39,24 @@ pub fn remove<T: Tree>(tree: &mut T, row: &str, reply: &mut Reply) {
 pub fn paths_of(row: &str, reply: &mut Reply) -> (TreePath, TreePath) {
     let (from, to) = cut(row);
     (reply.path(from), reply.path(to))
+}
+
+/// The bytes of words; `N*WORD` stands for the bytes of a word so many times.
+pub fn bytes_of(words: &str, reply: &mut Reply) -> List<u8> {
+    let Some((count, word)) = words.split_once('*') else {
+        return reply.bytes(words);
+    };
+    let count: u32 = reply.number(count);
+    let word = reply.bytes(word);
+    repeated(count, word.as_slice(), reply)
+}
+
+fn repeated(count: u32, word: &[u8], reply: &mut Reply) -> List<u8> {
+    let mut bytes = List::new(reply.alloc());
+    for _ in 0..count {
+        if let Err(lack) = bytes.extend_from_slice(word) {
+            reply.lack(Memory::from(lack));
+        }
+    }
+    bytes
 }

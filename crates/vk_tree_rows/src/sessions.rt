@@ -1,7 +1,9 @@
 //! The rows, each a question and its words:
 //! - `group TITLE`, `case TITLE`: what follows belongs together;
 //! - `mem CALL`, `host CALL`: a call of the tree in memory, or of the host's;
-//! - `both CALL`: the call of both, which have to answer the same.
+//! - `both CALL`: the call of both, which have to answer the same;
+//! - `each N ROW`: how many of so many rows are answered by `done`, each the one row with its number
+//!   in place of `#`.
 //!
 //! The calls are those of `looks` and `walks`, and `write PATH BYTES`, `move FROM TO`,
 //! `remove PATH`.
@@ -9,7 +11,7 @@
 ghost use Rattle.std.specs.Prelude.{IsTrue};
 ghost use Rattle.vk_spec.specs.Paths.{Begins};
 
-use crate::changes::{moved, paths_of, remove, written};
+use crate::changes::{bytes_of, moved, paths_of, remove, written};
 use crate::{looks, walks};
 use std::alloc::{AllocError, Global};
 use std::rt::Files;
@@ -29,6 +31,7 @@ pub struct Session<R> {
 fn call<T: Tree>(tree: &mut T, question: &str, row: &str, reply: &mut Reply) {
     match question {
         "walk" => walks::answer(tree, row, reply),
+        "walked" => walks::count(tree, row, reply),
         "remove" => remove(tree, row, reply),
         _ => looks::answer(tree, question, row, reply),
     }
@@ -37,7 +40,7 @@ fn call<T: Tree>(tree: &mut T, question: &str, row: &str, reply: &mut Reply) {
 fn write_in_memory(tree: &mut MemTree, row: &str, reply: &mut Reply) {
     let (path, bytes) = cut(row);
     let path = reply.path(path);
-    let bytes = reply.bytes(bytes);
+    let bytes = bytes_of(bytes, reply);
     if tree.has_room(&path) {
         written(tree.write(&path, bytes.as_slice()), reply);
     } else {
@@ -52,7 +55,7 @@ fn write_on_host<R: Files + Alloc<A = Global> + Clone + Drop>(
 ) {
     let (path, bytes) = cut(row);
     let path = reply.path(path);
-    let bytes = reply.bytes(bytes);
+    let bytes = bytes_of(bytes, reply);
     written(tree.write(&path, bytes.as_slice()), reply);
 }
 
@@ -137,15 +140,62 @@ impl<R: Files + Alloc<A = Global> + Clone + Drop> Session<R> {
     }
 }
 
+impl<R: Files + Alloc<A = Global> + Clone + Drop> Session<R> {
+    fn ask(&mut self, row: &str, reply: &mut Reply) {
+        let (question, rest) = cut(row);
+        match question {
+            "mem" => self.in_memory(rest, reply),
+            "host" => self.on_host(rest, reply),
+            "both" => self.on_both(rest, reply),
+            _ => reply.refuse(),
+        }
+    }
+}
+
+// A row with a number in place of `#`.
+fn numbered(alloc: Global, row: &str, number: u32) -> Result<Text, AllocError> {
+    let (front, back) = row.split_once('#').unwrap_or((row, ""));
+    let row = format!(in alloc; "{front}{number}{back}")?;
+    Ok(Text::from_string(row))
+}
+
+fn is_done(told: Result<Option<Text>, AllocError>) -> bool {
+    match told {
+        Ok(Some(told)) => told.is("done"),
+        _ => false,
+    }
+}
+
+impl<R: Files + Alloc<A = Global> + Clone + Drop> Session<R> {
+    fn is_done(&mut self, alloc: Global, row: &str, number: u32) -> bool {
+        let Ok(row) = numbered(alloc, row, number) else {
+            return false;
+        };
+        let mut reply = Reply::new(alloc);
+        self.ask(row.as_str(), &mut reply);
+        is_done(reply.end())
+    }
+
+    fn each(&mut self, row: &str, reply: &mut Reply) {
+        let (count, row) = cut(row);
+        let count: u32 = reply.number(count);
+        let mut done: u64 = 0;
+        for number in 1..=count {
+            if self.is_done(reply.alloc(), row, number) {
+                done = done.saturating_add(1);
+            }
+        }
+        reply.push_number(done);
+    }
+}
+
 impl<R: Files + Alloc<A = Global> + Clone + Drop> Answering for Session<R> {
     fn answer(&mut self, row: &str, reply: &mut Reply) {
         let (question, rest) = cut(row);
         match question {
             "group" | "case" => reply.silence(),
-            "mem" => self.in_memory(rest, reply),
-            "host" => self.on_host(rest, reply),
-            "both" => self.on_both(rest, reply),
-            _ => reply.refuse(),
+            "each" => self.each(rest, reply),
+            _ => self.ask(row, reply),
         }
     }
 }

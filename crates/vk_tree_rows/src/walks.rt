@@ -32,3 +32,12 @@ pub fn answer<T: Tree>(tree: &mut T, row: &str, reply: &mut Reply) {
         Err(stop) => unwalked(stop, reply),
     }
 }
+
+/// `walked PATH`: how many they are.
+pub fn count<T: Tree>(tree: &mut T, row: &str, reply: &mut Reply) {
+    let path = reply.path(row);
+    match walk(reply.alloc(), tree, &path) {
+        Ok(paths) => reply.push_number(paths.len() as u64),
+        Err(stop) => unwalked(stop, reply),
+    }
+}

@@ -1,0 +1,121 @@
+//! What the host has at a path.
+
+use std::fs::{self, DirEntry, Metadata};
+use std::io::{self, ErrorKind};
+use std::rt::Files;
+use vk_base::{Text, TreePath};
+use vk_tree::Kind;
+
+/// The host's files, by the handle that reaches them.
+#[derive(Drop)]
+pub(crate) struct Host<R> {
+    pub(crate) rt: R,
+}
+
+/// What a call comes to: a value or a fault, where the host has no error.
+pub(crate) type Came<T, F> = io::Result<Result<T, F>>;
+
+/// What stands at a path.
+#[derive(Clone, Copy)]
+pub(crate) enum Stand {
+    Absent,
+    File,
+    Folder,
+    /// A link to a folder.
+    Linked,
+    /// A device, a pipe, or a link that leads to no folder.
+    Other,
+}
+
+/// What the host has, if anything: a file may be on the way to it, or a link that leads to itself.
+pub(crate) fn if_there<T: Drop>(found: io::Result<T>) -> io::Result<Option<T>> {
+    match found {
+        Ok(found) => Ok(Some(found)),
+        Err(e) => match e.kind() {
+            ErrorKind::NotFound | ErrorKind::NotADirectory | ErrorKind::FilesystemLoop => Ok(None),
+            _ => Err(e),
+        },
+    }
+}
+
+impl<R: Files + AllocGlobal> Host<R> {
+    /// The text of a path, where out of memory is the host's error of that kind.
+    pub(crate) fn text(&self, path: &TreePath) -> io::Result<Text> {
+        path.text(self.rt.alloc())
+            .map_err(|_| ErrorKind::OutOfMemory.into())
+    }
+
+    /// The file at a path. A folder counts as none, and so does a link, which isn't followed.
+    pub(crate) fn file(&self, path: &str) -> io::Result<Option<Metadata>> {
+        Ok(if_there(fs::symlink_metadata(&self.rt, path))?.filter(|found| found.is_file()))
+    }
+
+    /// What stands at a path, where a link counts by what it is.
+    pub(crate) fn stand(&self, path: &str) -> io::Result<Stand> {
+        match if_there(fs::symlink_metadata(&self.rt, path))? {
+            None => Ok(Stand::Absent),
+            Some(found) if found.is_file() => Ok(Stand::File),
+            Some(found) if found.is_dir() => Ok(Stand::Folder),
+            Some(_) => match if_there(fs::metadata(&self.rt, path))? {
+                Some(found) if found.is_dir() => Ok(Stand::Linked),
+                _ => Ok(Stand::Other),
+            },
+        }
+    }
+
+    /// What counts at a path: a folder without files is absent.
+    pub(crate) fn kind(&self, path: &TreePath) -> io::Result<Kind> {
+        let path = self.text(path)?;
+        match self.stand(path.as_str())? {
+            Stand::File => Ok(Kind::File),
+            Stand::Folder | Stand::Linked if self.holds_files(path.as_str())? => Ok(Kind::Folder),
+            Stand::Folder | Stand::Linked | Stand::Absent | Stand::Other => Ok(Kind::Absent),
+        }
+    }
+
+    /// Whether a file, or a link to a folder, lies below a folder.
+    pub(crate) fn holds_files(&self, folder: &str) -> io::Result<bool> {
+        Ok(self.bare_folders(folder)?.is_none())
+    }
+
+    /// A folder and all folders below it, each before those in it; `None` where it holds files.
+    pub(crate) fn bare_folders(&self, folder: &str) -> io::Result<Option<Vec<String>>> {
+        let mut folders = Vec::new(self.rt.alloc());
+        folders.push(String::from_str(self.rt.alloc(), folder)?)?;
+        for at in 0..usize::MAX {
+            if at >= folders.len() {
+                break;
+            }
+            if self.has_file_in(at, &mut folders)? {
+                return Ok(None);
+            }
+        }
+        Ok(Some(folders))
+    }
+
+    // Whether a file lies in the folder at a place of the list; the folders in it join the list.
+    fn has_file_in(&self, at: usize, folders: &mut Vec<String>) -> io::Result<bool> {
+        let Some(folder) = folders.get(at) else {
+            return Ok(false);
+        };
+        let Some(entries) = if_there(fs::read_dir(&&self.rt, folder.as_str()))? else {
+            return Ok(false);
+        };
+        for entry in entries {
+            if self.is_file(&entry?, folders)? {
+                return Ok(true);
+            }
+        }
+        Ok(false)
+    }
+
+    // Whether an entry counts as a file; a folder joins the list.
+    fn is_file(&self, entry: &DirEntry<&R, R::A>, folders: &mut Vec<String>) -> io::Result<bool> {
+        let path = entry.path().as_str();
+        let stand = self.stand(path)?;
+        if let Stand::Folder = stand {
+            folders.push(String::from_str(self.rt.alloc(), path)?)?;
+        }
+        Ok(matches!(stand, Stand::File | Stand::Linked))
+    }
+}
