@@ -1,0 +1,8 @@
+mod CutLemmas
+mod CompareLemmas
+mod HeadingLemmas
+mod ShownLemmas
+mod MarkLemmas
+mod CertifyLemmas
+mod EntryLemmas
+mod StepLemmas
