@@ -1,6 +1,7 @@
 mod CutLemmas
 mod CompareLemmas
 mod HeadingLemmas
+mod CheckLemmas
 mod ShownLemmas
 mod MarkLemmas
 mod CertifyLemmas

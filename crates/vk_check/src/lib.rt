@@ -4,6 +4,7 @@
 //! which a report differs from it.
 #![tactic(auto)]
 
+mod certificates;
 mod certifying;
 mod checking;
 mod claims;
@@ -14,6 +15,7 @@ mod lines;
 mod marks;
 mod verdicts;
 
+pub use certificates::certify;
 pub use checking::check;
 pub use comparing::compare;
 pub use verdicts::Verdict;
