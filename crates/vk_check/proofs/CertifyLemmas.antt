@@ -1,12 +1,12 @@
 -- Lines of reasons that are certified, one more, all of them, and what refuses them.
-use Rattle.std.proofs.Common.{◌≡◌, ◌≤◌, ◌<◌, ◌+◌, ◌⊎◌, ℕ, zero, suc, Bool, true, false, List, [], ◌∷◌, ◌++◌, length, take, get_or, inl, inr, refl, ap, sym, ◌∙◌, subst, arith}
-use Rattle.std.specs.Prelude.{Option, Some, None, option_map, slice_get}
+use Rattle.std.proofs.Common.{◌≡◌, ◌≤◌, ◌+◌, ◌⊎◌, ℕ, zero, suc, Bool, List, [], ◌∷◌, ◌++◌, length, take, inl, inr, refl, ap, sym, ◌∙◌, subst, arith}
+use Rattle.std.specs.Prelude.{Some, option_map, slice_get}
 use Rattle.std.specs.List.{Contains}
 use Rattle.std.proofs.lemmas.List.{append-nil, append_assoc, map-append, take-map}
 use Rattle.std.proofs.lemmas.List.Elements.{Contains-push_cases}
 use Rattle.vk_spec.specs.Lists.{NoRepeats, IsWithin}
-use Rattle.vk_spec.proofs.ListLemmas.{contains_nothing, contains_first}
-use Rattle.vk_resolution.specs.Least.{Rules, FollowsFrom, from_one, from_two, IsClosed, IsReached}
+use Rattle.vk_spec.proofs.ListLemmas.{contains_nothing}
+use Rattle.vk_resolution.specs.Least.{FollowsFrom, from_one, from_two}
 use Rattle.vk_resolution.specs.Closing.{Produces}
 use Rattle.vk_resolution.specs.Asking.{Fact, root_facts_of}
 use Rattle.vk_resolution.specs.Consequences.{Inputs, Cause, by_root, by_baseline, by_override, by_overlay, by_minimum, by_one, by_two, rules_of, FollowsBy}
@@ -18,7 +18,7 @@ use Rattle.vk_resolution.proofs.WorkLemmas.{follows_push}
 use Rattle.vk_resolution.proofs.CertificateLemmas.{shown_derived, certificate_is_least}
 use Rattle.vk_worklist.specs.Alone.{Follows}
 use Rattle.vk_check.specs.Certificates.{IsCertificate, CertificatesAreLeast}
-use Rattle.vk_check.specs.Certifying.{IsMarked, MarksMore, MarksShown, IsCertified}
+use Rattle.vk_check.specs.Certifying.{IsMarked, MarksMore, IsCertified}
 use Rattle.vk_check.proofs.ShownLemmas.{shown_new, shown_either}
 
 pub certificates_are_least : CertificatesAreLeast

@@ -1,12 +1,11 @@
 -- Two texts, line by line, and where they first differ.
-use Rattle.std.proofs.Common.{◌≡◌, ◌≢◌, ◌<◌, ◌≤◌, ◌+◌, ◌^◌, ℕ, zero, suc, min, Bool, true, false, cond, List, [], ◌∷◌, ◌++◌, length, length-append, append_assoc, take, inl, inr, refl, ap, sym, ◌∙◌, subst, arith}
-use Rattle.std.specs.Prelude.{◌==◌, ◌⊎◌, ◌↔◌, Option, Some, None, option_map, slice_get}
+use Rattle.std.proofs.Common.{◌≡◌, ◌<◌, ◌≤◌, ◌+◌, ◌^◌, ℕ, zero, suc, min, Bool, true, false, cond, List, [], ◌∷◌, ◌++◌, length, length-append, append_assoc, take, refl, ap, sym, ◌∙◌, subst, arith}
+use Rattle.std.specs.Prelude.{◌==◌, ◌↔◌, Option, option_map, slice_get}
 use Rattle.std.proofs.lemmas.Bool.Decides.{nat_tests}
 use Rattle.std.proofs.Math.Seq.{take-append_seam}
 use Rattle.vk_check.specs.Lines.{with_byte, lines_of, without_feed, cut_lines}
 use Rattle.vk_check.specs.Compared.{IsCompared}
-use Rattle.vk_check.specs.Verdicts.{DifferAt, IsNo, IsVerdict, HasFewSharedLines, VerdictIsOne, NoMeansDifferent}
-use Rattle.vk_check.specs.declared.verdicts.Verdict.{Verdict}
+use Rattle.vk_check.specs.Verdicts.{DifferAt, IsNo, HasFewSharedLines, VerdictIsOne, NoMeansDifferent}
 use Rattle.vk_check.specs.declared.verdicts.Verdict.TheVariants.{Yes, No}
 
 -- what a test doesn't find isn't so

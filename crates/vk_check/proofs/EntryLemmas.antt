@@ -1,6 +1,6 @@
 -- Reasons on lines: what a look-up finds, and one line more.
 use Rattle.std.proofs.Common.{◌≡◌, ◌<◌, ◌+◌, ℕ, zero, suc, Bool, true, false, cond, List, [], ◌∷◌, ◌++◌, length, take, drop, get_or, inl, inr, refl, ap, sym, ◌∙◌, subst}
-use Rattle.std.specs.Prelude.{Option, Some, None, is_some, MatchOption, map, slice_get}
+use Rattle.std.specs.Prelude.{Option, Some, None, is_some, MatchOption, slice_get}
 use Rattle.std.specs.Map.{lookup, lookup_key}
 use Rattle.std.specs.List.{Contains}
 use Rattle.std.proofs.lemmas.List.{append_assoc, map-append, take_more, take-append-drop}

@@ -1,7 +1,6 @@
 -- Every report begins with the same line, so a text has fewer lines with it in common than bytes.
-use Rattle.std.proofs.Common.{◌≡◌, ◌<◌, ◌≤◌, ◌+◌, ◌^◌, ℕ, suc, Bool, true, false, cond, List, [], ◌∷◌, ◌++◌, length, length-append, codes, refl, ap, sym, ◌∙◌, subst, arith}
+use Rattle.std.proofs.Common.{◌≡◌, ◌<◌, ◌≤◌, ◌+◌, ◌^◌, ℕ, suc, Bool, true, false, cond, List, [], ◌∷◌, ◌++◌, length, length-append, codes, refl, ap, sym, ◌∙◌, arith}
 use Rattle.std.specs.Prelude.{◌==◌, flat_map, Result, Ok, Err}
-use Rattle.vk_base.specs.Paths.{Lacks}
 use Rattle.vk_base.proofs.PathLemmas.{lacks_byte}
 use Rattle.vk_spec.specs.Earlies.{Early}
 use Rattle.vk_resolution.specs.Lines.{counted, ended, fault_line, item_text, numbered_lines, reasons_text}

@@ -1,12 +1,11 @@
 -- Marks on lines: none, one more, and more.
-use Rattle.std.proofs.Common.{◌≡◌, ◌≢◌, ◌<◌, ◌⊎◌, ◌↔◌, ◌||◌, ℕ, zero, suc, Bool, true, false, List, [], ◌∷◌, ◌++◌, length, set, get_or, inl, inr, refl, ap, sym, ◌∙◌, subst, arith}
-use Rattle.std.specs.Prelude.{Option, Some, None, option_map, slice_get, replicate}
+use Rattle.std.proofs.Common.{◌≡◌, ◌≢◌, ◌<◌, ◌⊎◌, ◌↔◌, ◌||◌, ℕ, zero, suc, Bool, true, false, List, [], ◌∷◌, ◌++◌, length, set, get_or, inl, inr, ap, sym, ◌∙◌, subst, arith}
+use Rattle.std.specs.Prelude.{Some, slice_get, replicate}
 use Rattle.std.specs.List.{Contains}
 use Rattle.std.proofs.lemmas.List.{get_or-set_same, get_or-set_other}
 use Rattle.std.proofs.lemmas.List.Elements.{Contains-append_left, Contains-append_right, Contains-append_cases}
 use Rattle.vk_spec.specs.Lists.{NoRepeats}
-use Rattle.vk_spec.proofs.ListLemmas.{contains_nothing, contains_first, contains_cases}
-use Rattle.vk_resolution.specs.Asking.{Fact}
+use Rattle.vk_spec.proofs.ListLemmas.{contains_nothing, contains_first}
 use Rattle.vk_resolution.specs.Reasons.{Reason, facts_of, fact_at}
 use Rattle.vk_resolution.proofs.Members.{contains_single, or_true, or_left, or_right}
 use Rattle.vk_resolution.proofs.LineLemmas.{one_line}

@@ -1,17 +1,15 @@
 -- What one fact more shows: what it brings up, and nothing else.
 use Rattle.std.proofs.Common.{◌≡◌, ◌⊎◌, ℕ, zero, suc, true, false, List, [], ◌∷◌, ◌++◌, inl, inr, refl, ap, sym, ◌∙◌, subst}
-use Rattle.std.specs.Prelude.{Option, Some, None, option_map, option_and_then, slice_get}
+use Rattle.std.specs.Prelude.{Some, option_map, option_and_then, slice_get}
 use Rattle.std.specs.List.{Contains}
-use Rattle.std.proofs.lemmas.List.Elements.{Contains-append_left, Contains-append_right}
 use Rattle.vk_spec.specs.Lists.{NoRepeats}
-use Rattle.vk_spec.proofs.ListLemmas.{contains_first}
 use Rattle.vk_resolution.specs.Least.{FollowsFrom, from_one, from_two}
 use Rattle.vk_resolution.specs.Worklist.{Brings, alone, first, second}
 use Rattle.vk_resolution.specs.Closing.{IsCited, by_step, by_visit, Produces}
 use Rattle.vk_resolution.specs.Settings.{inst}
-use Rattle.vk_resolution.specs.Asking.{Fact, need, floor, visit, root_facts_of}
+use Rattle.vk_resolution.specs.Asking.{Fact, need, floor, visit}
 use Rattle.vk_resolution.specs.Consequences.{Inputs, Step, Cause, by_root, by_baseline, by_override, by_overlay, by_minimum, by_one, by_two, rules_of, steps_from, visits_from, FollowsBy}
-use Rattle.vk_resolution.specs.Reasons.{Reason, facts_of, line_of, in_lines, fact_at, with_facts, IsShownBy}
+use Rattle.vk_resolution.specs.Reasons.{Reason, line_of, in_lines, fact_at, with_facts, IsShownBy}
 use Rattle.vk_resolution.proofs.Members.{map_contains, contains_map}
 use Rattle.vk_resolution.proofs.Soundness.{then_some, map_some}
 use Rattle.vk_resolution.proofs.LineLemmas.{at_contains, line_at, at_line}

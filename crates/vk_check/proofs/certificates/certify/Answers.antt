@@ -1,11 +1,11 @@
-use Rattle.std.proofs.Common.{◌∙◌, ◌+◌, ◌≤◌, length, ap, sym, subst, arith}
+use Rattle.std.proofs.Common.{◌+◌, ◌≤◌, length, ap, sym, subst, arith}
 use Rattle.std.specs.Prelude.{IfOk, IfSome}
 use Rattle.std.proofs.lemmas.List.{length-map}
 use Rattle.vk_spec.specs.Lists.{NoRepeats}
 use Rattle.vk_resolution.specs.Reasons.{facts_of}
 use Rattle.vk_model.specs.FactViews.{reason_view, reasons_view}
 use Rattle.vk_model.specs.SettingViews.{setting_view}
-use Rattle.vk_worklist.specs.Entries.{reason_of, reasons_in}
+use Rattle.vk_worklist.specs.Entries.{reason_of}
 use Rattle.vk_worklist.specs.Ticks.{ticks}
 use Rattle.vk_check.proofs.StepLemmas.{Holds, lines_repeat}
 use Rattle.vk_check.proofs.certificates.certify.Goals as goal

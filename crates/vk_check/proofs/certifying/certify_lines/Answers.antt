@@ -1,4 +1,4 @@
-use Rattle.std.proofs.Common.{◌∙◌, ◌+◌, ◌<◌, ◌≤◌, true, false, sym, subst}
+use Rattle.std.proofs.Common.{◌∙◌, ◌<◌, ◌≤◌, true, false, sym, subst}
 use Rattle.std.proofs.lemmas.List.{length-map}
 use Rattle.vk_worklist.specs.Entries.{facts_in, reason_of, reasons_in}
 use Rattle.vk_check.proofs.StepLemmas.{Holds, lines_last, line_unmarked, stays, ticks_all, ticks_later}

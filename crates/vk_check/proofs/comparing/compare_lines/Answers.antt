@@ -1,4 +1,4 @@
-use Rattle.std.proofs.Common.{◌≡◌, ◌∙◌, ◌+◌, [], sym, arith}
+use Rattle.std.proofs.Common.{◌∙◌, ◌+◌, sym, arith}
 use Rattle.vk_check.specs.Compared.{IsCompared}
 use Rattle.vk_check.proofs.CompareLemmas.{absent, compared_differ, compared_last, compared_more, compared_room, no_bytes, some_bytes}
 use Rattle.vk_check.proofs.comparing.compare_lines.Goals as goal
