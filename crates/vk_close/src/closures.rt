@@ -20,7 +20,7 @@ ghost use Rattle.vk_worklist.specs.Ticks.{ticks};
 ghost use Rattle.vk_close.specs.Kept.{HasNoTrouble, Tracks};
 
 use crate::page_askers::PageAsker;
-use crate::roots::roots;
+use crate::roots::root_facts;
 use indexmap::IndexMap;
 use std::alloc::Global;
 use std::sync::ledger::Ledger;
@@ -80,8 +80,8 @@ struct Closed {
     clean: bool,
 }
 
-// The source of a setting, which has taken up nothing yet.
-fn source_of<'a>(alloc: Global, setting: &'a Setting) -> Result<Joins<PageAsker<'a>>, Memory>
+/// What facts bring up under a setting, asked of a catalogue. It has taken up nothing yet.
+pub fn source_of<'a>(alloc: Global, setting: &'a Setting) -> Result<Joins<PageAsker<'a>>, Memory>
     ensures setting { IfOk result (λ s. s.asker.setting.now ≡ setting.now) }
     ensures tracks { IfOk result (λ s. (pages : Pages) → Tracks s.asker pages []) }
     ensures rows { IfOk result (λ s. (pages : Pages) →
@@ -153,7 +153,7 @@ fn close_setting<C: Catalogue, L: Ledger>(
     ensures most { steps.new ≤ steps.old + setting.now.max_facts }
     ensures asked { OnlyAsked (has_failed result) (C.state cat.old) (C.state cat.new) }
 {
-    let given = roots(alloc, setting)?;
+    let given = root_facts(alloc, setting)?;
     let mut source = source_of(alloc, setting)?;
     close_by(
         alloc,

@@ -14,5 +14,7 @@ pub mod projects;
 mod roots;
 mod steps;
 
-pub use closures::close;
+pub use closures::{close, source_of};
+pub use page_askers::PageAsker;
+pub use roots::root_facts;
 pub use vk_worklist::CloseFault;

@@ -45,7 +45,7 @@ use vk_worklist::{Asker, value_at};
 /// What is asked of a catalogue for the closure of a setting, the given version of each port once.
 /// It is clean as long as nothing is wrong with any fact that was asked about.
 #[derive(Drop)]
-pub(crate) struct PageAsker<'a> {
+pub struct PageAsker<'a> {
     alloc: Global,
     setting: &'a Setting,
     rules: Rules<'a>,
@@ -92,7 +92,7 @@ impl<'a> PageAsker<'a> {
     }
 
     /// Whether nothing is wrong with any fact that was asked about.
-    pub(crate) fn is_clean(&self) -> bool
+    pub fn is_clean(&self) -> bool
         ensures { result ≡ self.now.clean }
     {
         self.clean

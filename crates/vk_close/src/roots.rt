@@ -64,7 +64,7 @@ fn push_default(
 }
 
 /// The root facts of a setting, each with its cause.
-pub(crate) fn roots(alloc: Global, setting: &Setting) -> Result<Vec<(Fact, Cause)>, Memory>
+pub fn root_facts(alloc: Global, setting: &Setting) -> Result<Vec<(Fact, Cause)>, Memory>
     ensures { IfOk result (λ given. AreRoots (setting_view setting.now) (reasons_in given.items)) }
 {
     let triplet = setting.target.name();

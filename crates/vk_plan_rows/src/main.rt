@@ -1,8 +1,10 @@
 //! Answers rows about projects over catalogues in memory: which instances are off by default, what
-//! a project requires, with its reasons, or what is wrong with the files that it needs, and what it
-//! comes to: its plan, or the faults that stand.
+//! a project requires, with its reasons, or what is wrong with the files that it needs, what it
+//! comes to: its plan, or the faults that stand; and whether a report is the defined one, and its
+//! reasons a certificate.
 #![tactic(auto)]
 
+mod checks;
 mod closings;
 mod outcomes;
 mod pages;

@@ -4,8 +4,11 @@
 //!   `most N`: what a plan is made under; the triplets are the stock ones where no row says;
 //! - `port NAME GIVEN`: a page; `at FILE`, `bad VERSION WRONG`: a version more of that page;
 //! - `fails N ..`: the catalogue fails at these calls, counted from 1;
-//! - `off`, `close`, `plan`: what is off, what is required, and what that comes to.
+//! - `off`, `close`, `plan`: what is off, what is required, and what that comes to;
+//! - `check REPORT`, `certify REPORT`: whether a report is the defined one, and whether its reasons
+//!   are a certificate.
 
+use crate::checks::{tell_certificate, tell_check};
 use crate::closings::{off_of, tell_closure, tell_off};
 use crate::outcomes::tell_plan;
 use crate::pages::{page_of, push_row, put_page};
@@ -87,12 +90,26 @@ impl Session {
         Ok(())
     }
 
-    fn ask(&mut self, question: &str, reply: &mut Reply) {
+    // Puts the last page, and makes the off list.
+    fn end(&mut self, reply: &mut Reply) {
         let put = self.put();
         reply.needed(put);
         if let Err(memory) = self.settle(reply.alloc()) {
             reply.lack(memory);
         }
+    }
+
+    fn judge(&mut self, question: &str, row: &str, reply: &mut Reply) {
+        self.end(reply);
+        let report = reply.bytes(row);
+        match question {
+            "check" => tell_check(report.as_slice(), &mut self.pages, &self.setting, reply),
+            _ => tell_certificate(report.as_slice(), &mut self.pages, &self.setting, reply),
+        }
+    }
+
+    fn ask(&mut self, question: &str, reply: &mut Reply) {
+        self.end(reply);
         match question {
             "off" => tell_off(&self.setting.off, reply),
             "plan" => tell_plan(&mut self.pages, &self.setting, reply),
@@ -110,6 +127,7 @@ impl Answering for Session {
             "port" => self.begin(rest, reply),
             "at" | "bad" => self.add(question, rest, reply),
             "off" | "close" | "plan" => self.ask(question, reply),
+            "check" | "certify" => self.judge(question, rest, reply),
             _ => set(&mut self.setting, question, rest, reply),
         }
     }

@@ -3,7 +3,7 @@ use Rattle.vk_base.specs.FeatureViews.{feature_view}
 use Rattle.vk_model.specs.SettingViews.{setting_view}
 use Rattle.vk_worklist.specs.Entries.{reasons_in}
 use Rattle.vk_close.proofs.RootLemmas.{roots_are}
-use Rattle.vk_close.proofs.roots.roots.Goals as goal
+use Rattle.vk_close.proofs.roots.root_facts.Goals as goal
 
 pub returns : goal.returns
 returns c =

@@ -1,0 +1,9 @@
+mod CutLemmas
+mod CompareLemmas
+mod HeadingLemmas
+mod CheckLemmas
+mod ShownLemmas
+mod MarkLemmas
+mod CertifyLemmas
+mod EntryLemmas
+mod StepLemmas
