@@ -2,6 +2,7 @@
 """Writes a project and its registry, for measuring. The same words write the same bytes.
 
   plain     SIZE ports without dependencies, six versions each, all asked for by the root
+  folders   SIZE ports without dependencies, one version each, with six files besides the manifest
   load      a chain of SIZE ports with two versions, whose lower one asks for one more port
   real      a registry of SIZE ports as people keep them, and four projects over it
   conflict  SIZE ports, each asked for at two versions of which neither is the later one
@@ -18,6 +19,7 @@ import shapes
 
 KINDS = {
     "plain": (shapes.plain, 1, 20000),
+    "folders": (shapes.folders, 1, 10000),
     "load": (shapes.load, 1, 10000),
     "real": (realistic.registry, 20, 5000),
     "conflict": (shapes.conflict, 1, 10000),

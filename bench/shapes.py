@@ -51,6 +51,16 @@ def plain(size, seed, rows=6):
         yield f"reg/{folder}/vcpkg.json", pretty(manifest)
 
 
+def folders(size, seed, files=6, bytes_each=3200):
+    """ABI texts: as `plain` with one version a port, and some twenty thousand bytes of files each."""
+    yield from plain(size, seed, rows=1)
+    lines = random.Random(seed)
+    for number in range(size):
+        for file in range(files):
+            text = "".join(f"line {lines.getrandbits(96):024x}\n" for _ in range(bytes_each // 30))
+            yield f"reg/ports/port-{number:05}/1.1.0/patches/{file:02}.diff", text
+
+
 def load(size, _seed):
     """Closing and nothing else: 8 * size + 2 facts, half of them from superseded versions."""
     ports = [f"p{number:04}" for number in range(size)]

@@ -1,29 +1,37 @@
 -- Words and files have one answer.
-use Rattle.std.proofs.Common.{◌≡◌, refl, ap, sym, ◌∙◌, subst, ℕ, List, []}
-use Rattle.std.specs.Prelude.{Result, Ok, Err}
-use Rattle.std.specs.List.{Contains}
-use Rattle.vk_spec.specs.Reading.{◌>>=◌}
+use Rattle.std.proofs.Common.{◌≡◌, refl, ap, sym, ◌∙◌, subst, ℕ, List, [], ◌∷◌, map}
+use Rattle.std.specs.Prelude.{Option, Some, None, Result, Ok, Err}
+use Rattle.std.specs.List.{zip}
 use Rattle.vk_spec.specs.Files.{Files}
+use Rattle.vk_spec.specs.Standing.{disk_of}
 use Rattle.vk_spec.specs.Earlies.{Early}
 use Rattle.vk_spec.specs.Settings.{Setting, Instance}
 use Rattle.vk_resolution.specs.Givens.{Pages}
-use Rattle.vk_resolution.specs.Keys.{IsListing}
-use Rattle.vk_resolution.specs.Settings.{IsOff, ListsOff}
+use Rattle.vk_resolution.specs.Settings.{ListsOff}
 use Rattle.vk_resolution.specs.RootLaws.{with_off}
-use Rattle.vk_resolution.specs.Planning.{instance_key}
+use Rattle.vk_resolution.specs.Planning.{Item, instance_key}
+use Rattle.vk_resolution.specs.Outcomes.{planned, refused}
 use Rattle.vk_resolution.proofs.Orders.{ascending_one}
 use Rattle.vk_resolution.proofs.RootNameLemmas.{off_list_is_one}
 use Rattle.vk_resolution.proofs.PlannerLemmas.{outcome_is_not_too_many, one_outcome_one_report}
+use Rattle.vk_model.specs.SettingViews.{instance_view}
 use Rattle.vk_model.specs.declared.projects.Project.{Project}
+use Rattle.vk_opening.specs.Starts.{Start}
 use Rattle.vk_opening.specs.Projects.{manifest_path}
 use Rattle.vk_opening.specs.Roots.{root_in, early_at}
 use Rattle.vk_opening.specs.Configurations.{config_in}
 use Rattle.vk_opening.specs.Openings.{Opening, opened_of, setting_with, opening_with, triplets_of, overlays_of, after_root, after_config, after_triplets, after_overlays}
 use Rattle.vk_opening.specs.Opened.{ListsOwnOff}
 use Rattle.vk_pages.specs.Pages.{page_of}
-use Rattle.vk_app.specs.Requests.{Request}
-use Rattle.vk_app.specs.Resolutions.{Resolution, early, resolved, too_many, IsSettingOf, Settles, SettlesOpened, ComesFrom, ComesTo}
-use Rattle.vk_app.specs.Answers.{Shown, shown_for, IsAnswerTo}
+use Rattle.vk_abi.specs.Plans.{Shared, TextsAre}
+use Rattle.vk_abi.proofs.Uniques.{texts_are_one}
+use Rattle.vk_app.specs.declared.requests.Task.{Task}
+use Rattle.vk_app.specs.declared.requests.Task.TheVariants as task
+use Rattle.vk_app.specs.Requests.{Request, project_of}
+use Rattle.vk_app.specs.Resolutions.{Resolution, early, resolved, too_many, IsSettingOf, Settles}
+use Rattle.vk_app.specs.Shown.{Shown}
+use Rattle.vk_app.specs.Texts.{place_of, shared_of, shown_at, ShowsPlaced, ShowsText}
+use Rattle.vk_app.specs.Answers.{ShowsTask, ShowsSettled, ShowsRead, IsAnswerTo}
 use Rattle.vk_spec.proofs.ReadingLemmas.{bind_ok}
 
 -- the settings of an opening are one but for what is off, and allow as many requirements as the project
@@ -70,25 +78,52 @@ same_settled setting pages (too_many n) (early e) a b = absurd b
 same_settled setting pages (too_many n) (resolved o) a b = absurd (outcome_is_not_too_many setting pages (record { outcome = o; is_outcome = b.0; few = b.1 }) a.0)
 same_settled setting pages (too_many n) (too_many m) a b = ap too_many (a.1 ∙ sym b.1)
 
-pub one_resolution : (project : Project) (files : Files) (one other : Resolution) → ComesTo project files one → ComesTo project files other → one ≡ other
-one_resolution project files one other a b = by (opened_of project files) refl a b
-  where
-    by : (read : Result Opening Early) → opened_of project files ≡ read → ComesFrom read files one → ComesFrom read files other → one ≡ other
-    by (Err e) is x y = x ∙ sym y
-    by (Ok opening) is x y =
-        let same = same_setting project opening x.setting y.setting (opening_form project files opening is) x.is_setting y.is_setting in
-        same_settled y.setting (page_of opening.start files) one other (subst (λ s. Settles s (page_of opening.start files) one) same x.settles) y.settles
+-- ---- what is shown
 
--- too many are more than the project allows
-pub limit_is : (project : Project) (files : Files) (n : ℕ) → ComesTo project files (too_many n) → n ≡ project.max_facts
-limit_is project files n comes = by (opened_of project files) refl comes
-  where
-    by : (read : Result Opening Early) → opened_of project files ≡ read → ComesFrom read files (too_many n) → n ≡ project.max_facts
-    by (Err e) is x = (cc)
-    by (Ok opening) is x =
-        let form = opening_form project files opening is in
-        x.settles.1 ∙ ap (λ (s : Setting). s.max_facts) (x.is_setting.setting_is ∙ form.settings x.is_setting.off) ∙ form.most
+some_is : {X : Type 0} {x y : X} → Some x ≡ Some y → x ≡ y
+some_is e = (cc)
+
+some_one : {X : Type 0} (xs ys : List X) → map Some xs ≡ map Some ys → xs ≡ ys
+some_one [] [] e = refl
+some_one [] (y ∷ ys) e = (cc)
+some_one (x ∷ xs) [] e = (cc)
+some_one (x ∷ xs) (y ∷ ys) e =
+    let first : Some x ≡ Some y = (cc) in
+    let rest : map Some xs ≡ map Some ys = (cc) in
+    let one : x ≡ y = some_is first in
+    let same : xs ≡ ys = some_one xs ys rest in
+    (cc)
+
+-- an instance at its place in a plan
+same_placed : (shared : Shared) (start : Start) (files : Files) (items : List Item) (i : Instance) (place : Option ℕ) (one other : Shown) → ShowsPlaced shared start files items i place one → ShowsPlaced shared start files items i place other → one ≡ other
+same_placed shared start files items i None one other a b = a ∙ sym b
+same_placed shared start files items i (Some k) one other a b =
+    let folders : a.1.folders ≡ b.1.folders = some_one a.1.folders b.1.folders (sym a.1.stand ∙ b.1.stand) in
+    let texts : a.0 ≡ b.0 = texts_are_one shared (zip items b.1.folders) a.0 b.0 (disk_of files) (subst (λ fs. TextsAre shared (zip items fs) a.0 (disk_of files)) folders a.1.are) b.1.are in
+    a.2 ∙ ap (shown_at k) texts ∙ sym b.2
+
+same_text : (shared : Shared) (start : Start) (files : Files) (i : Instance) (r : Resolution) (one other : Shown) → ShowsText shared start files i r one → ShowsText shared start files i r other → one ≡ other
+same_text shared start files i (early e) one other a b = a ∙ sym b
+same_text shared start files i (resolved (planned items reasons)) one other a b = same_placed shared start files items i (place_of i items) one other a b
+same_text shared start files i (resolved (refused lines reasons)) one other a b = a ∙ sym b
+same_text shared start files i (too_many n) one other a b = a ∙ sym b
+
+same_shows : (t : Task) (setting : Setting) (start : Start) (files : Files) (r : Resolution) (one other : Shown) → ShowsTask t setting start files r one → ShowsTask t setting start files r other → one ≡ other
+same_shows (task.Plan project) setting start files r one other a b = a ∙ sym b
+same_shows (task.Abi project i) setting start files r one other a b = same_text (shared_of project setting) start files (instance_view i) r one other a b
+
+-- under one setting
+one_settled : (t : Task) (setting : Setting) (start : Start) (files : Files) (one other : Shown) → ShowsSettled t setting start files one → ShowsSettled t setting start files other → one ≡ other
+one_settled t setting start files one other a b =
+    let same = same_settled setting (page_of start files) a.0 b.0 a.1 b.1 in
+    same_shows t setting start files b.0 one other (subst (λ r. ShowsTask t setting start files r one) same a.2) b.2
+
+one_read : (t : Task) (files : Files) (read : Result Opening Early) → opened_of (project_of t) files ≡ read → (one other : Shown) → ShowsRead t read files one → ShowsRead t read files other → one ≡ other
+one_read t files (Err e) is one other a b = a ∙ sym b
+one_read t files (Ok opening) is one other a b =
+    let same = same_setting (project_of t) opening a.setting b.setting (opening_form (project_of t) files opening is) a.is_setting b.is_setting in
+    one_settled t b.setting opening.start files one other (subst (λ s. ShowsSettled t s opening.start files one) same a.shows) b.shows
 
 pub one_answer : (request : Request) (files : Files) (one other : Shown) → IsAnswerTo request files one → IsAnswerTo request files other → one ≡ other
 one_answer (Err fault) files one other a b = a ∙ sym b
-one_answer (Ok project) files one other a b = a.2 ∙ ap shown_for (one_resolution project files a.0 b.0 a.1 b.1) ∙ sym b.2
+one_answer (Ok t) files one other a b = one_read t files (opened_of (project_of t) files) refl one other a b

@@ -1,5 +1,5 @@
 -- Words and files have an answer.
-use Rattle.std.proofs.Common.{◌≡◌, ◌⊎◌, ◌≤◌, ◌+◌, ◌++◌, inl, inr, ℕ, zero, suc, List, [], ◌∷◌, length, refl, ap, sym, ◌∙◌, subst, arith}
+use Rattle.std.proofs.Common.{◌≡◌, ◌⊎◌, true, ◌≤◌, ◌+◌, ◌++◌, inl, inr, ℕ, zero, suc, List, [], ◌∷◌, length, refl, ap, sym, subst, arith}
 use Rattle.std.specs.Prelude.{Result, Ok, Err}
 use Rattle.std.proofs.lemmas.List.{length-append}
 use Rattle.vk_spec.specs.Files.{Files}
@@ -31,11 +31,14 @@ use Rattle.vk_opening.specs.Openings.{Opening, opened_of}
 use Rattle.vk_opening.specs.Opened.{ListsOwnOff}
 use Rattle.vk_pages.specs.Pages.{page_of}
 use Rattle.vk_pages.proofs.PageLaws.{is_page}
+use Rattle.vk_app.specs.declared.requests.Task.TheVariants as task
 use Rattle.vk_app.specs.Requests.{Request}
+use Rattle.vk_app.specs.Once.{asks_once}
 use Rattle.vk_app.specs.Resolutions as the
-use Rattle.vk_app.specs.Resolutions.{Resolution, Settles, ComesFrom, ComesTo}
-use Rattle.vk_app.specs.Answers.{Shown, shown_for, told, words_line, IsAnswerTo}
-use Rattle.vk_app.proofs.AnswerLemmas.{HasForm, opening_form}
+use Rattle.vk_app.specs.Resolutions.{Resolution, Settles}
+use Rattle.vk_app.specs.Shown.{Shown, shown_for, told, words_line}
+use Rattle.vk_app.specs.Answers.{ShowsRead, IsAnswerTo}
+use Rattle.vk_app.proofs.AnswerLemmas.{opening_form}
 
 -- ---- rounds end, or grow
 
@@ -88,18 +91,17 @@ settles_some setting pages are = elim (outcome_or_many setting pages are) [
   | inr many ↦ (the.too_many setting.max_facts, (many, refl))
 ]
 
-pub some_resolution : (project : Project) (files : Files) → (r : Resolution) × ComesTo project files r
-some_resolution project files = by (opened_of project files) refl
-  where
-    by : (read : Result Opening Early) → opened_of project files ≡ read → (r : Resolution) × ComesFrom read files r
-    by (Err e) is = (the.early e, refl)
-    by (Ok opening) is =
-        let form = opening_form project files opening is in
-        let off = off_exists form.base in
-        let setting_is : opening.setting off.0 ≡ with_off form.base off.0 = form.settings off.0 in
-        let settled = settles_some (opening.setting off.0) (page_of opening.start files) (is_page opening.start files) in
-        (settled.0, record { setting = opening.setting off.0; is_setting = record { off = off.0; setting_is = refl; lists = subst ListsOwnOff (sym setting_is) off.1 }; settles = settled.1 })
+-- a plan shows something of every project
+some_read : (project : Project) (files : Files) (read : Result Opening Early) → opened_of project files ≡ read → (shown : Shown) × ShowsRead (task.Plan project) read files shown
+some_read project files (Err e) is = (shown_for (the.early e), refl)
+some_read project files (Ok opening) is =
+    let form = opening_form project files opening is in
+    let off = off_exists form.base in
+    let setting_is : opening.setting off.0 ≡ with_off form.base off.0 = form.settings off.0 in
+    let r = settles_some (opening.setting off.0) (page_of opening.start files) (is_page opening.start files) in
+    (shown_for r.0, record { setting = opening.setting off.0; is_setting = record { off = off.0; setting_is = refl; lists = subst ListsOwnOff (sym setting_is) off.1 }; shows = (r.0, r.1, refl) })
 
-pub some_answer : (request : Request) (files : Files) → (shown : Shown) × IsAnswerTo request files shown
-some_answer (Err fault) files = (told 2 (words_line fault), refl)
-some_answer (Ok project) files = let r = some_resolution project files in (shown_for r.0, (r.0, r.1, refl))
+pub some_answer : (request : Request) (files : Files) → asks_once request ≡ true → (shown : Shown) × IsAnswerTo request files shown
+some_answer (Err fault) files plain = (told 2 (words_line fault), refl)
+some_answer (Ok (task.Plan project)) files plain = some_read project files (opened_of project files) refl
+some_answer (Ok (task.Abi project i)) files plain = (cc)

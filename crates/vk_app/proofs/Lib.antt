@@ -1,4 +1,7 @@
 pub mod AnswerLemmas
 pub mod ExistenceLemmas
-pub mod ResolvedLemmas
+pub mod ReadLemmas
+pub mod DoneLemmas
+pub mod FolderLemmas
+pub mod TextLemmas
 pub mod EndLemmas

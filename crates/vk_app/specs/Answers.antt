@@ -1,57 +1,44 @@
 -- The answer of words and files: the status of a run, and the bytes on both sinks.
-use Rattle.std.specs.Prelude.{◌≡◌, ◌++◌, ℕ, List, [], Result, Ok, Err, codes, decimal}
+use Rattle.std.specs.Prelude.{◌≡◌, Result, Ok, Err}
 use Rattle.vk_spec.specs.Files.{Files}
-use Rattle.vk_resolution.specs.Outcomes.{Outcome, planned, refused}
+use Rattle.vk_spec.specs.Earlies.{Early}
+use Rattle.vk_spec.specs.Settings.{Setting}
 use Rattle.vk_words.specs.Words.{Words}
-use Rattle.vk_words.specs.FaultTexts.{fault_text_of}
-use Rattle.vk_words.specs.declared.faults.WordFault.{WordFault}
-use Rattle.vk_report.specs.Reports.{whole_report}
-use Rattle.vk_app.specs.Requests.{Request, request_of}
-use Rattle.vk_app.specs.Resolutions.{Resolution, early, resolved, too_many, ComesTo}
+use Rattle.vk_model.specs.SettingViews.{instance_view}
+use Rattle.vk_opening.specs.Starts.{Start}
+use Rattle.vk_opening.specs.Openings.{Opening, opened_of}
+use Rattle.vk_pages.specs.Pages.{page_of}
+use Rattle.vk_app.specs.declared.requests.Task.{Task}
+use Rattle.vk_app.specs.declared.requests.Task.TheVariants as task
+use Rattle.vk_app.specs.Requests.{Request, project_of, request_of}
+use Rattle.vk_app.specs.Resolutions.{Resolution, early, IsSettingOf, Settles}
+use Rattle.vk_app.specs.Shown.{Shown, told, words_line, shown_for}
+use Rattle.vk_app.specs.Texts.{shared_of, ShowsText}
 
-pub record Shown : Type 0 where
-  pub status : ℕ
-  pub out : List ℕ
-  pub err : List ℕ
+-- what a task shows of a project that comes to this: its report, or the ABI text of an instance in its plan
+abbrev pub ShowsTask : Task → Setting → Start → Files → Resolution → Shown → Type 0
+ShowsTask (task.Plan project) setting start files r shown = shown ≡ shown_for r
+ShowsTask (task.Abi project i) setting start files r shown = ShowsText (shared_of project setting) start files (instance_view i) r shown
 
--- a line on `err` and nothing on `out`
-abbrev pub told : ℕ → List ℕ → Shown
-told status line = record { status = status; out = []; err = line }
+-- what it shows under a setting, by what this and the pages of the files come to
+abbrev pub ShowsSettled : Task → Setting → Start → Files → Shown → Type 0
+ShowsSettled task setting start files shown = (r : Resolution) × Settles setting (page_of start files) r × ShowsTask task setting start files r shown
 
--- bytes on `out` and nothing on `err`
-abbrev pub printed : ℕ → List ℕ → Shown
-printed status bytes = record { status = status; out = bytes; err = [] }
+-- what it shows of a project that opens, by its setting
+pub record ShowsOpening (task : Task) (opening : Opening) (files : Files) (shown : Shown) : Type 0 where
+  pub setting : Setting
+  pub is_setting : IsSettingOf opening setting
+  pub shows : ShowsSettled task setting opening.start files shown
 
-abbrev pub words_line : WordFault → List ℕ
-words_line fault = codes "words: " ++ fault_text_of fault ++ codes "\n"
+-- a project that doesn't open is shown by its early line
+abbrev pub ShowsRead : Task → Result Opening Early → Files → Shown → Type 0
+ShowsRead task (Err e) files shown = shown ≡ shown_for (early e)
+ShowsRead task (Ok opening) files shown = ShowsOpening task opening files shown
 
-abbrev pub memory_line : List ℕ
-memory_line = codes "memory\n"
-
-abbrev pub tree_line : List ℕ
-tree_line = codes "tree failed\n"
-
-abbrev pub output_line : List ℕ
-output_line = codes "output failed\n"
-
-abbrev pub limit_line : ℕ → List ℕ
-limit_line most = codes "limit facts " ++ decimal most ++ codes "\n"
-
--- 0 for a plan, 1 for a refusal
-abbrev pub outcome_status : Outcome → ℕ
-outcome_status (planned items reasons) = 0
-outcome_status (refused lines reasons) = 1
-
--- the report, or that there are too many requirements
-abbrev pub shown_for : Resolution → Shown
-shown_for (early e) = printed 1 (whole_report (Err e))
-shown_for (resolved o) = printed (outcome_status o) (whole_report (Ok o))
-shown_for (too_many most) = told 6 (limit_line most)
-
--- a fault of the words is told; a project is shown as what it comes to
+-- a fault of the words is told; of a task, what it shows of its project is shown
 abbrev pub IsAnswerTo : Request → Files → Shown → Type 0
 IsAnswerTo (Err fault) files shown = shown ≡ told 2 (words_line fault)
-IsAnswerTo (Ok project) files shown = (r : Resolution) × ComesTo project files r × (shown ≡ shown_for r)
+IsAnswerTo (Ok task) files shown = ShowsRead task (opened_of (project_of task) files) files shown
 
 abbrev pub IsAnswer : Words → Files → Shown → Type 0
 IsAnswer words files shown = IsAnswerTo (request_of words) files shown

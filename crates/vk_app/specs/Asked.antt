@@ -9,7 +9,7 @@ use Rattle.vk_opening.specs.Openings.{Opening, opened_of}
 use Rattle.vk_opening.specs.Starts.{Start}
 use Rattle.vk_pages.specs.Asked.{page_paths}
 use Rattle.vk_model.specs.declared.projects.Project.{Project}
-use Rattle.vk_app.specs.Requests.{Request}
+use Rattle.vk_app.specs.Requests.{Request, project_of}
 
 -- what concerns some port may be read there
 abbrev pub IsOfPages : Start → Files → Path → Type 0
@@ -26,5 +26,5 @@ IsOfProject project files path = Contains (opening_paths project files) path ⊎
 
 -- a malformed command line asks for no path
 abbrev pub MayAsk : Request → Files → Path → Type 0
-MayAsk (Ok project) files path = IsOfProject project files path
+MayAsk (Ok task) files path = IsOfProject (project_of task) files path
 MayAsk (Err fault) files path = ⊥

@@ -1,7 +1,13 @@
 -- How a run ends, before its bytes go out.
 use Rattle.std.specs.Prelude.{◌≡◌, ◌≢◌, ◌||◌, ℕ, Bool, true, false, List, [], Result, Ok, Err, IfSome, IsErr}
+use Rattle.vk_spec.specs.Files.{Files}
+use Rattle.vk_spec.specs.Paths.{Path}
 use Rattle.vk_spec.specs.States.{State}
 use Rattle.vk_spec.specs.Sinks.{SinkState, Sent}
+use Rattle.vk_base.specs.declared.limits.Limit.{Limit}
+use Rattle.vk_base.specs.declared.limits.Limit.TheVariants as limit
+use Rattle.vk_base.specs.declared.stops.Outage.{Outage}
+use Rattle.vk_base.specs.declared.stops.Outage.TheVariants as outage
 use Rattle.vk_base.specs.declared.stops.Stop.{Stop}
 use Rattle.vk_base.specs.declared.stops.Unread.{Unread}
 use Rattle.vk_base.specs.declared.stops.Unread.TheVariants as unread
@@ -11,16 +17,20 @@ use Rattle.vk_model.specs.declared.plans.Outcome.{Outcome}
 use Rattle.vk_model.specs.declared.projects.Project.{Project}
 use Rattle.vk_worklist.specs.declared.faults.CloseFault.{CloseFault}
 use Rattle.vk_words.specs.declared.faults.WordFault.{WordFault}
+use Rattle.vk_app.specs.declared.requests.Task.{Task}
 use Rattle.vk_app.specs.Asked.{MayAsk}
-use Rattle.vk_app.specs.Once.{OnlyReadOnce}
+use Rattle.vk_app.specs.Once.{asks_once, ReadsFor}
 use Rattle.vk_app.specs.Requests.{Request}
 use Rattle.vk_app.specs.Resolved.{resolution_of}
-use Rattle.vk_app.specs.Answers.{Shown, IsAnswerTo, shown_for, told, printed, words_line, memory_line, tree_line, output_line, limit_line}
+use Rattle.vk_app.specs.Shown.{Shown, shown_for, told, printed, words_line, memory_line, tree_line, output_line, limit_line}
+use Rattle.vk_app.specs.Answers.{IsAnswerTo}
+use Rattle.vk_app.specs.Runs.{MayPass}
 use Rattle.vk_app.specs.declared.ends.End.{End}
 use Rattle.vk_app.specs.declared.ends.End.TheVariants as end
 
 abbrev pub end_view : End → Shown
 end_view (end.Printed status report) = printed status report
+end_view (end.Written bytes) = printed 0 bytes
 end_view (end.Told status line) = told status line
 end_view end.Memory = told 3 memory_line
 end_view end.TreeFailed = told 4 tree_line
@@ -28,24 +38,33 @@ end_view end.TreeFailed = told 4 tree_line
 -- the ends that a run of this request may have, and whether the tree failed
 pub data MayEnd : Request → Shown → Bool → Type 0 where
   malformed : (fault : WordFault) → MayEnd (Err fault) (told 2 (words_line fault)) false
-  planned : (project : Project) (report : List ℕ) → MayEnd (Ok project) (printed 0 report) false
-  refused : (project : Project) (report : List ℕ) → MayEnd (Ok project) (printed 1 report) false
-  limited : (project : Project) → MayEnd (Ok project) (told 6 (limit_line project.max_facts)) false
+  done : (task : Task) (bytes : List ℕ) → MayEnd (Ok task) (printed 0 bytes) false
+  refused : (task : Task) (bytes : List ℕ) → MayEnd (Ok task) (printed 1 bytes) false
+  limited : (task : Task) (l : Limit) → MayPass task l → MayEnd (Ok task) (told 6 (limit_line l)) false
   lacking : (request : Request) → MayEnd request (told 3 memory_line) false
-  broken : (project : Project) → MayEnd (Ok project) (told 4 tree_line) true
+  broken : (task : Task) → MayEnd (Ok task) (told 4 tree_line) true
+
+-- how a request ends where so much of it is done, and what is done to the tree: where files are told, what is shown answers, unless memory ran out or the tree failed
+pub record EndsFor (request : Request) (Answers : Files → Shown → Type 0) (May : Files → Path → Type 0) (earlier : List Path) (shown : Shown) (before after : State) : Type 0 where
+  pub failed : Bool
+  pub may : MayEnd request shown failed
+  pub reads : ReadsFor (asks_once request) May earlier failed before after
+  pub content : IfSome before.told (λ t. shown.status ≢ 3 → shown.status ≢ 4 → Answers t.files shown)
 
 -- how a request and a tree end, and what is done to the tree
 pub record EndsAs (request : Request) (shown : Shown) (before after : State) : Type 0 where
-  pub failed : Bool
-  pub may : MayEnd request shown failed
-  pub only : OnlyReadOnce (MayAsk request) [] failed before after
+  pub ends : EndsFor request (IsAnswerTo request) (MayAsk request) [] shown before after
   pub unread : IsErr request → after ≡ before
-  pub content : IfSome before.told (λ t. shown.status ≢ 3 → shown.status ≢ 4 → IsAnswerTo request t.files shown)
+
+-- how it is shown that a call of the tree failed, or that memory ran out
+abbrev pub shown_out : Outage → Shown
+shown_out outage.Failed = told 4 tree_line
+shown_out (outage.Memory m) = told 3 memory_line
 
 -- how an answer is shown, by what a project comes to
 abbrev pub shown_of : Project → Result Outcome (Stop CloseFault) → Shown
 shown_of project (Ok outcome) = shown_for (resolution_of (outcome_view outcome))
-shown_of project (Err (stop.Fault fault)) = told 6 (limit_line project.max_facts)
+shown_of project (Err (stop.Fault fault)) = told 6 (limit_line (limit.Facts project.max_facts))
 shown_of project (Err stop.Failed) = told 4 tree_line
 shown_of project (Err (stop.Memory m)) = told 3 memory_line
 

@@ -1,6 +1,8 @@
 -- what is promised
 pub mod Requests
 pub mod Resolutions
+pub mod Shown
+pub mod Texts
 pub mod Answers
 pub mod Asked
 pub mod Once
@@ -8,4 +10,5 @@ pub mod Runs
 -- what functions, laws and examples say besides
 pub mod Resolved
 pub mod Ends
+pub mod Folders
 pub mod AnswerLaws

@@ -1,6 +1,5 @@
 -- What the files of a project come to.
-use Rattle.std.specs.Prelude.{◌≡◌, ◌≤◌, ℕ, List, length, Result, Ok, Err}
-use Rattle.vk_spec.specs.Files.{Files}
+use Rattle.std.specs.Prelude.{◌≡◌, ◌≤◌, ℕ, List, length}
 use Rattle.vk_spec.specs.Earlies.{Early}
 use Rattle.vk_spec.specs.Settings.{Setting, Instance}
 use Rattle.vk_resolution.specs.Givens.{Pages}
@@ -8,10 +7,8 @@ use Rattle.vk_resolution.specs.Outcomes.{Outcome}
 use Rattle.vk_resolution.specs.Agreement.{reasons_in}
 use Rattle.vk_resolution.specs.Closures.{HasTooManyFacts}
 use Rattle.vk_resolution.specs.Planner.{inputs_of, IsOutcomeOf}
-use Rattle.vk_model.specs.declared.projects.Project.{Project}
-use Rattle.vk_opening.specs.Openings.{Opening, opened_of}
+use Rattle.vk_opening.specs.Openings.{Opening}
 use Rattle.vk_opening.specs.Opened.{ListsOwnOff}
-use Rattle.vk_pages.specs.Pages.{page_of}
 
 -- the early line; the outcome; more requirements than so many
 pub data Resolution : Type 0 where
@@ -30,17 +27,3 @@ abbrev pub Settles : Setting → Pages → Resolution → Type 0
 Settles setting pages (early e) = ⊥
 Settles setting pages (resolved o) = IsOutcomeOf setting pages o × (length (reasons_in o) ≤ setting.max_facts)
 Settles setting pages (too_many n) = HasTooManyFacts (inputs_of setting pages) × (n ≡ setting.max_facts)
-
--- what was opened comes to what its setting and the pages of its files have
-pub record SettlesOpened (opening : Opening) (files : Files) (r : Resolution) : Type 0 where
-  pub setting : Setting
-  pub is_setting : IsSettingOf opening setting
-  pub settles : Settles setting (page_of opening.start files) r
-
--- an early line, or what the opened project comes to
-abbrev pub ComesFrom : Result Opening Early → Files → Resolution → Type 0
-ComesFrom (Err e) files r = r ≡ early e
-ComesFrom (Ok opening) files r = SettlesOpened opening files r
-
-abbrev pub ComesTo : Project → Files → Resolution → Type 0
-ComesTo project files r = ComesFrom (opened_of project files) files r

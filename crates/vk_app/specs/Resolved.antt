@@ -1,11 +1,9 @@
 -- Resolving a project over a tree: what is answered, and what is done to the tree.
-use Rattle.std.specs.Prelude.{◌≡◌, List, IfSome, Result, Ok, Err}
+use Rattle.std.specs.Prelude.{◌≡◌, Result, Ok, Err}
 use Rattle.vk_spec.specs.Paths.{Path}
 use Rattle.vk_spec.specs.Files.{Files}
 use Rattle.vk_spec.specs.Earlies.{Early}
-use Rattle.vk_spec.specs.States.{State}
 use Rattle.vk_resolution.specs.Outcomes as plain
-use Rattle.vk_base.specs.Stops.{has_failed}
 use Rattle.vk_base.specs.declared.stops.Stop.{Stop}
 use Rattle.vk_base.specs.declared.stops.Stop.TheVariants as stop
 use Rattle.vk_files.specs.Kept.{IsOf}
@@ -19,9 +17,13 @@ use Rattle.vk_opening.specs.declared.opens.Opened.TheVariants as opened
 use Rattle.vk_worklist.specs.declared.faults.CloseFault.{CloseFault}
 use Rattle.vk_worklist.specs.declared.faults.CloseFault.TheVariants.{Facts}
 use Rattle.vk_app.specs.Asked.{IsOfPages}
-use Rattle.vk_app.specs.Once.{OnlyReadOnce}
-use Rattle.vk_pages.specs.Pages.{page_of}
-use Rattle.vk_app.specs.Resolutions.{Resolution, early, resolved, too_many, Settles}
+use Rattle.vk_app.specs.Resolutions.{Resolution, early, resolved, too_many}
+use Rattle.vk_app.specs.Shown.{Shown, shown_for}
+use Rattle.vk_app.specs.Answers.{ShowsSettled}
+use Rattle.vk_app.specs.declared.requests.Task.{Task}
+use Rattle.vk_model.specs.declared.projects.Project.{Project}
+use Rattle.vk_model.specs.declared.settings.Setting.{Setting}
+use Rattle.vk_opening.specs.declared.starts.Start.{Start}
 
 -- an outcome or an early line as what files come to
 abbrev pub resolution_of : Result plain.Outcome Early → Resolution
@@ -35,22 +37,21 @@ Resolves P (Err (stop.Fault (Facts most))) = P (too_many most)
 Resolves P (Err stop.Failed) = Unit {0}
 Resolves P (Err (stop.Memory m)) = Unit {0}
 
--- nothing but reading was done, no path twice, none of the earlier ones, and none but those that may be asked for; and where the files are told, the answer is what they come to
-pub record ResolvesAs (means : Files → Resolution → Type 0) (May : Files → Path → Type 0) (answer : Result Outcome (Stop CloseFault)) (earlier : List Path) (before after : State) : Type 0 where
-  pub only : OnlyReadOnce May earlier (has_failed answer) before after
-  pub content : IfSome before.told (λ t. Resolves (means t.files) answer)
-
--- what was opened comes to this: an early line, or what its setting and the pages of the files have
-abbrev pub OpenedComesTo : Opened → Files → Resolution → Type 0
-OpenedComesTo (opened.Ready setting start) files r = Settles (setting_view setting) (page_of (start_view start) files) r
-OpenedComesTo (opened.Refused e) files r = r ≡ early (early_view e)
+-- what a task shows of what was opened: its early line, or what it shows under its setting
+abbrev pub OpenedShows : Task → Opened → Files → Shown → Type 0
+OpenedShows task (opened.Ready setting start) files shown = ShowsSettled task (setting_view setting) (start_view start) files shown
+OpenedShows task (opened.Refused e) files shown = shown ≡ shown_for (early (early_view e))
 
 -- what is asked for then: of the ports' pages, or nothing
 abbrev pub OpenedMayAsk : Opened → Files → Path → Type 0
 OpenedMayAsk (opened.Ready setting start) files path = IsOfPages (start_view start) files path
 OpenedMayAsk (opened.Refused e) files path = ⊥
 
--- what was kept of files is theirs
-abbrev pub IsKeptOf : Opened → Files → Type 0
-IsKeptOf (opened.Ready setting start) files = IsOf files (opened_files start)
-IsKeptOf (opened.Refused e) files = Unit {0}
+-- what was kept of files is theirs, and as many requirements are allowed as the words say
+pub record IsReady (project : Project) (setting : Setting) (start : Start) (files : Files) : Type 0 where
+  pub kept : IsOf files (opened_files start)
+  pub most : setting.max_facts ≡ project.max_facts
+
+abbrev pub IsOpenedFor : Project → Opened → Files → Type 0
+IsOpenedFor project (opened.Ready setting start) files = IsReady project setting start files
+IsOpenedFor project (opened.Refused e) files = Unit {0}

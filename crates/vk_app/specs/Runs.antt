@@ -1,15 +1,19 @@
 -- What a run says of the world outside, and how it ends.
-use Rattle.std.specs.Prelude.{◌≡◌, ◌≢◌, ◌⊎◌, ◌≤◌, ◌<◌, ℕ, true, List, [], length, IfSome, Ok, Err, IsErr}
+use Rattle.std.specs.Prelude.{◌≡◌, ◌≢◌, ◌⊎◌, ◌≤◌, ℕ, Bool, true, List, [], length, IfSome, Ok, Err, IsErr}
 use Rattle.vk_spec.specs.Counts.{MayHaveRisen, Rose}
 use Rattle.vk_spec.specs.Files.{Files}
 use Rattle.vk_spec.specs.States.{State}
 use Rattle.vk_spec.specs.Sinks.{SinkState, Taken, TookFront}
-use Rattle.vk_model.specs.declared.projects.Project.{Project}
+use Rattle.vk_base.specs.declared.limits.Limit.{Limit}
+use Rattle.vk_base.specs.declared.limits.Limit.TheVariants as limit
 use Rattle.vk_words.specs.declared.faults.WordFault.{WordFault}
+use Rattle.vk_app.specs.declared.requests.Task.{Task}
+use Rattle.vk_app.specs.declared.requests.Task.TheVariants as task
 use Rattle.vk_app.specs.Requests.{Request}
-use Rattle.vk_app.specs.Answers.{Shown, IsAnswerTo, words_line, memory_line, tree_line, output_line, limit_line}
+use Rattle.vk_app.specs.Shown.{Shown, words_line, memory_line, tree_line, output_line, limit_line}
+use Rattle.vk_app.specs.Answers.{IsAnswerTo}
 use Rattle.vk_app.specs.Asked.{MayAsk}
-use Rattle.vk_app.specs.Once.{IsReadOnce}
+use Rattle.vk_app.specs.Once.{asks_once, ReadsFor}
 
 -- a tree and two sinks, by what is known of them
 pub record Outside : Type 0 where
@@ -50,10 +54,15 @@ pub record HasCauses (status : ℕ) (before after : Outside) : Type 0 where
   pub out_rose : Rose before.out.faults after.out.faults → status ≡ 5
   pub err_rose : Rose before.err.faults after.err.faults → status ≡ 5
 
+-- the limits that a task may pass: a plan that of its requirements, whatever the tree tells
+abbrev pub MayPass : Task → Limit → Type 0
+MayPass (task.Plan project) l = l ≡ limit.Facts project.max_facts
+MayPass (task.Abi project instance) l = Unit {0}
+
 -- the lines that a run with this request may write on `err`
 pub data IsLine : Request → List ℕ → Type 0 where
   of_words : (fault : WordFault) → IsLine (Err fault) (words_line fault)
-  of_limit : (project : Project) → IsLine (Ok project) (limit_line project.max_facts)
+  of_limit : (task : Task) (l : Limit) → MayPass task l → IsLine (Ok task) (limit_line l)
   of_memory : (request : Request) → IsLine request memory_line
   of_tree : (request : Request) → IsLine request tree_line
   of_output : (request : Request) → IsLine request output_line
@@ -68,12 +77,12 @@ pub record TookSome (request : Request) (before after : SinkState) : Type 0 wher
 
 -- what `err` took under 2: the line of the words' fault
 abbrev pub TookFault : Request → SinkState → SinkState → Type 0
-TookFault (Ok project) before after = ⊥
+TookFault (Ok task) before after = ⊥
 TookFault (Err fault) before after = Taken before.taken (words_line fault) after.taken
 
--- what `err` took under 6: the line of the limit
+-- what `err` took under 6: the line of a limit that the task may pass
 abbrev pub TookLimit : Request → SinkState → SinkState → Type 0
-TookLimit (Ok project) before after = Taken before.taken (limit_line project.max_facts) after.taken
+TookLimit (Ok task) before after = (l : Limit) × MayPass task l × Taken before.taken (limit_line l) after.taken
 TookLimit (Err fault) before after = ⊥
 
 -- what `err` took: the line of the status whole; under 5 that of the output, or a first part of a line
@@ -95,6 +104,11 @@ pub record JudgesWords (request : Request) (status : ℕ) (before after : Outsid
   pub only : status ≡ 2 → IsErr request × (after.tree ≡ before.tree)
   pub comes : IsErr request → ((status ≡ 2) ⊎ (status ≡ 3) ⊎ (status ≡ 5)) × (after.tree ≡ before.tree)
 
+-- the tree was only read; for a plan no path was asked for twice, and none but those that may be asked for
+pub record IsReadFor (request : Request) (before after : State) : Type 0 where
+  pub failed : Bool
+  pub reads : ReadsFor (asks_once request) (MayAsk request) [] failed before after
+
 -- a run of this request
 pub record RunsAs (request : Request) (status : ℕ) (before after : Outside) : Type 0 where
   -- where the files are told and nothing outside failed, any end but out of memory is the answer
@@ -107,6 +121,5 @@ pub record RunsAs (request : Request) (status : ℕ) (before after : Outside) : 
   -- what the sinks took under every status
   pub out : KeepsOut request status before after
   pub err : TellsLine request status before after
-  -- the tree was only read, no path was asked for twice, and none but those that may be asked for
-  pub once : IsReadOnce (MayAsk request) before.tree after.tree
+  pub reads : IsReadFor request before.tree after.tree
   pub small : status ≤ 6

@@ -2,14 +2,16 @@
 ghost use Rattle.std.specs.Prelude.{◌≡◌};
 ghost use Rattle.vk_app.specs.Ends.{Tells, end_view};
 
-use vk_base::Text;
+use vk_base::{List, Text};
 use vk_tree::{Sink, send};
 
 /// How a run ends, before its bytes go out.
 #[derive(Drop)]
 pub enum End {
-    /// Bytes for standard output, under this status.
+    /// A report for standard output, under this status.
     Printed(u8, Text),
+    /// Other bytes for standard output, under status 0.
+    Written(List<u8>),
     /// A line for standard error, under this status.
     Told(u8, Text),
     /// Out of memory.
@@ -24,6 +26,7 @@ impl End {
     {
         match self {
             End::Printed(status, _) => *status,
+            End::Written(_) => 0,
             End::Told(status, _) => *status,
             End::Memory => 3,
             End::TreeFailed => 4,
@@ -35,6 +38,7 @@ impl End {
     {
         match self {
             End::Printed(_, report) => report.as_bytes(),
+            End::Written(bytes) => bytes.as_slice(),
             End::Told(_, _) => &[],
             End::Memory => &[],
             End::TreeFailed => &[],
@@ -46,6 +50,7 @@ impl End {
     {
         match self {
             End::Printed(_, _) => &[],
+            End::Written(_) => &[],
             End::Told(_, line) => line.as_bytes(),
             End::Memory => b"memory\n",
             End::TreeFailed => b"tree failed\n",

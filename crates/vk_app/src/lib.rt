@@ -3,10 +3,12 @@
 //! every other end.
 #![tactic(auto)]
 
+mod abi_texts;
+mod endings;
 mod ends;
 pub mod laws;
 mod requests;
-mod resolutions;
 mod runs;
+mod tasks;
 
 pub use runs::{Ran, Spent, run};

@@ -4,7 +4,7 @@ use Rattle.vk_app.proofs.ExistenceLemmas.{some_answer}
 use Rattle.vk_app.proofs.laws.words_and_files_have_one_answer.Goals as goal
 
 pub returns-clause-exists : goal.returns-clause-exists
-returns-clause-exists c = λ words files. some_answer (request_of words) files
+returns-clause-exists c = λ words files plain. some_answer (request_of words) files plain
 
 pub returns-clause-one : goal.returns-clause-one
 returns-clause-one c = λ words files one other a b. one_answer (request_of words) files one other a b

@@ -1,0 +1,258 @@
+-- A task, step by step: opening its project, resolving it, and what that shows.
+use Rattle.std.proofs.Common.{◌≡◌, ◌≢◌, ◌⊎◌, ◌++◌, inl, inr, Bool, true, false, ℕ, List, [], refl, ap, sym, subst, ◌∙◌}
+use Rattle.std.specs.Prelude.{Option, Some, None, IfSome, IfOk, Result, Ok, Err}
+use Rattle.std.specs.List.{Contains}
+use Rattle.std.proofs.lemmas.List.Elements.{Contains-append_cases}
+use Rattle.std.proofs.lemmas.Option.{IfSome_then}
+use Rattle.vk_spec.specs.Lists.{NoRepeats, IsWithin}
+use Rattle.vk_spec.specs.Paths.{Path}
+use Rattle.vk_spec.specs.Files.{Files}
+use Rattle.vk_spec.specs.Settings.{Setting}
+use Rattle.vk_spec.specs.States.{Told, State, with_asked, OnlyRead}
+use Rattle.vk_spec.specs.Catalogues.{CatalogueState, OnPages}
+use Rattle.vk_spec.specs.Conditions.{Condition}
+use Rattle.vk_spec.proofs.OptionLemmas.{of_each, of_both}
+use Rattle.vk_spec.proofs.StateLemmas.{looks_then, told_before}
+use Rattle.vk_base.specs.Stops.{has_failed, was_out}
+use Rattle.vk_base.specs.declared.limits.Limit.TheVariants as limit
+use Rattle.vk_base.specs.declared.stops.Outage.{Outage}
+use Rattle.vk_base.specs.declared.stops.Outage.TheVariants as outage
+use Rattle.vk_base.specs.declared.stops.Stop.{Stop}
+use Rattle.vk_base.specs.declared.stops.Stop.TheVariants as stop
+use Rattle.vk_resolution.specs.Givens.{Pages}
+use Rattle.vk_resolution.specs.Closures.{HasTooManyFacts}
+use Rattle.vk_resolution.specs.Planner.{inputs_of}
+use Rattle.vk_model.specs.FaultViews.{outcome_view}
+use Rattle.vk_model.specs.SettingViews.{setting_view}
+use Rattle.vk_model.specs.declared.earlies.Early.{Early}
+use Rattle.vk_model.specs.declared.plans.Outcome.{Outcome}
+use Rattle.vk_model.specs.declared.plans.Outcome.TheVariants as outcome
+use Rattle.vk_model.specs.declared.projects.Project.{Project}
+use Rattle.vk_model.specs.declared.settings.Setting as made
+use Rattle.vk_files.specs.Kept.{Kept, IsOf, paths_of}
+use Rattle.vk_opening.specs.Asked.{opening_paths}
+use Rattle.vk_opening.specs.Starts.{Start}
+use Rattle.vk_opening.specs.Opened.{Opens, Tells, IsKept}
+use Rattle.vk_opening.specs.Openings.{opened_of}
+use Rattle.vk_opening.specs.Views.{ready_view, start_view, opened_files}
+use Rattle.vk_opening.specs.declared.starts.Start as made_start
+use Rattle.vk_opening.specs.declared.opens.Opened.{Opened}
+use Rattle.vk_opening.specs.declared.opens.Opened.TheVariants as opened
+use Rattle.vk_opening.proofs.OpenLemmas as opening
+use Rattle.vk_pages.specs.Pages.{page_of}
+use Rattle.vk_world.specs.Worlds.{pages_in}
+use Rattle.vk_worklist.specs.Faults.{OnFault}
+use Rattle.vk_worklist.specs.declared.faults.CloseFault.{CloseFault}
+use Rattle.vk_worklist.specs.declared.faults.CloseFault.TheVariants.{Facts}
+use Rattle.vk_resolve.specs.Resolved.{IsResolved}
+use Rattle.vk_app.specs.declared.requests.Task.{Task}
+use Rattle.vk_app.specs.declared.requests.Task.TheVariants as task
+use Rattle.vk_app.specs.Requests.{project_of}
+use Rattle.vk_app.specs.Asked.{IsOfPages, IsOfOpened, IsOfProject}
+use Rattle.vk_app.specs.Once.{AreOnce, ReadsFor, asks_once}
+use Rattle.vk_app.specs.Resolutions as the
+use Rattle.vk_app.specs.Resolutions.{Resolution, Settles}
+use Rattle.vk_app.specs.Resolved.{resolution_of, Resolves, OpenedShows, OpenedMayAsk, IsReady, IsOpenedFor}
+use Rattle.vk_app.specs.Shown.{Shown, shown_for, told, limit_line}
+use Rattle.vk_app.specs.Answers.{ShowsSettled, ShowsRead, IsAnswerTo}
+use Rattle.vk_app.specs.Runs.{MayPass}
+use Rattle.vk_app.specs.Ends.{EndsFor, MayEnd, done, refused, limited, lacking, broken, EndsWith, whole, short, shown_of, shown_out}
+use Rattle.vk_app.proofs.AnswerLemmas.{opening_form}
+use Rattle.vk_app.proofs.ReadLemmas.{not_read}
+
+-- ---- what is answered of a setting and pages
+
+is_settled : (setting : Setting) (pages : Pages) (o : Outcome) → IsResolved setting pages o → Settles setting pages (resolution_of (outcome_view o))
+is_settled setting pages o is = subst (λ r. Settles setting pages (resolution_of r)) (sym is.told) (is.is_outcome, is.few)
+
+is_over : (setting : Setting) (pages : Pages) (most : ℕ) → Facts most ≡ Facts setting.max_facts → HasTooManyFacts (inputs_of setting pages) → Settles setting pages (the.too_many most)
+is_over setting pages most same many = (many, (cc))
+
+-- the clauses of resolving, put together
+pub settled : (setting : Setting) (answer : Result Outcome (Stop CloseFault)) (state : CatalogueState Condition)
+    → IfOk answer (λ o. OnPages (λ pages. IsResolved setting pages o) state)
+    → OnFault answer setting.max_facts (OnPages (λ pages. HasTooManyFacts (inputs_of setting pages)) state)
+    → OnPages (λ pages. Resolves (Settles setting pages) answer) state
+settled setting (Ok o) state was fault = IfSome_then state.pages was (λ pages is. is_settled setting pages o is)
+settled setting (Err (stop.Fault (Facts most))) state was fault = IfSome_then state.pages fault.1 (λ pages many. is_over setting pages most fault.0 many)
+settled setting (Err stop.Failed) state was fault = of_each state.pages (λ p. tt)
+settled setting (Err (stop.Memory m)) state was fault = of_each state.pages (λ p. tt)
+
+-- what is told of pages is told of the files whose they are
+pub pages_told : (start : Start) (told : Option Told) (pages : Option (Pages)) (P : Pages → Type 0) → pages ≡ pages_in start told → IfSome pages P → IfSome told (λ t. P (page_of start t.files))
+pages_told start told pages P same h = by told (subst (λ o. IfSome o P) same h)
+  where
+    by : (o : Option Told) → IfSome (pages_in start o) P → IfSome o (λ t. P (page_of start t.files))
+    by None h = tt
+    by (Some t) h = h
+
+-- ---- how a task ends by what its project comes to
+
+-- what is shown of an answer is one of the ends
+may_end : (t : Task) (answer : Result Outcome (Stop CloseFault)) → MayPass t (limit.Facts (project_of t).max_facts) → MayEnd (Ok t) (shown_of (project_of t) answer) (has_failed answer)
+may_end t (Ok (outcome.Planned plan reasons)) pass = done t _
+may_end t (Ok (outcome.Refused faults reasons)) pass = refused t _
+may_end t (Ok (outcome.Early early)) pass = refused t _
+may_end t (Err (stop.Fault fault)) pass = limited t _ pass
+may_end t (Err stop.Failed) pass = broken t
+may_end t (Err (stop.Memory m)) pass = lacking (Ok t)
+
+-- where the end isn't a failure, the tree didn't fail
+not_failed : (project : Project) (answer : Result Outcome (Stop CloseFault)) → (shown_of project answer).status ≢ 4 → has_failed answer ≡ false
+not_failed project (Ok o) four = refl
+not_failed project (Err (stop.Fault fault)) four = refl
+not_failed project (Err stop.Failed) four = absurd (four refl)
+not_failed project (Err (stop.Memory m)) four = refl
+
+-- a task whose project comes to this, and that shows it
+pub ends_with : (t : Task) (Answers : Files → Shown → Type 0) (May : Files → Path → Type 0) (earlier : List Path) (answer : Result Outcome (Stop CloseFault)) (shown : Shown) (a b : State)
+    → MayPass t (limit.Facts (project_of t).max_facts)
+    → IfSome a.told (λ f. (shown_of (project_of t) answer).status ≢ 3 → (shown_of (project_of t) answer).status ≢ 4 → Answers f.files (shown_of (project_of t) answer))
+    → ReadsFor (asks_once (Ok t)) May earlier (has_failed answer) a b → EndsWith (shown_of (project_of t) answer) shown → EndsFor (Ok t) Answers May earlier shown a b
+ends_with t Answers May earlier answer shown a b pass content reads whole = record { failed = has_failed answer; may = may_end t answer pass; reads = reads; content = content }
+ends_with t Answers May earlier answer shown a b pass content reads (short four) = record {
+  failed = false;
+  may = lacking (Ok t);
+  reads = subst (λ f. ReadsFor (asks_once (Ok t)) May earlier f a b) (not_failed (project_of t) answer four) reads;
+  content = of_each a.told (λ f three other. absurd (three refl));
+}
+
+-- what is shown of an answer is what a plan shows, but for a failure and out of memory
+shows_plan : (project : Project) (setting : Setting) (start : Start) (files : Files) (answer : Result Outcome (Stop CloseFault)) → setting.max_facts ≡ project.max_facts → Resolves (Settles setting (page_of start files)) answer
+    → (shown_of project answer).status ≢ 3 → (shown_of project answer).status ≢ 4 → ShowsSettled (task.Plan project) setting start files (shown_of project answer)
+shows_plan project setting start files (Ok o) most h three four = (resolution_of (outcome_view o), h, refl)
+shows_plan project setting start files (Err (stop.Fault (Facts n))) most h three four = (the.too_many n, h, ap (λ k. told 6 (limit_line (limit.Facts k))) (sym (h.1 ∙ most)))
+shows_plan project setting start files (Err stop.Failed) most h three four = absurd (four refl)
+shows_plan project setting start files (Err (stop.Memory m)) most h three four = absurd (three refl)
+
+pub plan_ends : (project : Project) (setting : made.Setting) (start : made_start.Start) (answer : Result Outcome (Stop CloseFault)) (shown : Shown) (a b : State)
+    → IfSome a.told (λ t. IsReady project setting start t.files)
+    → IfSome a.told (λ t. Resolves (Settles (setting_view setting) (page_of (start_view start) t.files)) answer)
+    → ReadsFor true (IsOfPages (start_view start)) (paths_of (opened_files start)) (has_failed answer) a b → EndsWith (shown_of project answer) shown
+    → EndsFor (Ok (task.Plan project)) (ShowsSettled (task.Plan project) (setting_view setting) (start_view start)) (IsOfPages (start_view start)) (paths_of (opened_files start)) shown a b
+plan_ends project setting start answer shown a b ready resolves reads ends =
+    ends_with (task.Plan project) _ _ _ answer shown a b refl
+    (of_both a.told ready resolves (λ t r h three four. shows_plan project (setting_view setting) (start_view start) t.files answer r.most h three four)) reads ends
+
+-- the world's tree tells what its setting was opened on
+pub ready_kept : (project : Project) (setting : made.Setting) (start : made_start.Start) (s : State) → IfSome s.told (λ t. IsReady project setting start t.files) → IfSome s.told (λ t. IsOf t.files (opened_files start))
+ready_kept project setting start s ready = IfSome_then s.told ready (λ t r. r.kept)
+
+-- ---- what was opened
+
+-- what a task shows of its setting is what it shows of what was opened
+pub ends_ready : (task : Task) (o : Opened) (setting : made.Setting) (start : made_start.Start) (shown : Shown) (read : Kept) (a b : State)
+    → o ≡ opened.Ready setting start → IsKept read (Ok o)
+    → EndsFor (Ok task) (ShowsSettled task (setting_view setting) (start_view start)) (IsOfPages (start_view start)) (paths_of (opened_files start)) shown a b
+    → EndsFor (Ok task) (OpenedShows task o) (OpenedMayAsk o) (paths_of read) shown a b
+ends_ready task o setting start shown read a b is kept ends =
+    let same : read ≡ opened_files start = rw is at kept in
+    rw (is, same) ends
+
+-- an early line
+pub ends_early : (task : Task) (o : Opened) (e : Early) (shown : Shown) (earlier : List Path) (s : State) → o ≡ opened.Refused e → NoRepeats earlier
+    → EndsWith (shown_for (resolution_of (outcome_view (outcome.Early e)))) shown → EndsFor (Ok task) (OpenedShows task o) (OpenedMayAsk o) earlier shown s s
+ends_early task o e shown earlier s is distinct whole = rw is (record {
+  failed = false;
+  may = refused task _;
+  reads = not_read (asks_once (Ok task)) (OpenedMayAsk (opened.Refused e)) earlier s distinct;
+  content = of_each s.told (λ t three four. refl);
+})
+ends_early task o e shown earlier s is distinct (short four) = rw is (record {
+  failed = false;
+  may = lacking (Ok task);
+  reads = not_read (asks_once (Ok task)) (OpenedMayAsk (opened.Refused e)) earlier s distinct;
+  content = of_each s.told (λ t three other. absurd (three refl));
+})
+
+-- ---- opening, and then the rest
+
+-- what is known of the files before is known of those after
+told_after : {failed : Bool} {a b : State} (P : Files → Type 0) → OnlyRead failed a b → IfSome a.told (λ t. P t.files) → IfSome b.told (λ t. P t.files)
+told_after {a = a} {b = b} P r h = by a.told b.told r.looks.told h
+  where
+    by : (one other : Option Told) → other ≡ with_asked r.asked one → IfSome one (λ t. P t.files) → IfSome other (λ t. P t.files)
+    by None other e h = subst (λ o. IfSome o (λ t. P t.files)) (sym e) tt
+    by (Some t) other e h = subst (λ o. IfSome o (λ t. P t.files)) (sym e) h
+
+-- as many requirements are allowed as the words say
+opens_most : (project : Project) (setting : made.Setting) (start : made_start.Start) (files : Files) → opened_of project files ≡ Ok (ready_view setting start) → setting.max_facts ≡ project.max_facts
+opens_most project setting start files e =
+    let form = opening_form project files (ready_view setting start) e in
+    ap (λ (s : Setting). s.max_facts) (form.settings []) ∙ form.most
+
+pub opened_right : (project : Project) (o : Opened) (before after : State) → Opens project (Ok o) before after → IfSome after.told (λ t. IsOpenedFor project o t.files)
+opened_right project (opened.Ready setting start) before after opens =
+    told_after (IsReady project setting start) (opening.only_read opens)
+    (of_both before.told (opening.start_right opens) opens.content (λ t kept tells. record { kept = kept; most = opens_most project setting start t.files tells.0 }))
+opened_right project (opened.Refused e) before after opens = of_each after.told (λ t. tt)
+
+opened_shows : (task : Task) (o : Opened) (files : Files) (shown : Shown) → Tells (Ok o) (opened_of (project_of task) files) → OpenedShows task o files shown → IsAnswerTo (Ok task) files shown
+opened_shows task (opened.Ready setting start) files shown tells h =
+    subst (λ read. ShowsRead task read files shown) (sym tells.0)
+    (record { setting = setting_view setting; is_setting = record { off = (setting_view setting).off; setting_is = refl; lists = tells.1 }; shows = h })
+opened_shows task (opened.Refused e) files shown tells h = subst (λ read. ShowsRead task read files shown) (sym tells) h
+
+-- opening looked at its own paths alone
+opening_listed : {project : Project} {answer : Result Opened Outage} {a b : State} (opens : Opens project answer a b) → IfSome a.told (λ t. IsWithin (paths_of opens.once.more) (opening_paths project t.files))
+opening_listed {project = project} {a = a} opens = subst (λ kept. IfSome a.told (λ t. IsWithin (paths_of kept) (opening_paths project t.files))) opens.once.kept opens.within
+
+-- a path of the pages of what was opened is one of the project
+of_opened : (project : Project) (o : Opened) (files : Files) (path : Path) → Tells (Ok o) (opened_of project files) → OpenedMayAsk o files path → IsOfOpened (opened_of project files) files path
+of_opened project (opened.Ready setting start) files path tells page = subst (λ read. IsOfOpened read files path) (sym tells.0) page
+of_opened project (opened.Refused e) files path tells page = absurd page
+
+-- the paths of opening, and then those of the pages
+listed_in : (project : Project) (o : Opened) (files : Files) (first second : List Path) → Tells (Ok o) (opened_of project files)
+    → IsWithin first (opening_paths project files) → ((path : Path) → Contains second path → OpenedMayAsk o files path)
+    → (path : Path) → Contains (first ++ second) path → IsOfProject project files path
+listed_in project o files first second tells opening later path has = by (Contains-append_cases first second path has)
+  where
+    by : Contains first path ⊎ Contains second path → IsOfProject project files path
+    by (inl there) = inl (opening path there)
+    by (inr there) = inr (of_opened project o files path tells (later path there))
+
+listed_opened : (project : Project) (o : Opened) (first second : List Path) (told : Option Told) → IfSome told (λ t. Tells (Ok o) (opened_of project t.files))
+    → IfSome told (λ t. IsWithin first (opening_paths project t.files)) → IfSome told (λ t. (path : Path) → Contains second path → OpenedMayAsk o t.files path)
+    → IfSome told (λ t. (path : Path) → Contains (first ++ second) path → IsOfProject project t.files path)
+listed_opened project o first second None tells opening later = tt
+listed_opened project o first second (Some t) tells opening later = listed_in project o t.files first second tells opening later
+
+-- each path once, opening included
+once_opened : (once : Bool) (project : Project) (o : Opened) (a b : State) (asked : List Path) (opens : Opens project (Ok o) a b)
+    → AreOnce once (OpenedMayAsk o) (paths_of opens.read) asked b → AreOnce once (IsOfProject project) [] (paths_of opens.once.more ++ asked) a
+once_opened true project o a b asked opens paths = (
+  subst (λ kept. NoRepeats (paths_of kept ++ asked)) opens.once.kept paths.0,
+  listed_opened project o (paths_of opens.once.more) asked a.told opens.content (opening_listed opens)
+      (told_before (λ f. (path : Path) → Contains asked path → OpenedMayAsk o f path) (opening.only_read opens) paths.1),
+)
+once_opened false project o a b asked opens paths = tt
+
+-- a project that was opened, and what came of it
+pub ends_opened : (task : Task) (o : Opened) (shown : Shown) (a b c : State) (opens : Opens (project_of task) (Ok o) a b)
+    → EndsFor (Ok task) (OpenedShows task o) (OpenedMayAsk o) (paths_of opens.read) shown b c → EndsFor (Ok task) (IsAnswerTo (Ok task)) (IsOfProject (project_of task)) [] shown a c
+ends_opened task o shown a b c opens ends = record {
+  failed = ends.failed;
+  may = ends.may;
+  reads = record {
+    only = record { asked = paths_of opens.once.more ++ ends.reads.only.asked; looks = looks_then opens.once.looks ends.reads.only.looks };
+    paths = once_opened (asks_once (Ok task)) (project_of task) o a b ends.reads.only.asked opens ends.reads.paths;
+  };
+  content = of_both a.told opens.content (told_before (λ f. shown.status ≢ 3 → shown.status ≢ 4 → OpenedShows task o f shown) (opening.only_read opens) ends.content)
+      (λ t tells h three four. opened_shows task o t.files shown tells (h three four));
+}
+
+-- a project that wasn't opened
+once_alone : (once : Bool) (project : Project) (o : Outage) (a b : State) (opens : Opens project (Err o) a b) → AreOnce once (IsOfProject project) [] (paths_of opens.once.more) a
+once_alone true project o a b opens = (opening.none_twice opens, IfSome_then a.told (opening_listed opens) (λ t within path has. inl (within path has)))
+once_alone false project o a b opens = tt
+
+opening_alone : (once : Bool) (project : Project) (o : Outage) (a b : State) → Opens project (Err o) a b → ReadsFor once (IsOfProject project) [] (was_out {A = Opened} (Err o)) a b
+opening_alone once project o a b opens = record {
+  only = record { asked = paths_of opens.once.more; looks = opens.once.looks };
+  paths = once_alone once project o a b opens;
+}
+
+pub ends_unopened : (task : Task) (o : Outage) (shown : Shown) (a b : State) → Opens (project_of task) (Err o) a b → shown ≡ shown_out o → EndsFor (Ok task) (IsAnswerTo (Ok task)) (IsOfProject (project_of task)) [] shown a b
+ends_unopened task outage.Failed shown a b opens is = rw is (record { failed = true; may = broken task; reads = opening_alone (asks_once (Ok task)) (project_of task) outage.Failed a b opens; content = of_each a.told (λ t three four. absurd (four refl)) })
+ends_unopened task (outage.Memory m) shown a b opens is = rw is (record { failed = false; may = lacking (Ok task); reads = opening_alone (asks_once (Ok task)) (project_of task) (outage.Memory m) a b opens; content = of_each a.told (λ t three four. absurd (three refl)) })

@@ -1,0 +1,104 @@
+-- Reading a tree for a request: nothing, one after the other, and by way of a world.
+use Rattle.std.proofs.Common.{◌≡◌, ◌++◌, ◌||◌, Bool, true, false, List, [], refl, ap, sym, subst, ◌∙◌, arith}
+use Rattle.std.specs.Prelude.{Option, Some, None, IfSome, IsSome}
+use Rattle.std.specs.List.{Contains}
+use Rattle.std.proofs.lemmas.List.{append-nil}
+use Rattle.vk_spec.specs.Lists.{NoRepeats}
+use Rattle.vk_spec.specs.Counts.{Counted}
+use Rattle.vk_spec.specs.Paths.{Path}
+use Rattle.vk_spec.specs.Files.{Files}
+use Rattle.vk_spec.specs.States.{Told, State, with_asked, OnlyRead}
+use Rattle.vk_spec.specs.Catalogues.{CatalogueState, OnlyAsked}
+use Rattle.vk_spec.specs.Calls.{stops}
+use Rattle.vk_catalogue.specs.Views.{stop_view}
+use Rattle.vk_base.specs.Stops.{is_outage}
+use Rattle.vk_base.specs.declared.stops.Outage.{Outage}
+use Rattle.vk_base.specs.declared.stops.Outage.TheVariants as outage
+use Rattle.vk_spec.proofs.OptionLemmas.{of_each}
+use Rattle.vk_spec.proofs.StateLemmas.{looks_nothing}
+use Rattle.vk_spec.proofs.AskLemmas.{asked_then}
+use Rattle.vk_opening.specs.Starts.{Start}
+use Rattle.vk_world.specs.Worlds.{Learned, WorldView, world_state, state_of, origin_on, page_paths_in, ArePagePaths, IsReadSince}
+use Rattle.vk_app.specs.Asked.{IsOfPages}
+use Rattle.vk_app.specs.Once.{AreListed, AreOnce, ReadsFor}
+
+-- ---- nothing was asked for
+
+nothing_listed : (May : Files → Path → Type 0) (s : State) → AreListed May [] s
+nothing_listed May s = of_each s.told (λ t path has. let low = has.1 in absurd (omega (arith, low)))
+
+nothing_once : (once : Bool) (May : Files → Path → Type 0) (earlier : List Path) (s : State) → NoRepeats earlier → AreOnce once May earlier [] s
+nothing_once true May earlier s distinct = (subst NoRepeats (sym (append-nil earlier)) distinct, nothing_listed May s)
+nothing_once false May earlier s distinct = tt
+
+pub not_read : (once : Bool) (May : Files → Path → Type 0) (earlier : List Path) (s : State) → NoRepeats earlier → ReadsFor once May earlier false s s
+not_read once May earlier s distinct = record { only = record { asked = []; looks = looks_nothing s }; paths = nothing_once once May earlier s distinct }
+
+-- where paths may be asked for again, reading is enough
+pub reads_again : (May : Files → Path → Type 0) (earlier : List Path) {failed : Bool} {a b : State} → OnlyRead failed a b → ReadsFor false May earlier failed a b
+reads_again May earlier only = record { only = only; paths = tt }
+
+-- ---- one of two calls failed at most
+
+-- a call that gave no answer failed, or memory ran out
+pub out_is : (e : Outage) → stops (stop_view e) ≡ is_outage e
+out_is outage.Failed = refl
+out_is (outage.Memory m) = refl
+
+pub asked_each : {C : Type 0} (one two : Bool) {a b c : CatalogueState C} → (one ≡ true → two ≡ false) → OnlyAsked one a b → OnlyAsked two b c → OnlyAsked (one || two) a c
+asked_each false two calm x y = asked_then x y
+asked_each true two {a = a} {b = b} {c = c} calm x y =
+    let quiet : c.faults ≡ b.faults = subst (λ f. Counted f b.faults c.faults) (calm refl) y.faults in
+    record {
+      pages = y.pages ∙ x.pages;
+      origin = y.origin ∙ x.origin;
+      calls = omega (arith, x.calls, y.calls);
+      faults = subst (Counted true a.faults) (sym quiet) x.faults;
+      sure = y.sure ∙ x.sure;
+      safe = x.safe;
+    }
+
+-- ---- the tree below a world
+
+-- what only asked a world only read its tree, no path that was read before, and only paths of pages
+only_read_once : {failed : Bool} (start : Start) (read : List Path) (before after : State) (l now : Learned)
+    → (world_state before l).origin ≡ origin_on start read before
+    → OnlyAsked failed (world_state before l) (world_state after now) → IsReadSince (world_state after now).origin after
+    → ReadsFor true (IsOfPages start) read failed before after
+only_read_once start read before after l now fresh only since =
+    let same : (world_state after now).origin ≡ origin_on start read before = only.origin ∙ fresh in
+    record {
+      only = record {
+        asked = since.asked;
+        looks = record {
+          told = since.told ∙ ap (λ o. with_asked since.asked o.told) same;
+          changes = since.changes ∙ ap (λ o. o.changes) same;
+          calls = only.calls;
+          ends = record { faults = only.faults; sure = only.sure; safe = only.safe };
+        };
+      };
+      paths = (
+        subst (λ o. NoRepeats (o.opened ++ since.asked)) same since.distinct,
+        listed_on before.told refl (subst (λ o. IsSome o.told → ArePagePaths o.page_paths since.asked) same since.within),
+      );
+    }
+  where
+    listed_on : (told : Option Told) → before.told ≡ told → (IsSome before.told → ArePagePaths (page_paths_in start before.told) since.asked)
+        → IfSome told (λ t. (path : Path) → Contains since.asked path → IsOfPages start t.files path)
+    listed_on None is within = tt
+    listed_on (Some t) is within = λ path has. subst (λ told. IsOn told path) is (within (subst IsSome (sym is) refl) path has)
+      where
+        IsOn : Option Told → Path → Type 0
+        IsOn told path = (port : _) × Contains (page_paths_in start told port) path
+
+-- the same of a world that was made on a tree, and gave it back
+pub tree_read_once : {T : Type 0} {failed : Bool} (start : Start) (read : List Path) (state : T → State) (was now : WorldView T) (tree left : T)
+    → was.tree ≡ tree → left ≡ now.tree → (state_of state was).origin ≡ origin_on start read (state tree)
+    → OnlyAsked failed (state_of state was) (state_of state now) → IsReadSince (state_of state now).origin (state left)
+    → ReadsFor true (IsOfPages start) read failed (state tree) (state left)
+tree_read_once {failed = failed} start read state was now tree left one two fresh only since =
+    let fresh_there = fresh ∙ ap (λ t. origin_on start read (state t)) (sym one) in
+    let since_there = subst (λ t. IsReadSince (state_of state now).origin (state t)) two since in
+    let once = only_read_once start read (state was.tree) (state now.tree) was.learned now.learned fresh_there only since_there in
+    subst (λ t. ReadsFor true (IsOfPages start) read failed (state t) (state left)) one
+    (subst (λ t. ReadsFor true (IsOfPages start) read failed (state was.tree) (state t)) (sym two) once)
