@@ -4,3 +4,4 @@ mod GivenLemmas
 mod FirstFaultLemmas
 mod StepLemmas
 mod OnceLemmas
+pub mod SizeLemmas

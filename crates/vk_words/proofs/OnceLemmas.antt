@@ -44,7 +44,7 @@ names_are_apart one other same =
     let both : Some one ≡ Some other = sym (named_itself one) ∙ ap named same ∙ named_itself other in (cc)
 
 -- an argument is of its own option alone
-is_of_its : (o : OptionName) (a : Argument) → is_of o a ≡ true → a.option ≡ o
+pub is_of_its : (o : OptionName) (a : Argument) → is_of o a ≡ true → a.option ≡ o
 is_of_its o a is = names_are_apart a.option o ((bytes_eq-Decides (option_name a.option) (option_name o)).0 is)
 
 -- ---- counting

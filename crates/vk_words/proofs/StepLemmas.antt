@@ -19,7 +19,7 @@ use Rattle.vk_words.specs.declared.faults.WordFault.{WordFault}
 use Rattle.vk_words.specs.declared.faults.WordFault.TheVariants as fault
 use Rattle.vk_spec.proofs.ReadingLemmas.{bind_ok}
 
-ok_is : {A F : Type 0} (r : Result A F) (x y : A) → r ≡ Ok x → r ≡ Ok y → x ≡ y
+pub ok_is : {A F : Type 0} (r : Result A F) (x y : A) → r ≡ Ok x → r ≡ Ok y → x ≡ y
 ok_is r x y one other = (cc)
 
 err_is : {A F : Type 0} (r : Result A F) (x y : F) → r ≡ Err x → r ≡ Err y → x ≡ y
