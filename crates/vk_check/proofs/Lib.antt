@@ -1,5 +1,6 @@
 mod CutLemmas
-mod CompareLemmas
+pub mod CompareLemmas
+pub mod VerdictLemmas
 mod HeadingLemmas
 mod CheckLemmas
 mod ShownLemmas

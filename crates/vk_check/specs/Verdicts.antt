@@ -24,7 +24,11 @@ IsVerdict report want (No line wanted) = IsNo report want line wanted
 abbrev pub HasFewSharedLines : List ℕ → List ℕ → Type 0
 HasFewSharedLines report want = (shared one other : List (List ℕ)) → lines_of report ≡ shared ++ one → lines_of want ≡ shared ++ other → length shared + 1 < 2 ^ 32
 
--- two texts have one verdict
+-- two texts have a verdict
+abbrev pub VerdictExists : Type 0
+VerdictExists = (report want : List ℕ) → (verdict : Verdict) × IsVerdict report want verdict
+
+-- and no other
 abbrev pub VerdictIsOne : Type 0
 VerdictIsOne = (report want : List ℕ) (one other : Verdict) → IsVerdict report want one → IsVerdict report want other → one ≡ other
 

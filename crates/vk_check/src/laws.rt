@@ -1,10 +1,11 @@
 //! Laws of what is checked.
 ghost use Rattle.vk_check.specs.Certificates.{CertificatesAreLeast};
 ghost use Rattle.vk_check.specs.Checked.{YesIsExact};
-ghost use Rattle.vk_check.specs.Verdicts.{NoMeansDifferent, VerdictIsOne};
+ghost use Rattle.vk_check.specs.Verdicts.{NoMeansDifferent, VerdictExists, VerdictIsOne};
 
-/// Two texts have one verdict, and it is no only where they differ.
+/// Two texts have a verdict and no other, and it is no only where they differ.
 pub fn a_verdict_is_one()
+    ensures exists { VerdictExists }
     ensures one { VerdictIsOne }
     ensures no { NoMeansDifferent }
 {}
