@@ -1,5 +1,5 @@
 -- The files of a folder with their bytes, and what is answered of them.
-use Rattle.std.specs.Prelude.{◌≡◌, ◌≤◌, ◌<◌, ◌++◌, [], ◌∷◌, ℕ, List, length, Some, Result, Ok, Err}
+use Rattle.std.specs.Prelude.{◌≡◌, ◌≤◌, ◌<◌, ◌++◌, [], ◌∷◌, ℕ, List, length, Some, IfSome, Result, Ok, Err, IfErr}
 use Rattle.std.specs.List.{Contains, sum_by}
 use Rattle.std.specs.Prelude.{map}
 use Rattle.std.specs.declared.cmp.Ordering.TheVariants.{Less}
@@ -7,6 +7,7 @@ use Rattle.sha2.specs.Sha256.{sha256}
 use Rattle.vk_spec.specs.Paths.{Path}
 use Rattle.vk_spec.specs.Lists.{NoRepeats}
 use Rattle.vk_spec.specs.Standing.{Disk}
+use Rattle.vk_base.specs.Stops.{stop_fault_in}
 use Rattle.vk_base.specs.declared.limits.Limit.{Limit}
 use Rattle.vk_base.specs.declared.limits.Limit.TheVariants as limit
 use Rattle.vk_base.specs.declared.stops.Stop.{Stop}
@@ -71,3 +72,17 @@ FolderTold most folder (Ok digests) d = FolderIs most folder (Ok digests) d
 FolderTold most folder (Err (Fault fault)) d = FolderIs most folder (Err fault) d
 FolderTold most folder (Err Failed) d = Unit {0}
 FolderTold most folder (Err (Memory m)) d = Unit {0}
+
+-- the limits that a folder may pass: those of a walk, and that of so many bytes
+abbrev pub IsFolderLimit : ℕ → Limit → Type 0
+IsFolderLimit most limit.Depth = Unit {0}
+IsFolderLimit most limit.Entries = Unit {0}
+IsFolderLimit most limit.Files = Unit {0}
+IsFolderLimit most (limit.Bytes n) = n ≡ most
+IsFolderLimit most (limit.Facts n) = ⊥
+IsFolderLimit most limit.Tmp = ⊥
+IsFolderLimit most limit.Damaged = ⊥
+
+-- where the answer is a limit, this holds of it
+abbrev pub OnLimit : {A : Type 0} → Result A (Stop Limit) → (Limit → Type 0) → Type 0
+OnLimit result P = IfErr result (λ e. IfSome (stop_fault_in e) P)

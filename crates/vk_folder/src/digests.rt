@@ -1,11 +1,11 @@
 //! The digests of the files below a folder.
-ghost use Rattle.std.specs.Prelude.{◌≡◌};
+ghost use Rattle.std.specs.Prelude.{◌≡◌, ℕ, IfOk};
 ghost use Rattle.vk_spec.specs.States.{OnlyRead, IsNarrow};
 ghost use Rattle.vk_spec.specs.Standing.{OnFiles};
 ghost use Rattle.vk_base.specs.Paths.{IsPath};
 ghost use Rattle.vk_base.specs.Stops.{has_failed};
 ghost use Rattle.vk_tree.specs.Walked.{IsTreeDisk};
-ghost use Rattle.vk_folder.specs.Folders.{FolderTold};
+ghost use Rattle.vk_folder.specs.Folders.{FolderTold, IsFolderLimit, OnLimit};
 ghost use Rattle.vk_folder.specs.Hashed.{OnlyPieces, PathsTold, AddedIs, DigestsTold, AreSeenFiles};
 ghost use Rattle.vk_folder.specs.Hashed.{unwalked};
 
@@ -28,8 +28,8 @@ pub struct FileDigest {
 /// The digests of the files below a folder, each file once, in the order of the texts of their
 /// paths; none where nothing lies below it. `Entries`, `Files` and `Depth` come exactly where a
 /// walk of the folder passes that limit first, and else `Bytes(most)` exactly where the files have
-/// more than so many bytes together. Nothing but listing and reading is done, and at most 65,536
-/// bytes are read at once.
+/// more than so many bytes together. Over any tree no other limit comes. Nothing but listing and
+/// reading is done, and at most 65,536 bytes are read at once.
 pub fn folder_digests<T: Tree>(
     alloc: Global,
     tree: &mut T,
@@ -37,6 +37,7 @@ pub fn folder_digests<T: Tree>(
     most: u64,
 ) -> Result<List<FileDigest>, Stop<Limit>>
     ensures is { OnFiles (FolderTold most folder.now result) (T.state tree.old) }
+    ensures limits { OnLimit result (IsFolderLimit most) }
     ensures reads { OnlyRead (has_failed result) (T.state tree.old) (T.state tree.new) }
     ensures narrow { IsNarrow 65536 (T.state tree.old) (T.state tree.new) }
     ensures tree { OnFiles IsTreeDisk (T.state tree.old) }
@@ -52,6 +53,7 @@ fn paths_below<T: Tree>(
     folder: &TreePath,
 ) -> Result<List<TreePath>, Stop<Limit>>
     ensures is { OnFiles (PathsTold folder.now result) (T.state tree.old) }
+    ensures limits { (most : ℕ) → OnLimit result (IsFolderLimit most) }
     ensures reads { OnlyPieces (has_failed result) (T.state tree.old) (T.state tree.new) }
     ensures tree { OnFiles IsTreeDisk (T.state tree.old) }
 {
@@ -88,6 +90,8 @@ fn add_digest<T: Tree>(
     ensures path { IsPath seen }
     ensures is { OnFiles (AddedIs folder.now seen room digests.old result digests.new)
         (T.state tree.old) }
+    ensures limits { OnLimit result (IsFolderLimit room.most) }
+    ensures most { IfOk result (λ after. after.most ≡ room.most) }
     ensures reads { OnlyPieces (has_failed result) (T.state tree.old) (T.state tree.new) }
 {
     let Some(file) = hash_below(alloc, tree, folder, &seen, room)? else {
@@ -110,6 +114,7 @@ fn digests_of<T: Tree>(
 ) -> Result<List<FileDigest>, Stop<Limit>>
     requires { OnFiles (AreSeenFiles folder.now paths) (T.state tree.old) }
     ensures is { OnFiles (DigestsTold most folder.now result) (T.state tree.old) }
+    ensures limits { OnLimit result (IsFolderLimit most) }
     ensures reads { OnlyPieces (has_failed result) (T.state tree.old) (T.state tree.new) }
 {
     let mut digests = List::new(alloc);

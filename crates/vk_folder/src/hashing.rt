@@ -1,9 +1,10 @@
 //! The digest of one file.
-ghost use Rattle.std.specs.Prelude.{◌≡◌, ◌∷◌, ◌++◌, [], IfOk, Some};
+ghost use Rattle.std.specs.Prelude.{◌≡◌, ◌∷◌, ◌++◌, [], IfOk, IfSome, Some};
 ghost use Rattle.vk_spec.specs.Paths.{Path};
 ghost use Rattle.vk_spec.specs.Standing.{OnFiles};
 ghost use Rattle.vk_base.specs.Paths.{IsPath};
 ghost use Rattle.vk_base.specs.Stops.{has_failed};
+ghost use Rattle.vk_folder.specs.Folders.{IsFolderLimit, OnLimit};
 ghost use Rattle.vk_folder.specs.Hashed.{OnlyPieces, HashedIs, SeenIs};
 
 use crate::pieces::feed;
@@ -27,6 +28,8 @@ fn hash_file<T: Tree>(
     room: Room,
 ) -> Result<Option<Hashed>, Stop<Limit>>
     ensures is { OnFiles (HashedIs path.now room result) (T.state tree.old) }
+    ensures limits { OnLimit result (IsFolderLimit room.most) }
+    ensures most { IfOk result (λ o. IfSome o (λ file. file.room.most ≡ room.most)) }
     ensures reads { OnlyPieces (has_failed result) (T.state tree.old) (T.state tree.new) }
 {
     let mut run = DigestRun::new();
@@ -71,6 +74,8 @@ pub(crate) fn hash_below<T: Tree>(
 ) -> Result<Option<Hashed>, Stop<Limit>>
     ensures path { IsPath seen.now }
     ensures is { OnFiles (SeenIs folder.now seen.now room result) (T.state tree.old) }
+    ensures limits { OnLimit result (IsFolderLimit room.most) }
+    ensures most { IfOk result (λ o. IfSome o (λ file. file.room.most ≡ room.most)) }
     ensures reads { OnlyPieces (has_failed result) (T.state tree.old) (T.state tree.new) }
 {
     match path_below(alloc, folder, seen)? {

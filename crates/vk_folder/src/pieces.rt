@@ -4,6 +4,7 @@ ghost use Rattle.vk_spec.specs.Standing.{OnFiles};
 ghost use Rattle.vk_base.specs.Stops.{was_out, has_failed};
 ghost use Rattle.vk_tree.specs.Walked.{IsTreeDisk};
 ghost use Rattle.vk_tree.specs.Answers.{read_answer};
+ghost use Rattle.vk_folder.specs.Folders.{IsFolderLimit, OnLimit};
 ghost use Rattle.vk_folder.specs.Hashed.{OnlyPieces, PieceIs, FedIs, found_in, most_piece};
 
 use crate::rooms::Room;
@@ -45,6 +46,8 @@ pub(crate) fn feed<T: Tree>(
     room: Room,
 ) -> Result<Option<Room>, Stop<Limit>>
     ensures is { OnFiles (FedIs path.now room run.old run.new result) (T.state tree.old) }
+    ensures limits { OnLimit result (IsFolderLimit room.most) }
+    ensures most { IfOk result (λ o. IfSome o (λ after. after.most ≡ room.most)) }
     ensures reads { OnlyPieces (has_failed result) (T.state tree.old) (T.state tree.new) }
 {
     let mut room = room;

@@ -21,6 +21,7 @@ returns-in_err-room-clause-reads g c =
 
 pub loop-path-preserved : goal.loop-path-preserved
 loop-path-preserved g c = record {
+  most = c.in_ok-room.ensures.most ∙ c.loop-path.invariant.most;
   files = next_on c.args.most c.args.folder.now c.args.paths (into_iter_items c.next.new.self) c.loop-path.room c.in_ok-room.room c.loop-path.digests c.add_digest.new.digests c.in-Some.path c.in_ok-room.ensures.path
       c.loop-path.invariant.reads c.requires c.in_ok-room.ensures.is
       (subst (λ l. OnFiles (SoFar c.args.most c.args.folder.now c.args.paths l c.loop-path.room c.loop-path.digests) (g.T.Tree.state c.args.tree.now)) c.in-Some.ensures.steps.0 c.loop-path.invariant.files);
