@@ -9,6 +9,7 @@ ghost use Rattle.vk_resolution.specs.Planning.{order_of};
 ghost use Rattle.vk_model.specs.FaultViews.{item_view};
 ghost use Rattle.vk_model.specs.SettingViews.{instance_view, setting_view};
 ghost use Rattle.vk_triplet.specs.Meanings.{meaning_of};
+ghost use Rattle.vk_folder.specs.Folders.{IsFolderLimit, OnLimit};
 ghost use Rattle.vk_abi_text.specs.Views.{dep_view, file_view, source_view};
 ghost use Rattle.vk_abi.specs.Plans.{TextsTold, pair_view, triplet_named};
 ghost use Rattle.vk_abi.specs.Written.{PairTold, dep_by, deps_by, input_by, pair_by, shared_in};
@@ -35,8 +36,8 @@ pub struct AbiPair {
 /// each item that of its build by this builder. A folder's files are listed once and read once, in
 /// pieces of at most 65,536 bytes. A limit comes exactly where a folder passes it, the first in
 /// the order of the plan: `Entries`, `Files` and `Depth` as a walk of the folder passes them, and
-/// `Bytes` where its files have more than `max_bytes` bytes together. `Failed` comes only where
-/// the tree's count of faults may have increased.
+/// `Bytes(max_bytes)` where its files have more than so many bytes together. Over any tree no other
+/// limit comes. `Failed` comes only where the tree's count of faults may have increased.
 pub fn texts<T: Tree>(
     alloc: Global,
     tree: &mut T,
@@ -50,6 +51,7 @@ pub fn texts<T: Tree>(
     ensures is { NoRepeats (order_of (map item_view plan.now.items)) → OnFiles (TextsTold
         (record { builder = builder.now; setting = setting_view setting.now; most = max_bytes })
         (zip (map item_view plan.now.items) folders.now) result) (T.state tree.old) }
+    ensures limits { OnLimit result (IsFolderLimit max_bytes) }
     ensures reads { OnlyRead (has_failed result) (T.state tree.old) (T.state tree.new) }
     ensures narrow { IsNarrow 65536 (T.state tree.old) (T.state tree.new) }
 {
@@ -97,6 +99,7 @@ fn pair_at<T: Tree>(
     ensures is { OnFiles (PairTold (shared_in job.entry)
         (map (λ i. instance_view i.inst) job.entry.items.now) (item_view item.now, folder.now)
         (map pair_view done.now) result) (T.state tree.old) }
+    ensures limits { OnLimit result (IsFolderLimit job.entry.most) }
     ensures reads { OnlyRead (has_failed result) (T.state tree.old) (T.state tree.new) }
     ensures narrow { IsNarrow 65536 (T.state tree.old) (T.state tree.new) }
 {
