@@ -1,17 +1,38 @@
 //! What recorded builds make.
 
 use crate::jobs::{HOST, TARGET, instance_of, item_of, triplet_of};
-use vk_base::{Instance, List, Unread};
+use vk_base::{Instance, List, Memory, Unread};
 use vk_entry::{Package, PackageFile};
 use vk_expr::Marks;
 use vk_model::Item;
 use vk_recipe::{Child, Job, RecipeFault, build};
 use vk_row_text::{Reply, cut};
 
+// So many blanks.
+fn blanks(count: &str, reply: &mut Reply) -> List<u8> {
+    let alloc = reply.alloc();
+    let count = reply.number(count);
+    match vec![in alloc; b' '; count] {
+        Ok(blanks) => List::from_vec(blanks),
+        Err(lack) => {
+            reply.lack(Memory::from(lack));
+            List::new(alloc)
+        }
+    }
+}
+
+// The bytes that a word stands for: those of a token, or `blanks=N` for so many blanks.
+fn bytes_of(word: &str, reply: &mut Reply) -> List<u8> {
+    match word.strip_prefix("blanks=") {
+        Some(count) => blanks(count, reply),
+        None => reply.bytes(word),
+    }
+}
+
 // Puts a file into a package.
 fn put(package: &mut Package, path: &str, bytes: &str, reply: &mut Reply) {
     let path = reply.path(path);
-    let bytes = reply.bytes(bytes);
+    let bytes = bytes_of(bytes, reply);
     if let Err(memory) = package.put(path, bytes) {
         reply.lack(memory);
     }
@@ -169,8 +190,8 @@ fn with_marks(marks: &Marks, row: &str, reply: &mut Reply) {
 
 /// `build native|foreign FEATURES CHILDREN RECIPE`: the files of the package that the recorded
 /// build makes of `a`, or why it makes none. The port's folder has the files `src/a.h` and
-/// `copyright`, and the recorded build unless that is `none`; the children are `none`, `own`,
-/// `host` or `both` of the packages of `t`.
+/// `copyright`, and the recorded build unless that is `none`, where `blanks=N` stands for so many
+/// blanks; the children are `none`, `own`, `host` or `both` of the packages of `t`.
 pub fn answer(rest: &str, reply: &mut Reply) {
     let (native, row) = cut(rest);
     if let Some(triplet) = triplet_of(TARGET, reply) {
