@@ -274,6 +274,7 @@ def read_words():
     parser.add_argument("--program", required=True, metavar="PATH")
     parser.add_argument("--beside", metavar="PATH", help="a program to compare with")
     parser.add_argument("--words", default=WORDS, help="the programs' words (%(default)s)")
+    parser.add_argument("--beside-words", help="other words for the program to compare with")
     parser.add_argument("--runs", type=int, default=15, help="of each program (%(default)s)")
     parser.add_argument("--seconds", type=float, default=60,
                         help="after which a project's runs end (%(default)s)")
@@ -287,10 +288,13 @@ def main():
     for program in programs:
         if not os.access(program, os.X_OK):
             sys.exit(f"measure: {program} can't be run")
+    all_words = [words.words, words.beside_words or words.words]
+    commands = [[program, *shlex.split(own)] for program, own in zip(programs, all_words)]
     names = [os.path.basename(program) for program in programs]
     if len(set(names)) < len(names):
         names = programs
-    commands = [[program, *shlex.split(words.words)] for program in programs]
+    if len(set(names)) < len(names):
+        names = [command[1] for command in commands]
     for project in words.projects:
         for folder in projects_in(project):
             measure(folder, names, commands, words)
