@@ -2,6 +2,7 @@
 use Rattle.std.proofs.Common.{◌≡◌, refl, ap, sym, ◌∙◌, subst, ℕ, List, [], ◌∷◌, map}
 use Rattle.std.specs.Prelude.{Option, Some, None, Result, Ok, Err}
 use Rattle.std.specs.List.{zip}
+use Rattle.vk_spec.specs.Paths.{Path}
 use Rattle.vk_spec.specs.Files.{Files}
 use Rattle.vk_spec.specs.Standing.{disk_of}
 use Rattle.vk_spec.specs.Earlies.{Early}
@@ -10,7 +11,7 @@ use Rattle.vk_resolution.specs.Givens.{Pages}
 use Rattle.vk_resolution.specs.Settings.{ListsOff}
 use Rattle.vk_resolution.specs.RootLaws.{with_off}
 use Rattle.vk_resolution.specs.Planning.{Item, instance_key}
-use Rattle.vk_resolution.specs.Outcomes.{planned, refused}
+use Rattle.vk_resolution.specs.Outcomes.{Outcome, planned, refused}
 use Rattle.vk_resolution.proofs.Orders.{ascending_one}
 use Rattle.vk_resolution.proofs.RootNameLemmas.{off_list_is_one}
 use Rattle.vk_resolution.proofs.PlannerLemmas.{outcome_is_not_too_many, one_outcome_one_report}
@@ -23,6 +24,9 @@ use Rattle.vk_opening.specs.Configurations.{config_in}
 use Rattle.vk_opening.specs.Openings.{Opening, opened_of, setting_with, opening_with, triplets_of, overlays_of, after_root, after_config, after_triplets, after_overlays}
 use Rattle.vk_opening.specs.Opened.{ListsOwnOff}
 use Rattle.vk_pages.specs.Pages.{page_of}
+use Rattle.vk_files.specs.Kept.{Seen, absent, too_large, holds}
+use Rattle.vk_report.specs.Reports.{whole_report}
+use Rattle.vk_check.proofs.CompareLemmas.{verdict_is_one}
 use Rattle.vk_abi.specs.Plans.{Shared, TextsAre}
 use Rattle.vk_abi.proofs.Uniques.{texts_are_one}
 use Rattle.vk_app.specs.declared.requests.Task.{Task}
@@ -31,7 +35,8 @@ use Rattle.vk_app.specs.Requests.{Request, project_of}
 use Rattle.vk_app.specs.Resolutions.{Resolution, early, resolved, too_many, IsSettingOf, Settles}
 use Rattle.vk_app.specs.Shown.{Shown}
 use Rattle.vk_app.specs.Texts.{place_of, shared_of, shown_at, ShowsPlaced, ShowsText}
-use Rattle.vk_app.specs.Answers.{ShowsTask, ShowsSettled, ShowsRead, IsAnswerTo}
+use Rattle.vk_app.specs.Checks.{report_at, verdict_shown, ShowsVerdict, ShowsAgainst, ShowsSeen}
+use Rattle.vk_app.specs.Answers.{ShowsTask, ShowsSettled, ShowsEarly, ShowsRead, files_for, IsAnswerTo}
 use Rattle.vk_spec.proofs.ReadingLemmas.{bind_ok}
 
 -- the settings of an opening are one but for what is off, and allow as many requirements as the project
@@ -108,9 +113,31 @@ same_text shared start files i (resolved (planned items reasons)) one other a b 
 same_text shared start files i (resolved (refused lines reasons)) one other a b = a ∙ sym b
 same_text shared start files i (too_many n) one other a b = a ∙ sym b
 
+-- a report that is checked
+same_verdict : (bytes : List ℕ) (wanted : Result Outcome Early) (one other : Shown) → ShowsVerdict bytes wanted one → ShowsVerdict bytes wanted other → one ≡ other
+same_verdict bytes wanted one other a b = a.2 ∙ ap verdict_shown (verdict_is_one bytes (whole_report wanted) a.0 b.0 a.1 b.1) ∙ sym b.2
+
+same_against : (bytes : List ℕ) (r : Resolution) (one other : Shown) → ShowsAgainst bytes r one → ShowsAgainst bytes r other → one ≡ other
+same_against bytes (early e) one other a b = same_verdict bytes (Err e) one other a b
+same_against bytes (resolved o) one other a b = same_verdict bytes (Ok o) one other a b
+same_against bytes (too_many n) one other a b = a ∙ sym b
+
+same_seen : (path : Path) (seen : Seen) (r : Resolution) (one other : Shown) → ShowsSeen path seen r one → ShowsSeen path seen r other → one ≡ other
+same_seen path absent r one other a b = a ∙ sym b
+same_seen path too_large r one other a b = a ∙ sym b
+same_seen path (holds bytes) r one other a b = same_against bytes r one other a b
+
 same_shows : (t : Task) (setting : Setting) (start : Start) (files : Files) (r : Resolution) (one other : Shown) → ShowsTask t setting start files r one → ShowsTask t setting start files r other → one ≡ other
 same_shows (task.Plan project) setting start files r one other a b = a ∙ sym b
 same_shows (task.Abi project i) setting start files r one other a b = same_text (shared_of project setting) start files (instance_view i) r one other a b
+same_shows (task.Check project report) setting start files r one other a b = same_seen report (report_at report files) r one other a b
+same_shows (task.SelfLoad size project) setting start files r one other a b = a ∙ sym b
+
+same_early : (t : Task) (e : Early) (files : Files) (one other : Shown) → ShowsEarly t e files one → ShowsEarly t e files other → one ≡ other
+same_early (task.Plan project) e files one other a b = a ∙ sym b
+same_early (task.Abi project i) e files one other a b = a ∙ sym b
+same_early (task.Check project report) e files one other a b = same_seen report (report_at report files) (early e) one other a b
+same_early (task.SelfLoad size project) e files one other a b = a ∙ sym b
 
 -- under one setting
 one_settled : (t : Task) (setting : Setting) (start : Start) (files : Files) (one other : Shown) → ShowsSettled t setting start files one → ShowsSettled t setting start files other → one ≡ other
@@ -119,11 +146,11 @@ one_settled t setting start files one other a b =
     same_shows t setting start files b.0 one other (subst (λ r. ShowsTask t setting start files r one) same a.2) b.2
 
 one_read : (t : Task) (files : Files) (read : Result Opening Early) → opened_of (project_of t) files ≡ read → (one other : Shown) → ShowsRead t read files one → ShowsRead t read files other → one ≡ other
-one_read t files (Err e) is one other a b = a ∙ sym b
+one_read t files (Err e) is one other a b = same_early t e files one other a b
 one_read t files (Ok opening) is one other a b =
     let same = same_setting (project_of t) opening a.setting b.setting (opening_form (project_of t) files opening is) a.is_setting b.is_setting in
     one_settled t b.setting opening.start files one other (subst (λ s. ShowsSettled t s opening.start files one) same a.shows) b.shows
 
 pub one_answer : (request : Request) (files : Files) (one other : Shown) → IsAnswerTo request files one → IsAnswerTo request files other → one ≡ other
 one_answer (Err fault) files one other a b = a ∙ sym b
-one_answer (Ok t) files one other a b = one_read t files (opened_of (project_of t) files) refl one other a b
+one_answer (Ok t) files one other a b = one_read t (files_for t files) (opened_of (project_of t) (files_for t files)) refl one other a b

@@ -23,6 +23,7 @@ use Rattle.vk_resolution.specs.Givens.{Pages}
 use Rattle.vk_resolution.specs.Closures.{HasTooManyFacts}
 use Rattle.vk_resolution.specs.Planner.{inputs_of}
 use Rattle.vk_model.specs.FaultViews.{outcome_view}
+use Rattle.vk_model.specs.EarlyViews.{early_view}
 use Rattle.vk_model.specs.SettingViews.{setting_view}
 use Rattle.vk_model.specs.declared.earlies.Early.{Early}
 use Rattle.vk_model.specs.declared.plans.Outcome.{Outcome}
@@ -48,15 +49,15 @@ use Rattle.vk_resolve.specs.Resolved.{IsResolved}
 use Rattle.vk_app.specs.declared.requests.Task.{Task}
 use Rattle.vk_app.specs.declared.requests.Task.TheVariants as task
 use Rattle.vk_app.specs.Requests.{project_of}
-use Rattle.vk_app.specs.Asked.{IsOfPages, IsOfOpened, IsOfProject}
+use Rattle.vk_app.specs.Asked.{AsksNothing, IsOfPages, IsOfOpened, IsOfProject}
 use Rattle.vk_app.specs.Once.{AreOnce, ReadsFor, asks_once}
 use Rattle.vk_app.specs.Resolutions as the
 use Rattle.vk_app.specs.Resolutions.{Resolution, Settles}
 use Rattle.vk_app.specs.Resolved.{resolution_of, Resolves, OpenedShows, OpenedMayAsk, IsReady, IsOpenedFor}
 use Rattle.vk_app.specs.Shown.{Shown, shown_for, told, limit_line}
-use Rattle.vk_app.specs.Answers.{ShowsSettled, ShowsRead, IsAnswerTo}
+use Rattle.vk_app.specs.Answers.{ShowsSettled, ShowsEarly, ShowsRead, ShowsProject}
 use Rattle.vk_app.specs.Runs.{MayPass}
-use Rattle.vk_app.specs.Ends.{EndsFor, MayEnd, done, refused, limited, lacking, broken, EndsWith, whole, short, shown_of, shown_out}
+use Rattle.vk_app.specs.Ends.{EndsFor, MayEnd, done, refused, limited, lacking, broken, EndsWith, whole, short, shown_of, shown_load, shown_out}
 use Rattle.vk_app.proofs.AnswerLemmas.{opening_form}
 use Rattle.vk_app.proofs.ReadLemmas.{not_read}
 
@@ -104,18 +105,25 @@ not_failed project (Err (stop.Fault fault)) four = refl
 not_failed project (Err stop.Failed) four = absurd (four refl)
 not_failed project (Err (stop.Memory m)) four = refl
 
+-- a task that ends with this, unless memory runs out before that is told
+pub ends_by : (t : Task) (Answers : Files → Shown → Type 0) (May : Files → Path → Type 0) (earlier : List Path) (first shown : Shown) (failed : Bool) (a b : State)
+    → MayEnd (Ok t) first failed → (first.status ≢ 4 → failed ≡ false) → IfSome a.told (λ f. first.status ≢ 3 → first.status ≢ 4 → Answers f.files first)
+    → ReadsFor (asks_once (Ok t)) May earlier failed a b → EndsWith first shown → EndsFor (Ok t) Answers May earlier shown a b
+ends_by t Answers May earlier first shown failed a b may calm content reads whole = record { failed = failed; may = may; reads = reads; content = content }
+ends_by t Answers May earlier first shown failed a b may calm content reads (short four) = record {
+  failed = false;
+  may = lacking (Ok t);
+  reads = subst (λ f. ReadsFor (asks_once (Ok t)) May earlier f a b) (calm four) reads;
+  content = of_each a.told (λ f three other. absurd (three refl));
+}
+
 -- a task whose project comes to this, and that shows it
 pub ends_with : (t : Task) (Answers : Files → Shown → Type 0) (May : Files → Path → Type 0) (earlier : List Path) (answer : Result Outcome (Stop CloseFault)) (shown : Shown) (a b : State)
     → MayPass t (limit.Facts (project_of t).max_facts)
     → IfSome a.told (λ f. (shown_of (project_of t) answer).status ≢ 3 → (shown_of (project_of t) answer).status ≢ 4 → Answers f.files (shown_of (project_of t) answer))
     → ReadsFor (asks_once (Ok t)) May earlier (has_failed answer) a b → EndsWith (shown_of (project_of t) answer) shown → EndsFor (Ok t) Answers May earlier shown a b
-ends_with t Answers May earlier answer shown a b pass content reads whole = record { failed = has_failed answer; may = may_end t answer pass; reads = reads; content = content }
-ends_with t Answers May earlier answer shown a b pass content reads (short four) = record {
-  failed = false;
-  may = lacking (Ok t);
-  reads = subst (λ f. ReadsFor (asks_once (Ok t)) May earlier f a b) (not_failed (project_of t) answer four) reads;
-  content = of_each a.told (λ f three other. absurd (three refl));
-}
+ends_with t Answers May earlier answer shown a b pass content reads ends =
+    ends_by t Answers May earlier (shown_of (project_of t) answer) shown (has_failed answer) a b (may_end t answer pass) (not_failed (project_of t) answer) content reads ends
 
 -- what is shown of an answer is what a plan shows, but for a failure and out of memory
 shows_plan : (project : Project) (setting : Setting) (start : Start) (files : Files) (answer : Result Outcome (Stop CloseFault)) → setting.max_facts ≡ project.max_facts → Resolves (Settles setting (page_of start files)) answer
@@ -134,6 +142,34 @@ plan_ends project setting start answer shown a b ready resolves reads ends =
     ends_with (task.Plan project) _ _ _ answer shown a b refl
     (of_both a.told ready resolves (λ t r h three four. shows_plan project (setting_view setting) (start_view start) t.files answer r.most h three four)) reads ends
 
+-- ---- a load
+
+load_may_end : (size : ℕ) (project : Project) (answer : Result Outcome (Stop CloseFault)) → MayEnd (Ok (task.SelfLoad size project)) (shown_load size project answer) (has_failed answer)
+load_may_end size project (Ok (outcome.Planned plan reasons)) = done (task.SelfLoad size project) _
+load_may_end size project (Ok (outcome.Refused faults reasons)) = refused (task.SelfLoad size project) _
+load_may_end size project (Ok (outcome.Early early)) = refused (task.SelfLoad size project) _
+load_may_end size project (Err e) = may_end (task.SelfLoad size project) (Err e) refl
+
+load_not_failed : (size : ℕ) (project : Project) (answer : Result Outcome (Stop CloseFault)) → (shown_load size project answer).status ≢ 4 → has_failed answer ≡ false
+load_not_failed size project (Ok o) four = refl
+load_not_failed size project (Err e) four = not_failed project (Err e) four
+
+shows_load : (size : ℕ) (project : Project) (setting : Setting) (start : Start) (files : Files) (answer : Result Outcome (Stop CloseFault)) → setting.max_facts ≡ project.max_facts → Resolves (Settles setting (page_of start files)) answer
+    → (shown_load size project answer).status ≢ 3 → (shown_load size project answer).status ≢ 4 → ShowsSettled (task.SelfLoad size project) setting start files (shown_load size project answer)
+shows_load size project setting start files (Ok o) most h three four = (resolution_of (outcome_view o), h, refl)
+shows_load size project setting start files (Err (stop.Fault (Facts n))) most h three four = (the.too_many n, h, ap (λ k. told 6 (limit_line (limit.Facts k))) (sym (h.1 ∙ most)))
+shows_load size project setting start files (Err stop.Failed) most h three four = absurd (four refl)
+shows_load size project setting start files (Err (stop.Memory m)) most h three four = absurd (three refl)
+
+pub load_ends : (size : ℕ) (project : Project) (setting : made.Setting) (start : made_start.Start) (answer : Result Outcome (Stop CloseFault)) (shown : Shown) (a b : State)
+    → IfSome a.told (λ t. IsReady project setting start t.files)
+    → IfSome a.told (λ t. Resolves (Settles (setting_view setting) (page_of (start_view start) t.files)) answer)
+    → ReadsFor true (IsOfPages (start_view start)) (paths_of (opened_files start)) (has_failed answer) a b → EndsWith (shown_load size project answer) shown
+    → EndsFor (Ok (task.SelfLoad size project)) (ShowsSettled (task.SelfLoad size project) (setting_view setting) (start_view start)) (IsOfPages (start_view start)) (paths_of (opened_files start)) shown a b
+load_ends size project setting start answer shown a b ready resolves reads ends =
+    ends_by (task.SelfLoad size project) _ _ _ (shown_load size project answer) shown (has_failed answer) a b (load_may_end size project answer) (load_not_failed size project answer)
+    (of_both a.told ready resolves (λ t r h three four. shows_load size project (setting_view setting) (start_view start) t.files answer r.most h three four)) reads ends
+
 -- the world's tree tells what its setting was opened on
 pub ready_kept : (project : Project) (setting : made.Setting) (start : made_start.Start) (s : State) → IfSome s.told (λ t. IsReady project setting start t.files) → IfSome s.told (λ t. IsOf t.files (opened_files start))
 ready_kept project setting start s ready = IfSome_then s.told ready (λ t r. r.kept)
@@ -149,26 +185,22 @@ ends_ready task o setting start shown read a b is kept ends =
     let same : read ≡ opened_files start = rw is at kept in
     rw (is, same) ends
 
--- an early line
-pub ends_early : (task : Task) (o : Opened) (e : Early) (shown : Shown) (earlier : List Path) (s : State) → o ≡ opened.Refused e → NoRepeats earlier
-    → EndsWith (shown_for (resolution_of (outcome_view (outcome.Early e)))) shown → EndsFor (Ok task) (OpenedShows task o) (OpenedMayAsk o) earlier shown s s
-ends_early task o e shown earlier s is distinct whole = rw is (record {
-  failed = false;
-  may = refused task _;
-  reads = not_read (asks_once (Ok task)) (OpenedMayAsk (opened.Refused e)) earlier s distinct;
-  content = of_each s.told (λ t three four. refl);
-})
-ends_early task o e shown earlier s is distinct (short four) = rw is (record {
-  failed = false;
-  may = lacking (Ok task);
-  reads = not_read (asks_once (Ok task)) (OpenedMayAsk (opened.Refused e)) earlier s distinct;
-  content = of_each s.told (λ t three other. absurd (three refl));
-})
+-- an early line is told
+pub ends_early : (t : Task) (Answers : Files → Shown → Type 0) (e : Early) (shown : Shown) (earlier : List Path) (s : State) → ((files : Files) → Answers files (shown_for (the.early (early_view e)))) → NoRepeats earlier
+    → EndsWith (shown_for (resolution_of (outcome_view (outcome.Early e)))) shown → EndsFor (Ok t) Answers AsksNothing earlier shown s s
+ends_early t Answers e shown earlier s shows distinct ends =
+    ends_by t Answers AsksNothing earlier (shown_for (the.early (early_view e))) shown false s s (refused t _) (λ four. refl)
+    (of_each s.told (λ f three four. shows f.files)) (not_read (asks_once (Ok t)) AsksNothing earlier s distinct) ends
+
+-- what a task shows of an early line is what it shows of what was opened
+pub ends_refused : (t : Task) (o : Opened) (e : Early) (shown : Shown) (earlier : List Path) (a b : State) → o ≡ opened.Refused e
+    → EndsFor (Ok t) (ShowsEarly t (early_view e)) AsksNothing earlier shown a b → EndsFor (Ok t) (OpenedShows t o) (OpenedMayAsk o) earlier shown a b
+ends_refused t o e shown earlier a b is ends = rw is ends
 
 -- ---- opening, and then the rest
 
 -- what is known of the files before is known of those after
-told_after : {failed : Bool} {a b : State} (P : Files → Type 0) → OnlyRead failed a b → IfSome a.told (λ t. P t.files) → IfSome b.told (λ t. P t.files)
+pub told_after : {failed : Bool} {a b : State} (P : Files → Type 0) → OnlyRead failed a b → IfSome a.told (λ t. P t.files) → IfSome b.told (λ t. P t.files)
 told_after {a = a} {b = b} P r h = by a.told b.told r.looks.told h
   where
     by : (one other : Option Told) → other ≡ with_asked r.asked one → IfSome one (λ t. P t.files) → IfSome other (λ t. P t.files)
@@ -187,7 +219,7 @@ opened_right project (opened.Ready setting start) before after opens =
     (of_both before.told (opening.start_right opens) opens.content (λ t kept tells. record { kept = kept; most = opens_most project setting start t.files tells.0 }))
 opened_right project (opened.Refused e) before after opens = of_each after.told (λ t. tt)
 
-opened_shows : (task : Task) (o : Opened) (files : Files) (shown : Shown) → Tells (Ok o) (opened_of (project_of task) files) → OpenedShows task o files shown → IsAnswerTo (Ok task) files shown
+opened_shows : (task : Task) (o : Opened) (files : Files) (shown : Shown) → Tells (Ok o) (opened_of (project_of task) files) → OpenedShows task o files shown → ShowsProject task files shown
 opened_shows task (opened.Ready setting start) files shown tells h =
     subst (λ read. ShowsRead task read files shown) (sym tells.0)
     (record { setting = setting_view setting; is_setting = record { off = (setting_view setting).off; setting_is = refl; lists = tells.1 }; shows = h })
@@ -230,7 +262,7 @@ once_opened false project o a b asked opens paths = tt
 
 -- a project that was opened, and what came of it
 pub ends_opened : (task : Task) (o : Opened) (shown : Shown) (a b c : State) (opens : Opens (project_of task) (Ok o) a b)
-    → EndsFor (Ok task) (OpenedShows task o) (OpenedMayAsk o) (paths_of opens.read) shown b c → EndsFor (Ok task) (IsAnswerTo (Ok task)) (IsOfProject (project_of task)) [] shown a c
+    → EndsFor (Ok task) (OpenedShows task o) (OpenedMayAsk o) (paths_of opens.read) shown b c → EndsFor (Ok task) (ShowsProject task) (IsOfProject (project_of task)) [] shown a c
 ends_opened task o shown a b c opens ends = record {
   failed = ends.failed;
   may = ends.may;
@@ -253,6 +285,6 @@ opening_alone once project o a b opens = record {
   paths = once_alone once project o a b opens;
 }
 
-pub ends_unopened : (task : Task) (o : Outage) (shown : Shown) (a b : State) → Opens (project_of task) (Err o) a b → shown ≡ shown_out o → EndsFor (Ok task) (IsAnswerTo (Ok task)) (IsOfProject (project_of task)) [] shown a b
+pub ends_unopened : (task : Task) (o : Outage) (shown : Shown) (a b : State) → Opens (project_of task) (Err o) a b → shown ≡ shown_out o → EndsFor (Ok task) (ShowsProject task) (IsOfProject (project_of task)) [] shown a b
 ends_unopened task outage.Failed shown a b opens is = rw is (record { failed = true; may = broken task; reads = opening_alone (asks_once (Ok task)) (project_of task) outage.Failed a b opens; content = of_each a.told (λ t three four. absurd (four refl)) })
 ends_unopened task (outage.Memory m) shown a b opens is = rw is (record { failed = false; may = lacking (Ok task); reads = opening_alone (asks_once (Ok task)) (project_of task) (outage.Memory m) a b opens; content = of_each a.told (λ t three four. absurd (three refl)) })

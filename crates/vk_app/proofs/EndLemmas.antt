@@ -15,14 +15,19 @@ use Rattle.vk_base.specs.Stops.{fault_in}
 use Rattle.vk_base.specs.declared.stops.Unread.{Unread}
 use Rattle.vk_base.specs.declared.stops.Unread.TheVariants as unread
 use Rattle.vk_words.specs.declared.faults.WordFault.{WordFault}
+use Rattle.vk_spec.specs.Paths.{Path}
+use Rattle.vk_base.specs.declared.instances.Instance.{Instance}
+use Rattle.vk_model.specs.declared.projects.Project.{Project}
+use Rattle.vk_gen.specs.Loads.{load_files, load_state}
 use Rattle.vk_app.specs.declared.requests.Task.{Task}
-use Rattle.vk_app.specs.Asked.{IsOfProject, MayAsk}
+use Rattle.vk_app.specs.declared.requests.Task.TheVariants as task
+use Rattle.vk_app.specs.Asked.{IsOfProject, LeavesTree, MayAsk}
 use Rattle.vk_app.specs.Once.{asks_once}
 use Rattle.vk_app.specs.Requests.{Request, project_of}
-use Rattle.vk_app.specs.Shown.{Shown, memory_line, tree_line, output_line}
-use Rattle.vk_app.specs.Answers.{IsAnswerTo}
+use Rattle.vk_app.specs.Shown.{Shown, told, memory_line, tree_line, output_line}
+use Rattle.vk_app.specs.Answers.{IsAnswerTo, ShowsProject}
 use Rattle.vk_app.specs.Runs.{Outside, IsCalm, Shows, ShowsAnswer, IsSure, HasCauses, IsLine, of_words, of_limit, of_memory, of_tree, of_output, TellsLine, TookSome, TookFault, TookLimit, KeepsOut, JudgesWords, RunsAs}
-use Rattle.vk_app.specs.Ends.{EndsAs, EndsFor, Tells, MayEnd, malformed, done, refused, limited, lacking, broken, whole, short, WordsEnd, line_after, told_status}
+use Rattle.vk_app.specs.Ends.{EndsAs, EndsFor, EndsOverLoad, Tells, MayEnd, malformed, done, refused, limited, lacking, broken, whole, short, WordsEnd, line_after, told_status}
 use Rattle.vk_app.proofs.AnswerLemmas.{one_answer}
 use Rattle.vk_app.proofs.ReadLemmas.{not_read}
 
@@ -282,10 +287,15 @@ status_err status before after may (both false true sent line is) err = inr (inr
 status_err status before after may (both true false sent line is) err = inr (inr is)
 status_err status before after may (both true true sent line is) err = inr (inr is)
 
+-- a malformed command line leaves the tree
+err_leaves : (request : Request) → IsErr request → LeavesTree request
+err_leaves (Ok task) e = (cc)
+err_leaves (Err fault) e = tt {0}
+
 judges_words : (request : Request) (shown : Shown) (status : ℕ) (before after : Outside) → EndsAs request shown before.tree after.tree → TellsBy shown status before after → JudgesWords request status before after
 judges_words request shown status before after ends parts = record {
-  only = λ two. let err = two_is_err ends.ends.may (status_two status before after parts two) in (err, ends.unread err);
-  comes = λ err. (status_err status before after ends.ends.may parts err, ends.unread err);
+  only = λ two. let err = two_is_err ends.ends.may (status_two status before after parts two) in (err, ends.unread (err_leaves request err));
+  comes = λ err. (status_err status before after ends.ends.may parts err, ends.unread (err_leaves request err));
 }
 
 -- ---- the answer
@@ -341,6 +351,7 @@ runs_as request shown status before after ends t =
       out = keeps_out request shown status before after ends t;
       err = tells_line status before after ends.ends.may parts;
       reads = record { failed = ends.ends.failed; reads = ends.ends.reads };
+      still = λ leaves. ends.unread leaves;
       small = small status before after ends.ends.may parts;
     }
 
@@ -356,5 +367,52 @@ ends_of_words request (unread.Fault fault) shown s is (short four) = unasked req
 ends_of_words request (unread.Memory m) shown s is end = rw end (unasked request _ s (lacking request) (of_each s.told (λ t three other. absurd (three refl))))
 
 -- a task that was read
-pub ends_asked : (request : Request) (task : Task) (shown : Shown) (a b : State) → request ≡ Ok task → EndsFor (Ok task) (IsAnswerTo (Ok task)) (IsOfProject (project_of task)) [] shown a b → EndsAs request shown a b
-ends_asked request task shown a b is ends = rw is (record { ends = ends; unread = λ err. (cc) })
+pub ends_asked : (request : Request) (t : Task) (shown : Shown) (a b : State) → request ≡ Ok t → EndsAs (Ok t) shown a b → EndsAs request shown a b
+ends_asked request t shown a b is ends = rw is ends
+
+-- ---- a task over the files of the tree
+
+pub ends_plan : (t : Task) (project : Project) (shown : Shown) (a b : State) → t ≡ task.Plan project → EndsFor (Ok t) (ShowsProject t) (IsOfProject (project_of t)) [] shown a b → EndsAs (Ok t) shown a b
+ends_plan t project shown a b is ends = rw is (over (rw is at ends))
+  where
+    over : EndsFor (Ok (task.Plan project)) (ShowsProject (task.Plan project)) (IsOfProject project) [] shown a b → EndsAs (Ok (task.Plan project)) shown a b
+    over e = record { ends = record { failed = e.failed; may = e.may; reads = record { only = e.reads.only; paths = e.reads.paths }; content = e.content }; unread = λ leaves. absurd leaves }
+
+pub ends_abi : (t : Task) (project : Project) (i : Instance) (shown : Shown) (a b : State) → t ≡ task.Abi project i → EndsFor (Ok t) (ShowsProject t) (IsOfProject (project_of t)) [] shown a b → EndsAs (Ok t) shown a b
+ends_abi t project i shown a b is ends = rw is (over (rw is at ends))
+  where
+    over : EndsFor (Ok (task.Abi project i)) (ShowsProject (task.Abi project i)) (IsOfProject project) [] shown a b → EndsAs (Ok (task.Abi project i)) shown a b
+    over e = record { ends = record { failed = e.failed; may = e.may; reads = record { only = e.reads.only; paths = e.reads.paths }; content = e.content }; unread = λ leaves. absurd leaves }
+
+pub ends_check : (t : Task) (project : Project) (report : Path) (shown : Shown) (a b : State) → t ≡ task.Check project report → EndsFor (Ok t) (ShowsProject t) (IsOfProject (project_of t)) [] shown a b → EndsAs (Ok t) shown a b
+ends_check t project report shown a b is ends = rw is (over (rw is at ends))
+  where
+    over : EndsFor (Ok (task.Check project report)) (ShowsProject (task.Check project report)) (IsOfProject project) [] shown a b → EndsAs (Ok (task.Check project report)) shown a b
+    over e = record { ends = record { failed = e.failed; may = e.may; reads = record { only = e.reads.only; paths = e.reads.paths }; content = e.content }; unread = λ leaves. absurd leaves }
+
+-- ---- a load
+
+-- how a task ends over a tree in memory with the load's files, of which no call is to fail
+pub over_load : (t : Task) (size : ℕ) (shown : Shown) (a b : State) → a ≡ load_state size → EndsFor (Ok t) (ShowsProject t) (IsOfProject (project_of t)) [] shown a b → EndsOverLoad t size shown
+over_load t size shown a b is ends =
+    let sure : a.sure ≡ true = ap (λ (s : State). s.sure) is in
+    let calm : ends.failed ≡ false = ends.reads.only.looks.ends.safe sure in
+    let content : shown.status ≢ 3 → shown.status ≢ 4 → ShowsProject t (load_files size) shown =
+    subst (λ (s : State). IfSome s.told (λ f. shown.status ≢ 3 → shown.status ≢ 4 → ShowsProject t f.files shown)) is ends.content in
+    record {
+      may = subst (MayEnd (Ok t) shown) calm ends.may;
+      content = λ three. content three (λ four. let clash : true ≡ false = sym (four_failed ends.may four) ∙ calm in (cc));
+    }
+
+pub lacks_load : (t : Task) (size : ℕ) (shown : Shown) → shown ≡ told 3 memory_line → EndsOverLoad t size shown
+lacks_load t size shown is = rw is (record { may = lacking (Ok t); content = λ three. absurd (three refl) })
+
+-- the tree itself is left
+pub ends_load : (t : Task) (size : ℕ) (project : Project) (shown : Shown) (s : State) → t ≡ task.SelfLoad size project → EndsOverLoad t size shown → EndsAs (Ok t) shown s s
+ends_load t size project shown s is ends = rw is (over (rw is at ends))
+  where
+    over : EndsOverLoad (task.SelfLoad size project) size shown → EndsAs (Ok (task.SelfLoad size project)) shown s s
+    over e = record {
+      ends = record { failed = false; may = e.may; reads = not_read true (MayAsk (Ok (task.SelfLoad size project))) [] s tt; content = of_each s.told (λ f three four. e.content three) };
+      unread = λ leaves. refl;
+    }

@@ -1,8 +1,9 @@
 -- Words and files have an answer.
-use Rattle.std.proofs.Common.{◌≡◌, ◌⊎◌, true, ◌≤◌, ◌+◌, ◌++◌, inl, inr, ℕ, zero, suc, List, [], ◌∷◌, length, refl, ap, sym, subst, arith}
-use Rattle.std.specs.Prelude.{Result, Ok, Err}
+use Rattle.std.proofs.Common.{◌≡◌, ◌⊎◌, ◌≤◌, ◌+◌, ◌++◌, inl, inr, ℕ, zero, suc, List, [], ◌∷◌, length, refl, ap, sym, subst, arith}
+use Rattle.std.specs.Prelude.{Result, Ok, Err, codes}
 use Rattle.std.proofs.lemmas.List.{length-append}
-use Rattle.vk_spec.specs.Files.{Files}
+use Rattle.vk_spec.specs.Paths.{Path}
+use Rattle.vk_spec.specs.Files.{Files, IsTree}
 use Rattle.vk_spec.specs.Earlies.{Early}
 use Rattle.vk_spec.specs.Settings.{Setting, Instance}
 use Rattle.vk_spec.specs.Catalogues.{ArePages}
@@ -26,19 +27,32 @@ use Rattle.vk_resolution.proofs.MentionLemmas.{mentioned_is_closed}
 use Rattle.vk_resolution.proofs.OffLists.{name_key-IsKey, off_is, is_in_off}
 use Rattle.vk_resolution.proofs.ClosureLemmas.{too_many}
 use Rattle.vk_resolution.proofs.PlannerLemmas.{outcome_or_too_many}
+use Rattle.vk_base.specs.declared.instances.Instance as made
+use Rattle.vk_files.specs.Kept.{Seen, absent, too_large, holds}
+use Rattle.vk_model.specs.SettingViews.{instance_view}
 use Rattle.vk_model.specs.declared.projects.Project.{Project}
+use Rattle.vk_report.specs.Reports.{whole_report}
+use Rattle.vk_check.proofs.VerdictLemmas.{some_verdict}
+use Rattle.vk_abi.specs.LawsOnPlans.{ArePaths}
+use Rattle.vk_opening.specs.Starts.{Start}
+use Rattle.vk_gen.specs.Loads.{load_files}
 use Rattle.vk_opening.specs.Openings.{Opening, opened_of}
 use Rattle.vk_opening.specs.Opened.{ListsOwnOff}
 use Rattle.vk_pages.specs.Pages.{page_of}
 use Rattle.vk_pages.proofs.PageLaws.{is_page}
+use Rattle.vk_app.specs.declared.requests.Task.{Task}
 use Rattle.vk_app.specs.declared.requests.Task.TheVariants as task
-use Rattle.vk_app.specs.Requests.{Request}
-use Rattle.vk_app.specs.Once.{asks_once}
+use Rattle.vk_app.specs.Requests.{Request, project_of}
+use Rattle.vk_app.specs.Loads.{load_shown}
 use Rattle.vk_app.specs.Resolutions as the
 use Rattle.vk_app.specs.Resolutions.{Resolution, Settles}
-use Rattle.vk_app.specs.Shown.{Shown, shown_for, told, words_line}
-use Rattle.vk_app.specs.Answers.{ShowsRead, IsAnswerTo}
+use Rattle.vk_app.specs.Shown.{Shown, shown_for, told, printed, words_line}
+use Rattle.vk_app.specs.Texts.{shared_of}
+use Rattle.vk_app.specs.Checks.{no_report, report_at, verdict_shown, ShowsAgainst, ShowsSeen}
+use Rattle.vk_app.specs.Answers.{ShowsTask, ShowsEarly, ShowsRead, ShowsProject, IsAnswerTo}
+use Rattle.vk_app.specs.AnswerLaws.{ListsNothing}
 use Rattle.vk_app.proofs.AnswerLemmas.{opening_form}
+use Rattle.vk_app.proofs.TextExistence.{some_text}
 
 -- ---- rounds end, or grow
 
@@ -85,23 +99,75 @@ off_exists base =
 
 -- ---- what a project comes to
 
-settles_some : (setting : Setting) (pages : Pages) → ArePages pages → (r : Resolution) × Settles setting pages r
+pub settles_some : (setting : Setting) (pages : Pages) → ArePages pages → (r : Resolution) × Settles setting pages r
 settles_some setting pages are = elim (outcome_or_many setting pages are) [
   | inl has ↦ (the.resolved has.outcome, (has.is_outcome, has.few))
   | inr many ↦ (the.too_many setting.max_facts, (many, refl))
 ]
 
--- a plan shows something of every project
-some_read : (project : Project) (files : Files) (read : Result Opening Early) → opened_of project files ≡ read → (shown : Shown) × ShowsRead (task.Plan project) read files shown
-some_read project files (Err e) is = (shown_for (the.early e), refl)
-some_read project files (Ok opening) is =
-    let form = opening_form project files opening is in
+-- a task shows something of all that a setting and the pages of these files come to, and of each early line
+record HasShown (t : Task) (files : Files) : Type 0 where
+  settled : (setting : Setting) (start : Start) (r : Resolution) → Settles setting (page_of start files) r → (shown : Shown) × ShowsTask t setting start files r shown
+  unopened : (e : Early) → (shown : Shown) × ShowsEarly t e files shown
+
+-- so it does of its project
+some_read : (t : Task) (files : Files) → HasShown t files → (read : Result Opening Early) → opened_of (project_of t) files ≡ read → (shown : Shown) × ShowsRead t read files shown
+some_read t files has (Err e) is = has.unopened e
+some_read t files has (Ok opening) is =
+    let form = opening_form (project_of t) files opening is in
     let off = off_exists form.base in
     let setting_is : opening.setting off.0 ≡ with_off form.base off.0 = form.settings off.0 in
     let r = settles_some (opening.setting off.0) (page_of opening.start files) (is_page opening.start files) in
-    (shown_for r.0, record { setting = opening.setting off.0; is_setting = record { off = off.0; setting_is = refl; lists = subst ListsOwnOff (sym setting_is) off.1 }; shows = (r.0, r.1, refl) })
+    let shown = has.settled (opening.setting off.0) opening.start r.0 r.1 in
+    (shown.0, record { setting = opening.setting off.0; is_setting = record { off = off.0; setting_is = refl; lists = subst ListsOwnOff (sym setting_is) off.1 }; shows = (r.0, r.1, shown.1) })
 
-pub some_answer : (request : Request) (files : Files) → asks_once request ≡ true → (shown : Shown) × IsAnswerTo request files shown
-some_answer (Err fault) files plain = (told 2 (words_line fault), refl)
-some_answer (Ok (task.Plan project)) files plain = some_read project files (opened_of project files) refl
-some_answer (Ok (task.Abi project i)) files plain = (cc)
+some_project : (t : Task) (files : Files) → HasShown t files → (shown : Shown) × ShowsProject t files shown
+some_project t files has = some_read t files has (opened_of (project_of t) files) refl
+
+-- ---- each task
+
+plan_shows : (project : Project) (files : Files) → HasShown (task.Plan project) files
+plan_shows project files = record { settled = λ setting start r settles. (shown_for r, refl); unopened = λ e. (shown_for (the.early e), refl) }
+
+load_shows : (size : ℕ) (project : Project) (files : Files) → HasShown (task.SelfLoad size project) files
+load_shows size project files = record { settled = λ setting start r settles. (load_shown size r, refl); unopened = λ e. (shown_for (the.early e), refl) }
+
+text_shows : (project : Project) (i : made.Instance) (files : Files) → IsTree files → ArePaths files → HasShown (task.Abi project i) files
+text_shows project i files tree paths = record {
+  settled = λ setting start r settles. some_text (shared_of project setting) setting start files (instance_view i) r tree paths settles;
+  unopened = λ e. (shown_for (the.early e), refl);
+}
+
+some_against : (bytes : List ℕ) (r : Resolution) → (shown : Shown) × ShowsAgainst bytes r shown
+some_against bytes (the.early e) = let v = some_verdict bytes (whole_report (Err e)) in (verdict_shown v.0, (v.0, v.1, refl))
+some_against bytes (the.resolved o) = let v = some_verdict bytes (whole_report (Ok o)) in (verdict_shown v.0, (v.0, v.1, refl))
+some_against bytes (the.too_many n) = (shown_for (the.too_many n), refl)
+
+some_seen : (path : Path) (seen : Seen) (r : Resolution) → (shown : Shown) × ShowsSeen path seen r shown
+some_seen path absent r = (printed 1 (no_report path (codes "absent")), refl)
+some_seen path too_large r = (printed 1 (no_report path (codes "large")), refl)
+some_seen path (holds bytes) r = some_against bytes r
+
+check_shows : (project : Project) (report : Path) (files : Files) → HasShown (task.Check project report) files
+check_shows project report files = record {
+  settled = λ setting start r settles. some_seen report (report_at report files) r;
+  unopened = λ e. some_seen report (report_at report files) (the.early e);
+}
+
+-- ---- each request
+
+-- where no folder is listed, whatever the files
+pub some_unlisted : (request : Request) (files : Files) → ListsNothing request → (shown : Shown) × IsAnswerTo request files shown
+some_unlisted (Err fault) files nothing = (told 2 (words_line fault), refl)
+some_unlisted (Ok (task.Plan project)) files nothing = some_project (task.Plan project) files (plan_shows project files)
+some_unlisted (Ok (task.Abi project i)) files nothing = absurd nothing
+some_unlisted (Ok (task.Check project report)) files nothing = some_project (task.Check project report) files (check_shows project report files)
+some_unlisted (Ok (task.SelfLoad size project)) files nothing = some_project (task.SelfLoad size project) (load_files size) (load_shows size project (load_files size))
+
+-- over a tree of files
+pub some_answer : (request : Request) (files : Files) → IsTree files → ArePaths files → (shown : Shown) × IsAnswerTo request files shown
+some_answer (Err fault) files tree paths = some_unlisted (Err fault) files (tt {0})
+some_answer (Ok (task.Plan project)) files tree paths = some_unlisted (Ok (task.Plan project)) files (tt {0})
+some_answer (Ok (task.Abi project i)) files tree paths = some_project (task.Abi project i) files (text_shows project i files tree paths)
+some_answer (Ok (task.Check project report)) files tree paths = some_unlisted (Ok (task.Check project report)) files (tt {0})
+some_answer (Ok (task.SelfLoad size project)) files tree paths = some_unlisted (Ok (task.SelfLoad size project)) files (tt {0})

@@ -1,7 +1,10 @@
 pub mod AnswerLemmas
+pub mod FolderLemmas
+pub mod TextExistence
 pub mod ExistenceLemmas
 pub mod ReadLemmas
 pub mod DoneLemmas
-pub mod FolderLemmas
 pub mod TextLemmas
 pub mod EndLemmas
+pub mod CheckLemmas
+pub mod AllowedLemmas

@@ -1,5 +1,5 @@
 -- The ABI text of an instance: what is found of it over a world, and how that ends.
-use Rattle.std.proofs.Common.{◌≡◌, ◌≢◌, ◌||◌, Bool, true, false, List, map, refl, ap, sym, subst, ◌∙◌}
+use Rattle.std.proofs.Common.{◌≡◌, ◌≢◌, ◌||◌, inl, inr, Bool, true, false, List, map, refl, ap, sym, subst, ◌∙◌}
 use Rattle.std.specs.Prelude.{Option, Some, None, IfSome, Result, Ok, Err}
 use Rattle.std.specs.List.{zip}
 use Rattle.std.proofs.lemmas.Option.{IfSome_then}
@@ -41,6 +41,7 @@ use Rattle.vk_pages.specs.Pages.{page_of}
 use Rattle.vk_world.specs.Worlds.{pages_in, places_in}
 use Rattle.vk_worklist.specs.declared.faults.CloseFault.{CloseFault}
 use Rattle.vk_worklist.specs.declared.faults.CloseFault.TheVariants.{Facts}
+use Rattle.vk_folder.specs.Folders.{IsFolderLimit, OnLimit}
 use Rattle.vk_abi.specs.Plans.{Shared, Pair, TextsAre, TextsTold, pair_view}
 use Rattle.vk_abi.specs.declared.plans.AbiPair.{AbiPair}
 use Rattle.vk_app.specs.declared.requests.Task.TheVariants as task
@@ -167,15 +168,16 @@ placed_text wanted items spot pairs a b is only = record {
 
 placed_out : (wanted : Wanted) (items : List Item) (spot : Spot) (e : Stop Limit) (a b : State)
     → (NoRepeats (order_of items) → OnFiles (TextsTold (shared_of wanted.project.now (setting_view wanted.setting.now)) (zip items spot.folders) (Err e)) a)
+    → OnLimit {A = List AbiPair} (Err e) (IsFolderLimit wanted.project.now.max_bytes)
     → OnlyRead (has_failed {A = List AbiPair} (Err e)) a b → EndsPlaced wanted items spot (shown_limit e) a b
-placed_out wanted items spot (stop.Fault l) a b is only = record {
+placed_out wanted items spot (stop.Fault l) a b is limits only = record {
   failed = false;
-  may = limited (task.Abi wanted.project.now wanted.instance.now) l tt;
+  may = limited (task.Abi wanted.project.now wanted.instance.now) l (inr limits);
   only = only;
   content = IfSome_then a.told (once_known _ (NoRepeats (order_of items)) a.told is) (λ t told three four once. (Err l, told once, refl));
 }
-placed_out wanted items spot stop.Failed a b is only = record { failed = true; may = broken (task.Abi wanted.project.now wanted.instance.now); only = only; content = of_each a.told (λ t three four. absurd (four refl)) }
-placed_out wanted items spot (stop.Memory m) a b is only = record { failed = false; may = lacking (Ok (task.Abi wanted.project.now wanted.instance.now)); only = only; content = of_each a.told (λ t three four. absurd (three refl)) }
+placed_out wanted items spot stop.Failed a b is limits only = record { failed = true; may = broken (task.Abi wanted.project.now wanted.instance.now); only = only; content = of_each a.told (λ t three four. absurd (four refl)) }
+placed_out wanted items spot (stop.Memory m) a b is limits only = record { failed = false; may = lacking (Ok (task.Abi wanted.project.now wanted.instance.now)); only = only; content = of_each a.told (λ t three four. absurd (three refl)) }
 
 calm_out : (e : Stop Limit) → (shown_limit e).status ≢ 4 → has_failed {A = List AbiPair} (Err e) ≡ false
 calm_out (stop.Fault l) four = refl
@@ -184,9 +186,10 @@ calm_out (stop.Memory m) four = refl
 
 pub placed_limit : (wanted : Wanted) (items : List Item) (spot : Spot) (e : Stop Limit) (shown : Shown) (a b : State)
     → (NoRepeats (order_of items) → OnFiles (TextsTold (shared_of wanted.project.now (setting_view wanted.setting.now)) (zip items spot.folders) (Err e)) a)
+    → OnLimit {A = List AbiPair} (Err e) (IsFolderLimit wanted.project.now.max_bytes)
     → OnlyRead (has_failed {A = List AbiPair} (Err e)) a b → EndsWith (shown_limit e) shown → EndsPlaced wanted items spot shown a b
-placed_limit wanted items spot e shown a b is only whole = placed_out wanted items spot e a b is only
-placed_limit wanted items spot e shown a b is only (short four) = record {
+placed_limit wanted items spot e shown a b is limits only whole = placed_out wanted items spot e a b is limits only
+placed_limit wanted items spot e shown a b is limits only (short four) = record {
   failed = false;
   may = lacking (Ok (task.Abi wanted.project.now wanted.instance.now));
   only = subst (λ f. OnlyRead f a b) (calm_out e four) only;
@@ -225,7 +228,7 @@ module _ (wanted : Wanted) (start : made_start.Start) (a b c : State) where
       → IfSome a.told (λ t. IsReady wanted.project.now wanted.setting.now start t.files) → OnlyRead (has_failed answer || was_out found) a b → Untouched (shown_of wanted.project.now answer) shown b c → Ends shown
   rest_ends answer found shown rest none resolves ready only u =
       let same : has_failed answer || was_out found ≡ has_failed answer = ap (λ f. has_failed answer || was_out f) none ∙ or_false (has_failed answer) in
-      ends_with (task.Abi wanted.project.now wanted.instance.now) _ _ _ answer shown a c tt
+      ends_with (task.Abi wanted.project.now wanted.instance.now) _ _ _ answer shown a c (inl refl)
       (of_both a.told ready resolves (λ t r h three four. shows_rest wanted.project.now wanted.instance.now (setting_view wanted.setting.now) (start_view start) t.files answer rest r.most h three four))
       (reads_again _ _ (subst (OnlyRead (has_failed answer) a) (sym u.same) (subst (λ f. OnlyRead f a b) same only))) u.ends
 

@@ -1,5 +1,5 @@
 -- How a run ends, before its bytes go out.
-use Rattle.std.specs.Prelude.{◌≡◌, ◌≢◌, ◌||◌, ℕ, Bool, true, false, List, [], Result, Ok, Err, IfSome, IsErr}
+use Rattle.std.specs.Prelude.{◌≡◌, ◌≢◌, ◌||◌, ℕ, Bool, true, false, List, [], Result, Ok, Err, IfSome}
 use Rattle.vk_spec.specs.Files.{Files}
 use Rattle.vk_spec.specs.Paths.{Path}
 use Rattle.vk_spec.specs.States.{State}
@@ -17,20 +17,22 @@ use Rattle.vk_model.specs.declared.plans.Outcome.{Outcome}
 use Rattle.vk_model.specs.declared.projects.Project.{Project}
 use Rattle.vk_worklist.specs.declared.faults.CloseFault.{CloseFault}
 use Rattle.vk_words.specs.declared.faults.WordFault.{WordFault}
+use Rattle.vk_gen.specs.Loads.{load_files}
 use Rattle.vk_app.specs.declared.requests.Task.{Task}
-use Rattle.vk_app.specs.Asked.{MayAsk}
+use Rattle.vk_app.specs.Asked.{MayAsk, LeavesTree}
 use Rattle.vk_app.specs.Once.{asks_once, ReadsFor}
 use Rattle.vk_app.specs.Requests.{Request}
 use Rattle.vk_app.specs.Resolved.{resolution_of}
 use Rattle.vk_app.specs.Shown.{Shown, shown_for, told, printed, words_line, memory_line, tree_line, output_line, limit_line}
-use Rattle.vk_app.specs.Answers.{IsAnswerTo}
+use Rattle.vk_app.specs.Answers.{IsAnswerTo, ShowsProject}
+use Rattle.vk_app.specs.Loads.{load_shown}
 use Rattle.vk_app.specs.Runs.{MayPass}
 use Rattle.vk_app.specs.declared.ends.End.{End}
 use Rattle.vk_app.specs.declared.ends.End.TheVariants as end
 
 abbrev pub end_view : End → Shown
 end_view (end.Printed status report) = printed status report
-end_view (end.Written bytes) = printed 0 bytes
+end_view (end.Written status bytes) = printed status bytes
 end_view (end.Told status line) = told status line
 end_view end.Memory = told 3 memory_line
 end_view end.TreeFailed = told 4 tree_line
@@ -54,7 +56,12 @@ pub record EndsFor (request : Request) (Answers : Files → Shown → Type 0) (M
 -- how a request and a tree end, and what is done to the tree
 pub record EndsAs (request : Request) (shown : Shown) (before after : State) : Type 0 where
   pub ends : EndsFor request (IsAnswerTo request) (MayAsk request) [] shown before after
-  pub unread : IsErr request → after ≡ before
+  pub unread : LeavesTree request → after ≡ before
+
+-- how a task ends over the files of a load of a size: what is shown of them, or out of memory
+pub record EndsOverLoad (t : Task) (size : ℕ) (shown : Shown) : Type 0 where
+  pub may : MayEnd (Ok t) shown false
+  pub content : shown.status ≢ 3 → ShowsProject t (load_files size) shown
 
 -- how it is shown that a call of the tree failed, or that memory ran out
 abbrev pub shown_out : Outage → Shown
@@ -67,6 +74,11 @@ shown_of project (Ok outcome) = shown_for (resolution_of (outcome_view outcome))
 shown_of project (Err (stop.Fault fault)) = told 6 (limit_line (limit.Facts project.max_facts))
 shown_of project (Err stop.Failed) = told 4 tree_line
 shown_of project (Err (stop.Memory m)) = told 3 memory_line
+
+-- the same of a load of a size
+abbrev pub shown_load : ℕ → Project → Result Outcome (Stop CloseFault) → Shown
+shown_load size project (Ok outcome) = load_shown size (resolution_of (outcome_view outcome))
+shown_load size project (Err stop) = shown_of project (Err stop)
 
 -- the end is this, or memory ran out before it was made
 pub data EndsWith (shown : Shown) : Shown → Type 0 where

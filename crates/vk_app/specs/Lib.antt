@@ -3,6 +3,8 @@ pub mod Requests
 pub mod Resolutions
 pub mod Shown
 pub mod Texts
+pub mod Checks
+pub mod Loads
 pub mod Answers
 pub mod Asked
 pub mod Once
@@ -10,5 +12,6 @@ pub mod Runs
 -- what functions, laws and examples say besides
 pub mod Resolved
 pub mod Ends
+pub mod Checked
 pub mod Folders
 pub mod AnswerLaws

@@ -12,11 +12,13 @@ use Rattle.vk_app.specs.Requests.{Request}
 abbrev pub AreListed : (Files → Path → Type 0) → List Path → State → Type 0
 AreListed May paths s = IfSome s.told (λ t. (path : Path) → Contains paths path → May t.files path)
 
--- a plan asks for no path twice; for an ABI text, all files of the ports' folders are read, manifests among them that were read for the plan
+-- a plan asks for no path twice; for an ABI text, all files of the ports' folders are read, manifests among them that were read for the plan; a report that is checked may be one of the project's own files
 abbrev pub asks_once : Request → Bool
 asks_once (Err fault) = true
 asks_once (Ok (task.Plan project)) = true
 asks_once (Ok (task.Abi project instance)) = false
+asks_once (Ok (task.Check project report)) = false
+asks_once (Ok (task.SelfLoad size project)) = true
 
 -- where each path is to be asked for once: after earlier ones these were, none of them again, no path twice, and none but those that may be asked for
 abbrev pub AreOnce : Bool → (Files → Path → Type 0) → List Path → List Path → State → Type 0

@@ -16,10 +16,10 @@ use Rattle.vk_opening.specs.declared.opens.Opened.{Opened}
 use Rattle.vk_opening.specs.declared.opens.Opened.TheVariants as opened
 use Rattle.vk_worklist.specs.declared.faults.CloseFault.{CloseFault}
 use Rattle.vk_worklist.specs.declared.faults.CloseFault.TheVariants.{Facts}
-use Rattle.vk_app.specs.Asked.{IsOfPages}
+use Rattle.vk_app.specs.Asked.{AsksNothing, IsOfPages}
 use Rattle.vk_app.specs.Resolutions.{Resolution, early, resolved, too_many}
-use Rattle.vk_app.specs.Shown.{Shown, shown_for}
-use Rattle.vk_app.specs.Answers.{ShowsSettled}
+use Rattle.vk_app.specs.Shown.{Shown}
+use Rattle.vk_app.specs.Answers.{ShowsSettled, ShowsEarly}
 use Rattle.vk_app.specs.declared.requests.Task.{Task}
 use Rattle.vk_model.specs.declared.projects.Project.{Project}
 use Rattle.vk_model.specs.declared.settings.Setting.{Setting}
@@ -40,12 +40,12 @@ Resolves P (Err (stop.Memory m)) = Unit {0}
 -- what a task shows of what was opened: its early line, or what it shows under its setting
 abbrev pub OpenedShows : Task → Opened → Files → Shown → Type 0
 OpenedShows task (opened.Ready setting start) files shown = ShowsSettled task (setting_view setting) (start_view start) files shown
-OpenedShows task (opened.Refused e) files shown = shown ≡ shown_for (early (early_view e))
+OpenedShows task (opened.Refused e) files shown = ShowsEarly task (early_view e) files shown
 
 -- what is asked for then: of the ports' pages, or nothing
 abbrev pub OpenedMayAsk : Opened → Files → Path → Type 0
 OpenedMayAsk (opened.Ready setting start) files path = IsOfPages (start_view start) files path
-OpenedMayAsk (opened.Refused e) files path = ⊥
+OpenedMayAsk (opened.Refused e) files path = AsksNothing files path
 
 -- what was kept of files is theirs, and as many requirements are allowed as the words say
 pub record IsReady (project : Project) (setting : Setting) (start : Start) (files : Files) : Type 0 where

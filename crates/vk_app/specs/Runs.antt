@@ -7,12 +7,13 @@ use Rattle.vk_spec.specs.Sinks.{SinkState, Taken, TookFront}
 use Rattle.vk_base.specs.declared.limits.Limit.{Limit}
 use Rattle.vk_base.specs.declared.limits.Limit.TheVariants as limit
 use Rattle.vk_words.specs.declared.faults.WordFault.{WordFault}
+use Rattle.vk_folder.specs.Folders.{IsFolderLimit}
 use Rattle.vk_app.specs.declared.requests.Task.{Task}
 use Rattle.vk_app.specs.declared.requests.Task.TheVariants as task
 use Rattle.vk_app.specs.Requests.{Request}
 use Rattle.vk_app.specs.Shown.{Shown, words_line, memory_line, tree_line, output_line, limit_line}
 use Rattle.vk_app.specs.Answers.{IsAnswerTo}
-use Rattle.vk_app.specs.Asked.{MayAsk}
+use Rattle.vk_app.specs.Asked.{MayAsk, LeavesTree}
 use Rattle.vk_app.specs.Once.{asks_once, ReadsFor}
 
 -- a tree and two sinks, by what is known of them
@@ -54,10 +55,12 @@ pub record HasCauses (status : ℕ) (before after : Outside) : Type 0 where
   pub out_rose : Rose before.out.faults after.out.faults → status ≡ 5
   pub err_rose : Rose before.err.faults after.err.faults → status ≡ 5
 
--- the limits that a task may pass: a plan that of its requirements, whatever the tree tells
+-- the limits that a task may pass: that of its requirements, and for an ABI text those of a port's folder; whatever the tree tells
 abbrev pub MayPass : Task → Limit → Type 0
 MayPass (task.Plan project) l = l ≡ limit.Facts project.max_facts
-MayPass (task.Abi project instance) l = Unit {0}
+MayPass (task.Abi project instance) l = (l ≡ limit.Facts project.max_facts) ⊎ IsFolderLimit project.max_bytes l
+MayPass (task.Check project report) l = l ≡ limit.Facts project.max_facts
+MayPass (task.SelfLoad size project) l = l ≡ limit.Facts project.max_facts
 
 -- the lines that a run with this request may write on `err`
 pub data IsLine : Request → List ℕ → Type 0 where
@@ -122,4 +125,6 @@ pub record RunsAs (request : Request) (status : ℕ) (before after : Outside) : 
   pub out : KeepsOut request status before after
   pub err : TellsLine request status before after
   pub reads : IsReadFor request before.tree after.tree
+  -- the tree is the one that was handed in where nothing of it is asked for
+  pub still : LeavesTree request → after.tree ≡ before.tree
   pub small : status ≤ 6

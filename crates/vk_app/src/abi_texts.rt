@@ -246,7 +246,7 @@ fn end_at<T: Tree>(alloc: Global, tree: &mut T, wanted: Wanted<'_>, plan: &Plan,
         &project.builder,
         project.max_bytes,
     ) {
-        Ok(pairs) => End::Written(text_of(alloc, pairs, spot.place)),
+        Ok(pairs) => End::Written(0, text_of(alloc, pairs, spot.place)),
         Err(stop) => end_of_texts(alloc, &stop),
     }
 }

@@ -18,8 +18,8 @@ use vk_report::report_bytes;
 use vk_words::{WordFault, fault_text};
 use vk_worklist::CloseFault;
 
-// What memory ran out for has an end of its own.
-fn or_memory(end: Result<End, Memory>) -> End
+/// What memory ran out for has an end of its own.
+pub fn or_memory(end: Result<End, Memory>) -> End
     ensures { (shown : Shown) → shown.status ≢ 4 → IfOk end (λ e. end_view e ≡ shown)
         → EndsWith shown (end_view result) }
 {

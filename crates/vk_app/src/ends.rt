@@ -2,16 +2,19 @@
 ghost use Rattle.std.specs.Prelude.{◌≡◌};
 ghost use Rattle.vk_app.specs.Ends.{Tells, end_view};
 
-use vk_base::{List, Text};
+use vk_base::{List, Stop, Text};
+use vk_model::Outcome;
 use vk_tree::{Sink, send};
+use vk_worklist::CloseFault;
+use vk_world::Readings;
 
 /// How a run ends, before its bytes go out.
 #[derive(Drop)]
 pub enum End {
     /// A report for standard output, under this status.
     Printed(u8, Text),
-    /// Other bytes for standard output, under status 0.
-    Written(List<u8>),
+    /// Other bytes for standard output, under this status.
+    Written(u8, List<u8>),
     /// A line for standard error, under this status.
     Told(u8, Text),
     /// Out of memory.
@@ -20,13 +23,22 @@ pub enum End {
     TreeFailed,
 }
 
+/// How a task ends, before that is told; the tree as it stands; and what is done with.
+#[derive(Drop)]
+pub struct Ended<T> {
+    pub end: End,
+    pub tree: T,
+    pub read: Option<Readings>,
+    pub outcome: Option<Result<Outcome, Stop<CloseFault>>>,
+}
+
 impl End {
     fn status(&self) -> u8
         ensures { result ≡ (end_view self.now).status }
     {
         match self {
             End::Printed(status, _) => *status,
-            End::Written(_) => 0,
+            End::Written(status, _) => *status,
             End::Told(status, _) => *status,
             End::Memory => 3,
             End::TreeFailed => 4,
@@ -38,7 +50,7 @@ impl End {
     {
         match self {
             End::Printed(_, report) => report.as_bytes(),
-            End::Written(bytes) => bytes.as_slice(),
+            End::Written(_, bytes) => bytes.as_slice(),
             End::Told(_, _) => &[],
             End::Memory => &[],
             End::TreeFailed => &[],
@@ -50,7 +62,7 @@ impl End {
     {
         match self {
             End::Printed(_, _) => &[],
-            End::Written(_) => &[],
+            End::Written(_, _) => &[],
             End::Told(_, line) => line.as_bytes(),
             End::Memory => b"memory\n",
             End::TreeFailed => b"tree failed\n",

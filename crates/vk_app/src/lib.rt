@@ -4,9 +4,11 @@
 #![tactic(auto)]
 
 mod abi_texts;
+mod checks;
 mod endings;
 mod ends;
 pub mod laws;
+mod loads;
 mod requests;
 mod runs;
 mod tasks;

@@ -6,9 +6,9 @@ ghost use Rattle.vk_app.specs.Requests.{request_of};
 ghost use Rattle.vk_app.specs.Runs.{RunsAs};
 
 use crate::endings::end_of_words;
-use crate::ends::tell;
+use crate::ends::{Ended, tell};
 use crate::requests::read_request;
-use crate::tasks::{Ended, done};
+use crate::tasks::done;
 use std::alloc::Global;
 use vk_base::{List, Stop, Word};
 use vk_model::Outcome;
@@ -55,8 +55,11 @@ fn end_of<T: Tree>(alloc: Global, words: &List<Word>, tree: T) -> Ended<T>
 /// Does what the words ask for, over a tree that is moved in and handed back. `plan` prints the
 /// report of the project on `out`: its plan with the reasons, or the faults that stand. `abi`
 /// prints the ABI text of an instance in that plan, or that it isn't planned, and the report where
-/// there is no plan. Other ends have a line on `err`: 2 for a malformed command line, 3 when out of
-/// memory, 4 where a call of the tree failed, 5 where a sink stopped, 6 where a limit was passed.
+/// there is no plan. `check` prints whether the report in a file is the one that `plan` prints, or
+/// else the first line that differs. `self-load` plans a load in memory and prints its figures; the
+/// tree isn't asked for anything. Other ends have a line on `err`: 2 for a malformed command line,
+/// 3 when out of memory, 4 where a call of the tree failed, 5 where a sink stopped, 6 where a limit
+/// was passed.
 pub fn run<T: Tree, O: Sink, E: Sink>(
     alloc: Global,
     words: &List<Word>,

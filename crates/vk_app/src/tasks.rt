@@ -1,47 +1,45 @@
 //! What is done for a task, over a tree.
-ghost use Rattle.std.specs.Prelude.{◌≡◌, ◌<◌, [], IfSome, Ok};
+ghost use Rattle.std.specs.Prelude.{◌≡◌, ◌<◌, ◌≤◌, [], IfOk, IfSome, List, Ok, true};
 ghost use Rattle.vk_spec.specs.Lists.{NoRepeats};
 ghost use Rattle.vk_spec.specs.Catalogues.{OnlyAsked, OnPages};
 ghost use Rattle.vk_base.specs.Stops.{has_failed};
-ghost use Rattle.vk_files.specs.Kept.{Kept, paths_of};
+ghost use Rattle.vk_spec.specs.Paths.{Path};
+ghost use Rattle.vk_files.specs.Kept.{IsOf, Kept, paths_of};
+ghost use Rattle.vk_model.specs.EarlyViews.{early_view};
 ghost use Rattle.vk_model.specs.SettingViews.{setting_view};
 ghost use Rattle.vk_opening.specs.Opened.{IsKept};
 ghost use Rattle.vk_opening.specs.Views.{start_view, opened_files};
 ghost use Rattle.vk_world.specs.Worlds.{state_of};
 ghost use Rattle.vk_app.specs.declared.requests.Task.TheVariants as task;
-ghost use Rattle.vk_app.specs.Answers.{IsAnswerTo, ShowsSettled};
-ghost use Rattle.vk_app.specs.Asked.{IsOfPages, IsOfProject};
-ghost use Rattle.vk_app.specs.Ends.{EndsFor, EndsWith, end_view};
+ghost use Rattle.vk_pages.specs.Pages.{page_of};
+ghost use Rattle.vk_app.specs.Answers.{ShowsEarly, ShowsProject, ShowsSettled};
+ghost use Rattle.vk_app.specs.Asked.{AsksNothing, IsOfPages, IsOfProject};
+ghost use Rattle.vk_app.specs.Ends.{EndsAs, EndsFor, EndsOverLoad, EndsWith, end_view};
+ghost use Rattle.vk_app.specs.Once.{ReadsFor};
 ghost use Rattle.vk_app.specs.Shown.{shown_for};
 ghost use Rattle.vk_model.specs.FaultViews.{outcome_view};
-ghost use Rattle.vk_app.specs.Requests.{project_of};
+ghost use Rattle.vk_app.specs.Requests.{IsAllowed, project_of};
 ghost use Rattle.vk_app.specs.Resolutions.{Settles};
 ghost use Rattle.vk_app.specs.Resolved.{IsOpenedFor, IsReady, OpenedMayAsk, OpenedShows};
 ghost use Rattle.vk_app.specs.Resolved.{Resolves, resolution_of};
 
 use crate::abi_texts::{Wanted, end_of_found, find_spot};
+use crate::checks::{Checked, check_on, check_refused};
 use crate::endings::{end_of_outage, end_of_outcome, end_of_resolved};
-use crate::ends::End;
+use crate::ends::{End, Ended};
+use crate::loads::end_of_load;
 use crate::requests::Task;
 use std::alloc::Global;
 use std::marker::Brand;
 use std::sync::ledger::{Blank, Ledger};
-use vk_base::{Instance, Steps, Stop};
-use vk_model::{Outcome, Project, Setting};
+use vk_base::{Memory, Steps, Stop};
+use vk_gen::generate;
+use vk_model::{Early, Outcome, Project, Setting};
 use vk_opening::{Opened, Start};
 use vk_resolve::resolve;
-use vk_tree::Tree;
+use vk_tree::{MemTree, Tree};
 use vk_worklist::CloseFault;
 use vk_world::{Parts, Readings, World};
-
-/// How a task ends, before that is told; the tree as it stands; and what is done with.
-#[derive(Drop)]
-pub struct Ended<T> {
-    pub end: End,
-    pub tree: T,
-    pub read: Option<Readings>,
-    pub outcome: Option<Result<Outcome, Stop<CloseFault>>>,
-}
 
 // What a setting and the pages of a world come to, with a count of steps.
 fn resolved_by<T: Tree, L: Ledger>(
@@ -62,6 +60,32 @@ fn resolved_by<T: Tree, L: Ledger>(
     resolve(alloc, world, setting, &mut steps)
 }
 
+// What a project comes to, the tree as it stands, and what was read of it.
+#[derive(Drop)]
+struct Resolved<T> {
+    outcome: Result<Outcome, Stop<CloseFault>>,
+    tree: T,
+    read: Readings,
+}
+
+// What a setting comes to, over the tree on which it was opened.
+fn resolved_on<T: Tree>(alloc: Global, setting: &Setting, start: Start, tree: T) -> Resolved<T>
+    requires { IfSome (T.state tree).told (λ t. IsOf t.files (opened_files start)) }
+    ensures content { IfSome (T.state tree).told (λ t. Resolves (Settles (setting_view setting.now)
+        (page_of (start_view start) t.files)) result.outcome) }
+    ensures reads { ReadsFor true (IsOfPages (start_view start)) (paths_of (opened_files start))
+        (has_failed result.outcome) (T.state tree) (T.state result.tree) }
+{
+    let mut world = World::on(alloc, start, tree);
+    let outcome = resolved_by::<T, Brand>(alloc, setting, &mut world, Blank::new(1));
+    let Parts { tree, read } = world.into_parts();
+    Resolved {
+        outcome,
+        tree,
+        read,
+    }
+}
+
 // Plans under a setting, over the tree on which it was opened.
 fn plan_on<T: Tree>(
     alloc: Global,
@@ -77,14 +101,38 @@ fn plan_on<T: Tree>(
         (IsOfPages (start_view start)) (paths_of (opened_files start)) (end_view result.end)
         (T.state tree) (T.state result.tree) }
 {
-    let mut world = World::on(alloc, start, tree);
-    let outcome = resolved_by::<T, Brand>(alloc, setting, &mut world, Blank::new(1));
-    let Parts { tree, read } = world.into_parts();
+    let found = resolved_on(alloc, setting, start, tree);
     Ended {
-        end: end_of_resolved(alloc, project, &outcome),
-        tree,
-        read: Some(read),
-        outcome: Some(outcome),
+        end: end_of_resolved(alloc, project, &found.outcome),
+        tree: found.tree,
+        read: Some(found.read),
+        outcome: Some(found.outcome),
+    }
+}
+
+// Plans a load of a size under its setting, over the tree on which that was opened.
+fn load_on<T: Tree>(
+    alloc: Global,
+    size: u32,
+    project: &Project,
+    setting: &Setting,
+    start: Start,
+    tree: T,
+) -> Ended<T>
+    requires { IfSome (T.state tree).told
+        (λ t. IsReady project.now setting.now start t.files) }
+    ensures { EndsFor (Ok (task.SelfLoad size project.now))
+        (ShowsSettled (task.SelfLoad size project.now) (setting_view setting.now)
+        (start_view start))
+        (IsOfPages (start_view start)) (paths_of (opened_files start)) (end_view result.end)
+        (T.state tree) (T.state result.tree) }
+{
+    let found = resolved_on(alloc, setting, start, tree);
+    Ended {
+        end: end_of_load(alloc, size, project, &found.outcome),
+        tree: found.tree,
+        read: Some(found.read),
+        outcome: Some(found.outcome),
     }
 }
 
@@ -135,6 +183,11 @@ fn done_on<T: Tree>(
             };
             text_on(alloc, wanted, start, tree)
         }
+        Task::Check(project, report) => {
+            let checked = Checked { project, report };
+            check_on(alloc, checked, setting, start, tree)
+        }
+        Task::SelfLoad(size, project) => load_on(alloc, *size, project, setting, start, tree),
     }
 }
 
@@ -152,6 +205,20 @@ fn refused<T>(alloc: Global, outcome: Outcome, tree: T) -> Ended<T>
     }
 }
 
+// Does a task for a project that didn't open, by its early line.
+fn done_refused<T: Tree>(alloc: Global, task: &Task, early: Early, tree: T) -> Ended<T>
+    ensures { (earlier : List Path) → NoRepeats earlier →
+        EndsFor (Ok task.now) (ShowsEarly task.now (early_view early)) AsksNothing earlier
+        (end_view result.end) (T.state tree) (T.state result.tree) }
+{
+    match task {
+        Task::Plan(_) => refused(alloc, Outcome::Early(early), tree),
+        Task::Abi(_, _) => refused(alloc, Outcome::Early(early), tree),
+        Task::Check(_, report) => check_refused(alloc, report, early, tree),
+        Task::SelfLoad(_, _) => refused(alloc, Outcome::Early(early), tree),
+    }
+}
+
 // Does a task for a project that was opened, or tells the early line.
 fn done_opened<T: Tree>(alloc: Global, task: &Task, opened: Opened, tree: T) -> Ended<T>
     requires { IfSome (T.state tree).told (λ t. IsOpenedFor (project_of task.now) opened t.files) }
@@ -161,13 +228,13 @@ fn done_opened<T: Tree>(alloc: Global, task: &Task, opened: Opened, tree: T) -> 
 {
     match opened {
         Opened::Ready { setting, start } => done_on(alloc, task, &setting, start, tree),
-        Opened::Refused(early) => refused(alloc, Outcome::Early(early), tree),
+        Opened::Refused(early) => done_refused(alloc, task, early, tree),
     }
 }
 
-/// Does a task over a tree: opens its project and shows what it comes to.
-pub fn done<T: Tree>(alloc: Global, task: &Task, mut tree: T) -> Ended<T>
-    ensures { EndsFor (Ok task.now) (IsAnswerTo (Ok task.now)) (IsOfProject (project_of task.now))
+// Does a task over the files of a tree: opens its project and shows what it comes to.
+fn done_over<T: Tree>(alloc: Global, task: &Task, mut tree: T) -> Ended<T>
+    ensures { EndsFor (Ok task.now) (ShowsProject task.now) (IsOfProject (project_of task.now))
         [] (end_view result.end) (T.state tree) (T.state result.tree) }
 {
     match World::open(alloc, &mut tree, task.project(), None) {
@@ -178,5 +245,51 @@ pub fn done<T: Tree>(alloc: Global, task: &Task, mut tree: T) -> Ended<T>
             read: None,
             outcome: None,
         },
+    }
+}
+
+// Does a task over the files of a load, as a tree in memory.
+fn done_over_load(alloc: Global, task: &Task, size: u32) -> Result<Ended<MemTree>, Memory>
+    requires some { 1 ≤ size }
+    requires most { size ≤ 2000 }
+    ensures { IfOk result (λ ended. EndsOverLoad task.now size (end_view ended.end)) }
+{
+    let load = generate(alloc, size)?;
+    Ok(done_over(alloc, task, load))
+}
+
+// Does a task over the files of a load; the tree stays as it is.
+fn done_load<T>(alloc: Global, task: &Task, size: u32, tree: T) -> Ended<T>
+    requires some { 1 ≤ size }
+    requires most { size ≤ 2000 }
+    ensures end { EndsOverLoad task.now size (end_view result.end) }
+    ensures tree { result.tree ≡ tree }
+{
+    match done_over_load(alloc, task, size) {
+        Ok(ended) => Ended {
+            end: ended.end,
+            tree,
+            read: ended.read,
+            outcome: ended.outcome,
+        },
+        Err(_) => Ended {
+            end: End::Memory,
+            tree,
+            read: None,
+            outcome: None,
+        },
+    }
+}
+
+/// Does a task: over the files of a tree, or over those of a load, which leaves the tree as it is.
+pub fn done<T: Tree>(alloc: Global, task: &Task, tree: T) -> Ended<T>
+    requires { IsAllowed task.now }
+    ensures { EndsAs (Ok task.now) (end_view result.end) (T.state tree) (T.state result.tree) }
+{
+    match task {
+        Task::Plan(_) => done_over(alloc, task, tree),
+        Task::Abi(_, _) => done_over(alloc, task, tree),
+        Task::Check(_, _) => done_over(alloc, task, tree),
+        Task::SelfLoad(size, _) => done_load(alloc, task, *size, tree),
     }
 }

@@ -1,8 +1,9 @@
-use Rattle.vk_app.proofs.DoneLemmas.{ends_ready, ends_early}
+use Rattle.vk_files.specs.Kept.{paths_of}
+use Rattle.vk_app.proofs.DoneLemmas.{ends_ready, ends_refused}
 use Rattle.vk_app.proofs.tasks.done_opened.Goals as goal
 
 pub returns-in-Ready : goal.returns-in-Ready
 returns-in-Ready g c = λ read is distinct. ends_ready c.args.task.now c.args.opened c.in-Ready.setting c.in-Ready.start _ read _ _ c.in-Ready.is is c.done_on.ensures
 
 pub returns-in-Refused : goal.returns-in-Refused
-returns-in-Refused g c = λ read is distinct. rw (c.refused.ensures.tree) (ends_early c.args.task.now c.args.opened c.in-Refused.early _ _ _ c.in-Refused.is distinct c.refused.ensures.end)
+returns-in-Refused g c = λ read is distinct. ends_refused c.args.task.now c.args.opened c.in-Refused.early _ (paths_of read) _ _ c.in-Refused.is (c.done_refused.ensures (paths_of read) distinct)

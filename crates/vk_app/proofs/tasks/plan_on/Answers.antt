@@ -1,20 +1,8 @@
-use Rattle.vk_files.specs.Kept.{paths_of}
-use Rattle.vk_model.specs.SettingViews.{setting_view}
-use Rattle.vk_opening.specs.Views.{start_view, opened_files}
-use Rattle.vk_world.specs.Worlds.{state_of}
-use Rattle.vk_app.specs.Resolutions.{Settles}
-use Rattle.vk_app.specs.Resolved.{Resolves}
-use Rattle.vk_app.proofs.DoneLemmas.{plan_ends, pages_told, ready_kept}
-use Rattle.vk_app.proofs.ReadLemmas.{tree_read_once}
+use Rattle.vk_app.proofs.DoneLemmas.{plan_ends, ready_kept}
 use Rattle.vk_app.proofs.tasks.plan_on.Goals as goal
 
 pub returns : goal.returns
-returns g c = plan_ends c.args.project.now c.args.setting.now c.args.start c.resolved_by-outcome.result _ (g.T.Tree.state c.args.tree) _ c.requires
-    (pages_told (start_view c.args.start) (g.T.Tree.state c.args.tree).told (state_of g.T.Tree.state c.on-world.result).pages
-    (λ pages. Resolves (Settles (setting_view c.args.setting.now) pages) c.resolved_by-outcome.result) c.on-world.ensures.pages c.resolved_by-outcome.ensures.content)
-    (tree_read_once (start_view c.args.start) (paths_of (opened_files c.args.start)) g.T.Tree.state c.on-world.result c.resolved_by-outcome.new.world c.args.tree c.into_parts-tree.result.tree
-    c.on-world.ensures.tree c.into_parts-tree.ensures.tree c.on-world.ensures.origin c.resolved_by-outcome.ensures.asked c.into_parts-tree.ensures.read)
-    c.end_of_resolved.ensures
+returns g c = plan_ends c.args.project.now c.args.setting.now c.args.start c.resolved_on-found.result.outcome _ (g.T.Tree.state c.args.tree) _ c.requires c.resolved_on-found.ensures.content c.resolved_on-found.ensures.reads c.end_of_resolved.ensures
 
-pub on-world-requires : goal.on-world-requires
-on-world-requires g c = ready_kept c.args.project.now c.args.setting.now c.args.start (g.T.Tree.state c.args.tree) c.requires
+pub resolved_on-found-requires : goal.resolved_on-found-requires
+resolved_on-found-requires g c = ready_kept c.args.project.now c.args.setting.now c.args.start (g.T.Tree.state c.args.tree) c.requires

@@ -1,0 +1,74 @@
+-- An instance has an ABI text, or what is shown in its place, over a tree of files.
+use Rattle.std.proofs.Common.{◌≡◌, ◌∷◌, ◌∙◌, ℕ, List, [], map, refl, ap, sym, subst}
+use Rattle.std.specs.Prelude.{Option, Some, None, option_map, Result, Ok, Err}
+use Rattle.std.specs.List.{Contains, zip}
+use Rattle.vk_spec.specs.Paths.{Path}
+use Rattle.vk_spec.specs.Files.{Files, IsTree}
+use Rattle.vk_spec.specs.Versions.{Version, ask_of}
+use Rattle.vk_spec.specs.Pages.{version_in}
+use Rattle.vk_spec.specs.Settings.{Setting, Instance}
+use Rattle.vk_spec.proofs.ListLemmas.{contains_first, contains_later}
+use Rattle.vk_base.specs.declared.limits.Limit.{Limit}
+use Rattle.vk_resolution.specs.Planning.{Item}
+use Rattle.vk_resolution.specs.Outcomes.{planned, refused}
+use Rattle.vk_opening.specs.Starts.{Start}
+use Rattle.vk_pages.specs.Homes.{home_of}
+use Rattle.vk_pages.specs.Pages.{page_at, page_of}
+use Rattle.vk_pages.proofs.PageLaws.{is_page}
+use Rattle.vk_world.specs.HomeNotes.{FoundHome}
+use Rattle.vk_world.specs.Listed.{listed_in}
+use Rattle.vk_world.specs.VersionFolders.{version_folder, folder_found, place_in}
+use Rattle.vk_world.proofs.ListedLemmas.{some_is, version_on_page, folder_of_listed}
+use Rattle.vk_abi.specs.Plans.{Shared, Pair}
+use Rattle.vk_abi.specs.LawsOnPlans.{ArePaths}
+use Rattle.vk_abi.proofs.Existence.{texts_exist}
+use Rattle.vk_app.specs.Resolutions.{Resolution, early, resolved, too_many, Settles}
+use Rattle.vk_app.specs.Shown.{Shown, printed, shown_for}
+use Rattle.vk_app.specs.Texts.{place_of, AreFolders, PlanTells, not_planned, shown_at, ShowsPlaced, ShowsText}
+use Rattle.vk_app.specs.Folders.{HaveItems}
+use Rattle.vk_app.proofs.FolderLemmas.{all_have_versions}
+
+-- ---- folders
+
+-- the version that a page has for its own ask stands in a folder
+listed_folder : (port : List ℕ) (files : Files) (found : FoundHome) (v : Version) → version_in (page_at port files found) (ask_of v) ≡ Some v → (folder : Path) × (folder_found found v ≡ Some folder)
+listed_folder port files found v e = by found (listed_in found (ask_of v)) refl (sym (version_on_page port files found (ask_of v)) ∙ e)
+  where
+    by : (found : FoundHome) (l : Option (Version × Path)) → listed_in found (ask_of v) ≡ l → option_map (λ (p : Version × Path). p.0) l ≡ Some v → (folder : Path) × (folder_found found v ≡ Some folder)
+    by (Err wrong) None is same = (cc)
+    by (Err wrong) (Some l) is same = (cc)
+    by (Ok home) None is same = (cc)
+    by (Ok home) (Some l) is same = (l.1, subst (λ w. version_folder home w ≡ Some l.1) (some_is same) (folder_of_listed home (ask_of v) l is))
+
+-- where each of these has something, there is a list of what they have
+all_some : {X Y : Type 0} (f : X → Option Y) (xs : List X) → ((x : X) → Contains xs x → (y : Y) × (f x ≡ Some y)) → (ys : List Y) × (map f xs ≡ map Some ys)
+all_some f [] each = ([], refl)
+all_some f (x ∷ xs) each =
+    let first = each x (contains_first x xs) in
+    let rest = all_some f xs (λ y h. each y (contains_later x y xs h)) in
+    (first.0 ∷ rest.0, ap (λ o. o ∷ map f xs) first.1 ∙ ap (λ l. Some first.0 ∷ l) rest.1)
+
+folders_exist : (start : Start) (files : Files) (items : List Item) → HaveItems (page_of start files) items → (folders : List Path) × AreFolders start files items folders
+folders_exist start files items have =
+    all_some (λ item. place_in start files item.instance.port item.version) items (λ item h. listed_folder item.instance.port files (home_of start item.instance.port files) item.version (have item h).listed)
+
+-- ---- what is shown
+
+texts_tell : (shared : Shared) (start : Start) (files : Files) (items : List Item) → IsTree files → ArePaths files → HaveItems (page_of start files) items → (texts : Result (List Pair) Limit) × PlanTells shared start files items texts
+texts_tell shared start files items tree paths have =
+    let folders = folders_exist start files items have in
+    let texts = texts_exist shared (zip items folders.0) files tree paths in
+    (texts.0, record { folders = folders.0; stand = folders.1; are = texts.1 })
+
+some_placed : (shared : Shared) (start : Start) (files : Files) (items : List Item) (i : Instance) (place : Option ℕ) → IsTree files → ArePaths files → HaveItems (page_of start files) items → (shown : Shown) × ShowsPlaced shared start files items i place shown
+some_placed shared start files items i None tree paths have = (printed 1 (not_planned i), refl)
+some_placed shared start files items i (Some k) tree paths have =
+    let texts = texts_tell shared start files items tree paths have in
+    (shown_at k texts.0, (texts.0, texts.1, refl))
+
+pub some_text : (shared : Shared) (setting : Setting) (start : Start) (files : Files) (i : Instance) (r : Resolution) → IsTree files → ArePaths files → Settles setting (page_of start files) r → (shown : Shown) × ShowsText shared start files i r shown
+some_text shared setting start files i (early e) tree paths settles = (shown_for (early e), refl)
+some_text shared setting start files i (resolved (planned items reasons)) tree paths settles =
+    some_placed shared start files items i (place_of i items) tree paths (all_have_versions setting (page_of start files) items reasons (is_page start files) settles.0)
+some_text shared setting start files i (resolved (refused lines reasons)) tree paths settles = (shown_for (resolved (refused lines reasons)), refl)
+some_text shared setting start files i (too_many n) tree paths settles = (shown_for (too_many n), refl)
