@@ -1,10 +1,10 @@
 -- The texts of a plan over a tree, step by step.
 use Rattle.std.proofs.Common.{◌≡◌, ◌<◌, ◌++◌, ◌∷◌, ◌+◌, ℕ, List, [], map, length, get_or, refl, sym, ap, ◌∙◌, subst, false, arith}
-use Rattle.std.specs.Prelude.{Result, Ok, Err}
+use Rattle.std.specs.Prelude.{Bool, Result, Ok, Err}
 use Rattle.std.specs.List.{zip}
 use Rattle.std.proofs.lemmas.List.{map-append}
 use Rattle.vk_spec.specs.Lists.{NoRepeats}
-use Rattle.vk_spec.specs.Paths.{Path}
+use Rattle.vk_spec.specs.Paths.{Path, Begins}
 use Rattle.vk_spec.specs.Settings.{Instance}
 use Rattle.vk_spec.specs.Standing.{Disk, disk_of, OnFiles}
 use Rattle.vk_spec.proofs.OptionLemmas.{of_each}
@@ -18,11 +18,12 @@ use Rattle.vk_model.specs.FaultViews.{item_view}
 use Rattle.vk_model.specs.SettingViews.{instance_view}
 use Rattle.vk_model.specs.declared.plans.Item.{Item}
 use Rattle.vk_tree.specs.Walked.{IsTreeDisk}
-use Rattle.vk_folder.specs.Folders.{File, FolderIs, FolderTold, digest_of}
+use Rattle.vk_folder.specs.Folders.{File, FolderIs, FolderTold, ReadsOnly, digest_of}
 use Rattle.vk_folder.specs.declared.digests.FileDigest.{FileDigest}
+use Rattle.vk_folder.proofs.ReadLemmas.{reads_then, reads_wider}
 use Rattle.vk_abi_text.specs.Views.{file_view}
 use Rattle.vk_abi.specs.Nodes.{file_digest}
-use Rattle.vk_abi.specs.Plans.{Shared, Placed, Pair, pair_view, TextsTold}
+use Rattle.vk_abi.specs.Plans.{IsBelowSome, Shared, Placed, Pair, pair_view, TextsTold}
 use Rattle.vk_abi.specs.Written.{pair_by, PairTold, Progress}
 use Rattle.vk_abi.specs.declared.plans.AbiPair.{AbiPair}
 use Rattle.vk_abi.proofs.ProgressLemmas.{begun, one_more, all_written, limit_passed, zip_get, zip_length}
@@ -123,3 +124,10 @@ pub comes_last : (shared : Shared) (items : List Item) (folders : List Path) (k 
 comes_last shared items folders k pairs s same whole comes each =
     files_then (λ d. Progress shared d (plan_of items folders) k (map pair_view pairs)) (TextsTold shared (plan_of items folders) (Ok pairs)) s
     (λ d p. all_written shared d (plan_of items folders) k (map pair_view pairs) (zip_length item_view items folders same ∙ whole) p) (comes each)
+
+-- ---- which files are read
+
+-- below these folders, and then below one of them
+pub reads_next : (folders : List Path) (k : ℕ) (folder : Path) {failed : Bool} {a b c : State} → k < length folders → get_or folders k folder ≡ folder
+    → ReadsOnly (IsBelowSome folders) false a b → ReadsOnly (Begins folder) failed b c → ReadsOnly (IsBelowSome folders) failed a c
+reads_next folders k folder within is x y = reads_then x (reads_wider (λ path below. (folder, (k, within, is), below)) y)

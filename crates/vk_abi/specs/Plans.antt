@@ -3,7 +3,7 @@ use Rattle.std.specs.Prelude.{◌≡◌, ◌++◌, ℕ, List, [], ◌∷◌, map
 use Rattle.std.specs.List.{Contains}
 use Rattle.std.specs.Option.{option_to_list}
 use Rattle.sha2.specs.Sha256.{sha256}
-use Rattle.vk_spec.specs.Paths.{Path}
+use Rattle.vk_spec.specs.Paths.{Path, Begins}
 use Rattle.vk_spec.specs.Settings.{Setting, Triplet}
 use Rattle.vk_spec.specs.Standing.{Disk}
 use Rattle.vk_base.specs.declared.limits.Limit.{Limit}
@@ -79,6 +79,10 @@ pair_of n = record { text = text_of n; digest = sha256 (text_of n) }
 
 abbrev pub pair_view : AbiPair → Pair
 pair_view p = record { text = p.text; digest = p.digest.bytes }
+
+-- a path that one of these folders begins
+abbrev pub IsBelowSome : List Path → Path → Type 0
+IsBelowSome folders path = (folder : Path) × Contains folders folder × Begins folder path
 
 -- the folder passes no limit
 abbrev pub IsFine : ℕ → Disk → Path → Type 0

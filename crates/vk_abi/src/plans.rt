@@ -2,16 +2,17 @@
 ghost use Rattle.std.specs.Prelude.{◌≡◌, length, map, option_map, slice_get, IfOk};
 ghost use Rattle.std.specs.List.{zip};
 ghost use Rattle.vk_spec.specs.Lists.{NoRepeats};
-ghost use Rattle.vk_spec.specs.States.{OnlyRead, IsNarrow};
+ghost use Rattle.vk_spec.specs.Paths.{Begins};
+ghost use Rattle.vk_spec.specs.States.{IsNarrow};
 ghost use Rattle.vk_spec.specs.Standing.{OnFiles};
 ghost use Rattle.vk_base.specs.Stops.{has_failed};
 ghost use Rattle.vk_resolution.specs.Planning.{order_of};
 ghost use Rattle.vk_model.specs.FaultViews.{item_view};
 ghost use Rattle.vk_model.specs.SettingViews.{instance_view, setting_view};
 ghost use Rattle.vk_triplet.specs.Meanings.{meaning_of};
-ghost use Rattle.vk_folder.specs.Folders.{IsFolderLimit, OnLimit};
+ghost use Rattle.vk_folder.specs.Folders.{IsFolderLimit, OnLimit, ReadsOnly};
 ghost use Rattle.vk_abi_text.specs.Views.{dep_view, file_view, source_view};
-ghost use Rattle.vk_abi.specs.Plans.{TextsTold, pair_view, triplet_named};
+ghost use Rattle.vk_abi.specs.Plans.{IsBelowSome, TextsTold, pair_view, triplet_named};
 ghost use Rattle.vk_abi.specs.Written.{PairTold, dep_by, deps_by, input_by, pair_by, shared_in};
 
 use std::alloc::Global;
@@ -34,10 +35,11 @@ pub struct AbiPair {
 
 /// The ABI texts of a plan's items, in their order, where the ports stand in these folders: for
 /// each item that of its build by this builder. A folder's files are listed once and read once, in
-/// pieces of at most 65,536 bytes. A limit comes exactly where a folder passes it, the first in
-/// the order of the plan: `Entries`, `Files` and `Depth` as a walk of the folder passes them, and
-/// `Bytes(max_bytes)` where its files have more than so many bytes together. Over any tree no other
-/// limit comes. `Failed` comes only where the tree's count of faults may have increased.
+/// pieces of at most 65,536 bytes, and no file is read but at these folders' paths or below them. A
+/// limit comes exactly where a folder passes it, the first in the order of the plan: `Entries`,
+/// `Files` and `Depth` as a walk of the folder passes them, and `Bytes(max_bytes)` where its files
+/// have more than so many bytes together. Over any tree no other limit comes. `Failed` comes only
+/// where the tree's count of faults may have increased.
 pub fn texts<T: Tree>(
     alloc: Global,
     tree: &mut T,
@@ -52,7 +54,8 @@ pub fn texts<T: Tree>(
         (record { builder = builder.now; setting = setting_view setting.now; most = max_bytes })
         (zip (map item_view plan.now.items) folders.now) result) (T.state tree.old) }
     ensures limits { OnLimit result (IsFolderLimit max_bytes) }
-    ensures reads { OnlyRead (has_failed result) (T.state tree.old) (T.state tree.new) }
+    ensures reads { ReadsOnly (IsBelowSome folders.now) (has_failed result) (T.state tree.old)
+        (T.state tree.new) }
     ensures narrow { IsNarrow 65536 (T.state tree.old) (T.state tree.new) }
 {
     let job = Job {
@@ -100,7 +103,8 @@ fn pair_at<T: Tree>(
         (map (λ i. instance_view i.inst) job.entry.items.now) (item_view item.now, folder.now)
         (map pair_view done.now) result) (T.state tree.old) }
     ensures limits { OnLimit result (IsFolderLimit job.entry.most) }
-    ensures reads { OnlyRead (has_failed result) (T.state tree.old) (T.state tree.new) }
+    ensures reads { ReadsOnly (Begins folder.now) (has_failed result) (T.state tree.old)
+        (T.state tree.new) }
     ensures narrow { IsNarrow 65536 (T.state tree.old) (T.state tree.new) }
 {
     let files = folder_digests(alloc, tree, folder, job.most)?;

@@ -156,11 +156,11 @@ all_told P (Some t) h = h (disk_of t.files)
 pub on_all : (P : Disk → Type 0) (s : State) → ((d : Disk) → P d) → OnFiles P s
 on_all P s h = all_told P s.told h
 
-pub next_on : (most : ℕ) (folder : Path) (paths left : List Path) (room after : Room) (old new : List FileDigest) (x : Path) {a b : State} → IsPath x → OnlyPieces false a b → OnFiles (AreSeenFiles folder paths) a
+pub next_on : (most : ℕ) (folder : Path) (paths left : List Path) (room after : Room) (old new : List FileDigest) (x : Path) {a b : State} → IsPath x → OnlyPieces folder false a b → OnFiles (AreSeenFiles folder paths) a
     → OnFiles (AddedIs folder x room old (Ok after) new) b → OnFiles (SoFar most folder paths (x ∷ left) room old) a → OnFiles (SoFar most folder paths left after new) a
 next_on most folder paths left room after old new x {a = a} path read seen added so_far =
     files_three (AreSeenFiles folder paths) (AddedIs folder x room old (Ok after) new) (SoFar most folder paths (x ∷ left) room old) (SoFar most folder paths left after new) a
-    (λ d h k l. next most folder paths left room after old new x k.0 d path h k.1 k.2 l) seen (files_back (AddedIs folder x room old (Ok after) new) read.reads added) so_far
+    (λ d h k l. next most folder paths left room after old new x k.0 d path h k.1 k.2 l) seen (files_back (AddedIs folder x room old (Ok after) new) read.reads.only added) so_far
 
 stopped_at : (most : ℕ) (folder : Path) (paths left : List Path) (room : Room) (digests : List FileDigest) (x : Path) (e : Stop Limit) (s : State) → OnFiles (AreSeenFiles folder paths) s
     → OnFiles (SeenIs folder x room (Err e)) s → OnFiles (SoFar most folder paths (x ∷ left) room digests) s → OnFiles (DigestsTold most folder (Err e)) s
@@ -170,10 +170,10 @@ stopped_at most folder paths left room digests x (Fault fault) s seen told so_fa
 stopped_at most folder paths left room digests x Failed s seen told so_far = on_all (DigestsTold most folder (Err Failed)) s (λ d. tt)
 stopped_at most folder paths left room digests x (stop.Memory m) s seen told so_far = on_all (DigestsTold most folder (Err (stop.Memory m))) s (λ d. tt)
 
-pub stopped_on : (most : ℕ) (folder : Path) (paths left : List Path) (room : Room) (digests : List FileDigest) (x : Path) (e : Stop Limit) {a b : State} → OnlyPieces false a b → OnFiles (AreSeenFiles folder paths) a
+pub stopped_on : (most : ℕ) (folder : Path) (paths left : List Path) (room : Room) (digests : List FileDigest) (x : Path) (e : Stop Limit) {a b : State} → OnlyPieces folder false a b → OnFiles (AreSeenFiles folder paths) a
     → OnFiles (SeenIs folder x room (Err e)) b → OnFiles (SoFar most folder paths (x ∷ left) room digests) a → OnFiles (DigestsTold most folder (Err e)) a
 stopped_on most folder paths left room digests x e {a = a} read seen told so_far =
-    stopped_at most folder paths left room digests x e a seen (files_back (SeenIs folder x room (Err e)) read.reads told) so_far
+    stopped_at most folder paths left room digests x e a seen (files_back (SeenIs folder x room (Err e)) read.reads.only told) so_far
 
 pub end_on : (most : ℕ) (folder : Path) (paths left : List Path) (room : Room) (digests : List FileDigest) (s : State) → left ≡ [] → OnFiles (AreSeenFiles folder paths) s → OnFiles (SoFar most folder paths left room digests) s
     → OnFiles (DigestsTold most folder (Ok digests)) s

@@ -3,5 +3,6 @@ pub mod FolderLemmas
 pub mod MemberLemmas
 pub mod PathLemmas
 pub mod PieceLemmas
+pub mod ReadLemmas
 pub mod TextLemmas
 pub mod WalkedLemmas

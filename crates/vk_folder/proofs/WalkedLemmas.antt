@@ -5,14 +5,15 @@ use Rattle.std.specs.Prelude.{IsSome, Result, Ok, Err}
 use Rattle.std.specs.List.{Contains}
 use Rattle.std.specs.declared.cmp.Ordering.TheVariants.{Less}
 use Rattle.vk_spec.specs.Paths.{Path, path_cmp, Begins}
-use Rattle.vk_spec.specs.States.{State}
+use Rattle.vk_spec.specs.States.{State, OnlyListed}
 use Rattle.vk_spec.specs.Standing.{Disk, OnFiles, IsFile, IsFolder}
 use Rattle.vk_spec.proofs.ListLemmas.{contains_nothing, contains_first}
+use Rattle.vk_base.specs.Stops.{has_failed}
 use Rattle.vk_base.specs.declared.limits.Limit.{Limit}
 use Rattle.vk_base.specs.declared.stops.Stop.{Stop}
 use Rattle.vk_base.specs.declared.stops.Stop.TheVariants.{Fault, Failed, Memory}
 use Rattle.vk_tree.specs.Walks.{deep, entries, files, FileBefore, IsCalm}
-use Rattle.vk_tree.specs.Walked.{walk_limits, Ends, WalkIs}
+use Rattle.vk_tree.specs.Walked.{walk_limits, walk_failed, Ends, WalkIs}
 use Rattle.vk_tree.specs.declared.walking.WalkFault.{WalkFault}
 use Rattle.vk_tree.specs.declared.walking.WalkFault.TheVariants.{Missing, Deep, Entries, Files}
 use Rattle.vk_tree.proofs.PlaceLemmas.{not_before_own}
@@ -20,6 +21,7 @@ use Rattle.vk_tree.proofs.OnFilesLemmas.{files_then, files_two, files_back}
 use Rattle.vk_folder.specs.declared.digests.FileDigest.{FileDigest}
 use Rattle.vk_folder.specs.Folders.{FolderIs, FolderTold}
 use Rattle.vk_folder.specs.Hashed.{OnlyPieces, AreSeenFiles, PathsTold, DigestsTold, unwalked}
+use Rattle.vk_folder.proofs.PieceLemmas.{pieces_listed}
 
 -- ---- where nothing lies below the folder
 
@@ -83,6 +85,18 @@ seen_on folder found s h = files_then (WalkIs walk_limits folder (Ok found)) (Pa
 pub unseen_on : (folder : Path) (stop : Stop WalkFault) (s : State) → OnFiles (WalkIs walk_limits folder (Err stop)) s → OnFiles (PathsTold folder (unwalked stop)) s
 unseen_on folder stop s h = files_then (WalkIs walk_limits folder (Err stop)) (PathsTold folder (unwalked stop)) s (unseen_by folder stop) h
 
+-- a walk that isn't done fails as it is told
+unwalked_alike : (stop : Stop WalkFault) → walk_failed {A = List Path} (Err stop) ≡ has_failed (unwalked stop)
+unwalked_alike (Fault Missing) = refl
+unwalked_alike (Fault Deep) = refl
+unwalked_alike (Fault Entries) = refl
+unwalked_alike (Fault Files) = refl
+unwalked_alike Failed = refl
+unwalked_alike (Memory m) = refl
+
+pub unwalked_reads : {place : Path} (stop : Stop WalkFault) {a b : State} → OnlyListed (walk_failed {A = List Path} (Err stop)) a b → OnlyPieces place (has_failed (unwalked stop)) a b
+unwalked_reads {place = place} stop {a = a} {b = b} x = subst (λ f. OnlyPieces place f a b) (unwalked_alike stop) (pieces_listed x)
+
 -- ---- what the files say
 
 files_told : (most : ℕ) (folder : Path) (result : Result (List FileDigest) (Stop Limit)) (d : Disk) → IsCalm walk_limits d folder → DigestsTold most folder result d → FolderTold most folder result d
@@ -91,6 +105,6 @@ files_told most folder (Err (Fault fault)) d calm h = subst (λ f. FolderIs most
 files_told most folder (Err Failed) d calm h = tt
 files_told most folder (Err (Memory m)) d calm h = tt
 
-pub files_on_start : (most : ℕ) (folder : Path) (paths : List Path) (result : Result (List FileDigest) (Stop Limit)) {a b : State} → OnlyPieces false a b → OnFiles (PathsTold folder (Ok paths)) a → OnFiles (DigestsTold most folder result) b → OnFiles (FolderTold most folder result) a
+pub files_on_start : (most : ℕ) (folder : Path) (paths : List Path) (result : Result (List FileDigest) (Stop Limit)) {a b : State} → OnlyPieces folder false a b → OnFiles (PathsTold folder (Ok paths)) a → OnFiles (DigestsTold most folder result) b → OnFiles (FolderTold most folder result) a
 files_on_start most folder paths result {a = a} read h k =
-    files_two (PathsTold folder (Ok paths)) (DigestsTold most folder result) (FolderTold most folder result) a (λ d p q. files_told most folder result d p.0 q) h (files_back (DigestsTold most folder result) read.reads k)
+    files_two (PathsTold folder (Ok paths)) (DigestsTold most folder result) (FolderTold most folder result) a (λ d p q. files_told most folder result d p.0 q) h (files_back (DigestsTold most folder result) read.reads.only k)

@@ -1,11 +1,12 @@
 -- The files of a folder with their bytes, and what is answered of them.
-use Rattle.std.specs.Prelude.{◌≡◌, ◌≤◌, ◌<◌, ◌++◌, [], ◌∷◌, ℕ, List, length, Some, IfSome, Result, Ok, Err, IfErr}
+use Rattle.std.specs.Prelude.{◌≡◌, ◌≤◌, ◌<◌, ◌++◌, [], ◌∷◌, ℕ, List, length, Bool, Some, IfSome, Result, Ok, Err, IfErr}
 use Rattle.std.specs.List.{Contains, sum_by}
 use Rattle.std.specs.Prelude.{map}
 use Rattle.std.specs.declared.cmp.Ordering.TheVariants.{Less}
 use Rattle.sha2.specs.Sha256.{sha256}
 use Rattle.vk_spec.specs.Paths.{Path}
 use Rattle.vk_spec.specs.Lists.{NoRepeats}
+use Rattle.vk_spec.specs.States.{State, OnlyRead}
 use Rattle.vk_spec.specs.Standing.{Disk}
 use Rattle.vk_base.specs.Stops.{stop_fault_in}
 use Rattle.vk_base.specs.declared.limits.Limit.{Limit}
@@ -86,3 +87,8 @@ IsFolderLimit most limit.Damaged = ⊥
 -- where the answer is a limit, this holds of it
 abbrev pub OnLimit : {A : Type 0} → Result A (Stop Limit) → (Limit → Type 0) → Type 0
 OnLimit result P = IfErr result (λ e. IfSome (stop_fault_in e) P)
+
+-- paths of a kind were asked for, and nothing else was done
+pub record ReadsOnly (May : Path → Type 0) (failed : Bool) (before after : State) : Type 0 where
+  pub only : OnlyRead failed before after
+  pub within : (path : Path) → Contains only.asked path → May path

@@ -3,9 +3,9 @@ use Rattle.std.specs.Prelude.{◌≡◌, ◌<◌, ◌+◌, ◌++◌, [], ◌∷�
 use Rattle.std.specs.List.{Contains}
 use Rattle.std.specs.List.Sorted.{IsSorted}
 use Rattle.sha2.specs.Sha256.{sha256}
-use Rattle.vk_spec.specs.Paths.{Path}
+use Rattle.vk_spec.specs.Paths.{Path, Begins}
 use Rattle.vk_spec.specs.Lists.{NoRepeats}
-use Rattle.vk_spec.specs.States.{State, OnlyRead, IsNarrow}
+use Rattle.vk_spec.specs.States.{State, IsNarrow}
 use Rattle.vk_spec.specs.Standing.{Disk, IsFile, IsFolder}
 use Rattle.vk_base.specs.declared.limits.Limit.{Limit}
 use Rattle.vk_base.specs.declared.limits.Limit.TheVariants as limit
@@ -24,7 +24,7 @@ use Rattle.vk_tree.specs.declared.walking.WalkFault.TheVariants as walk
 use Rattle.vk_folder.specs.declared.digests.FileDigest.{FileDigest}
 use Rattle.vk_folder.specs.declared.hashing.Hashed.{Hashed}
 use Rattle.vk_folder.specs.declared.rooms.Room.{Room}
-use Rattle.vk_folder.specs.Folders.{AreDigests, HasMoreBytes}
+use Rattle.vk_folder.specs.Folders.{AreDigests, HasMoreBytes, ReadsOnly}
 
 -- ---- room
 
@@ -44,9 +44,9 @@ Took room bytes (Err (stop.Memory m)) = ⊥
 abbrev pub most_piece : ℕ
 most_piece = 65536
 
--- folders were listed and pieces were read, and nothing else was done
-pub record OnlyPieces (failed : Bool) (before after : State) : Type 0 where
-  pub reads : OnlyRead failed before after
+-- folders were listed, pieces were read of files whose paths this one begins, and nothing else was done
+pub record OnlyPieces (place : Path) (failed : Bool) (before after : State) : Type 0 where
+  pub reads : ReadsOnly (Begins place) failed before after
   pub narrow : IsNarrow most_piece before after
 
 -- what is found where a piece is asked for

@@ -1,11 +1,12 @@
 //! The digests of the files below a folder.
 ghost use Rattle.std.specs.Prelude.{◌≡◌, ℕ, IfOk};
-ghost use Rattle.vk_spec.specs.States.{OnlyRead, IsNarrow};
+ghost use Rattle.vk_spec.specs.Paths.{Begins};
+ghost use Rattle.vk_spec.specs.States.{IsNarrow};
 ghost use Rattle.vk_spec.specs.Standing.{OnFiles};
 ghost use Rattle.vk_base.specs.Paths.{IsPath};
 ghost use Rattle.vk_base.specs.Stops.{has_failed};
 ghost use Rattle.vk_tree.specs.Walked.{IsTreeDisk};
-ghost use Rattle.vk_folder.specs.Folders.{FolderTold, IsFolderLimit, OnLimit};
+ghost use Rattle.vk_folder.specs.Folders.{FolderTold, IsFolderLimit, OnLimit, ReadsOnly};
 ghost use Rattle.vk_folder.specs.Hashed.{OnlyPieces, PathsTold, AddedIs, DigestsTold, AreSeenFiles};
 ghost use Rattle.vk_folder.specs.Hashed.{unwalked};
 
@@ -29,7 +30,8 @@ pub struct FileDigest {
 /// paths; none where nothing lies below it. `Entries`, `Files` and `Depth` come exactly where a
 /// walk of the folder passes that limit first, and else `Bytes(most)` exactly where the files have
 /// more than so many bytes together. Over any tree no other limit comes. Nothing but listing and
-/// reading is done, and at most 65,536 bytes are read at once.
+/// reading is done, no file is read but at the folder's path or below it, and at most 65,536 bytes
+/// are read at once.
 pub fn folder_digests<T: Tree>(
     alloc: Global,
     tree: &mut T,
@@ -38,7 +40,8 @@ pub fn folder_digests<T: Tree>(
 ) -> Result<List<FileDigest>, Stop<Limit>>
     ensures is { OnFiles (FolderTold most folder.now result) (T.state tree.old) }
     ensures limits { OnLimit result (IsFolderLimit most) }
-    ensures reads { OnlyRead (has_failed result) (T.state tree.old) (T.state tree.new) }
+    ensures reads { ReadsOnly (Begins folder.now) (has_failed result) (T.state tree.old)
+        (T.state tree.new) }
     ensures narrow { IsNarrow 65536 (T.state tree.old) (T.state tree.new) }
     ensures tree { OnFiles IsTreeDisk (T.state tree.old) }
 {
@@ -54,7 +57,8 @@ fn paths_below<T: Tree>(
 ) -> Result<List<TreePath>, Stop<Limit>>
     ensures is { OnFiles (PathsTold folder.now result) (T.state tree.old) }
     ensures limits { (most : ℕ) → OnLimit result (IsFolderLimit most) }
-    ensures reads { OnlyPieces (has_failed result) (T.state tree.old) (T.state tree.new) }
+    ensures reads { OnlyPieces folder.now (has_failed result) (T.state tree.old)
+        (T.state tree.new) }
     ensures tree { OnFiles IsTreeDisk (T.state tree.old) }
 {
     match walk(alloc, tree, folder) {
@@ -92,7 +96,8 @@ fn add_digest<T: Tree>(
         (T.state tree.old) }
     ensures limits { OnLimit result (IsFolderLimit room.most) }
     ensures most { IfOk result (λ after. after.most ≡ room.most) }
-    ensures reads { OnlyPieces (has_failed result) (T.state tree.old) (T.state tree.new) }
+    ensures reads { OnlyPieces folder.now (has_failed result) (T.state tree.old)
+        (T.state tree.new) }
 {
     let Some(file) = hash_below(alloc, tree, folder, &seen, room)? else {
         return Ok(room);
@@ -105,6 +110,7 @@ fn add_digest<T: Tree>(
 }
 
 // The digests of files that are seen from a folder.
+#[tactic(auto, using(crate::proofs::PieceLemmas::pieces_nothing))]
 fn digests_of<T: Tree>(
     alloc: Global,
     tree: &mut T,
@@ -115,7 +121,8 @@ fn digests_of<T: Tree>(
     requires { OnFiles (AreSeenFiles folder.now paths) (T.state tree.old) }
     ensures is { OnFiles (DigestsTold most folder.now result) (T.state tree.old) }
     ensures limits { OnLimit result (IsFolderLimit most) }
-    ensures reads { OnlyPieces (has_failed result) (T.state tree.old) (T.state tree.new) }
+    ensures reads { OnlyPieces folder.now (has_failed result) (T.state tree.old)
+        (T.state tree.new) }
 {
     let mut digests = List::new(alloc);
     let mut room = Room { most, left: most };

@@ -1,6 +1,6 @@
 //! The digest of one file.
 ghost use Rattle.std.specs.Prelude.{◌≡◌, ◌∷◌, ◌++◌, [], IfOk, IfSome, Some};
-ghost use Rattle.vk_spec.specs.Paths.{Path};
+ghost use Rattle.vk_spec.specs.Paths.{Path, Begins};
 ghost use Rattle.vk_spec.specs.Standing.{OnFiles};
 ghost use Rattle.vk_base.specs.Paths.{IsPath};
 ghost use Rattle.vk_base.specs.Stops.{has_failed};
@@ -30,7 +30,7 @@ fn hash_file<T: Tree>(
     ensures is { OnFiles (HashedIs path.now room result) (T.state tree.old) }
     ensures limits { OnLimit result (IsFolderLimit room.most) }
     ensures most { IfOk result (λ o. IfSome o (λ file. file.room.most ≡ room.most)) }
-    ensures reads { OnlyPieces (has_failed result) (T.state tree.old) (T.state tree.new) }
+    ensures reads { OnlyPieces path.now (has_failed result) (T.state tree.old) (T.state tree.new) }
 {
     let mut run = DigestRun::new();
     match feed(tree, path, &mut run, room)? {
@@ -55,6 +55,7 @@ fn path_below(alloc: Global, folder: &TreePath, seen: &TreePath) -> Result<Optio
     ensures path { IsPath seen.now }
     ensures below { (rest : Path) → seen.now ≡ (46 ∷ []) ∷ rest
         → IfOk result (λ path. path ≡ Some (folder.now ++ rest)) }
+    ensures within { IfOk result (λ o. IfSome o (Begins folder.now)) }
 {
     known(folder);
     known(seen);
@@ -76,7 +77,8 @@ pub(crate) fn hash_below<T: Tree>(
     ensures is { OnFiles (SeenIs folder.now seen.now room result) (T.state tree.old) }
     ensures limits { OnLimit result (IsFolderLimit room.most) }
     ensures most { IfOk result (λ o. IfSome o (λ file. file.room.most ≡ room.most)) }
-    ensures reads { OnlyPieces (has_failed result) (T.state tree.old) (T.state tree.new) }
+    ensures reads { OnlyPieces folder.now (has_failed result) (T.state tree.old)
+        (T.state tree.new) }
 {
     match path_below(alloc, folder, seen)? {
         Some(path) => hash_file(tree, &path, room),

@@ -20,7 +20,7 @@ fn piece_at<T: Tree>(tree: &mut T, path: &TreePath, at: u64) -> Result<Option<Li
     ensures is { OnFiles (PieceIs path.now at result) (T.state tree.old) }
     ensures tree { OnFiles IsTreeDisk (T.state tree.old) }
     ensures small { IfOk result (λ o. IfSome o (λ piece. length piece ≤ most_piece)) }
-    ensures reads { OnlyPieces (was_out result) (T.state tree.old) (T.state tree.new) }
+    ensures reads { OnlyPieces path.now (was_out result) (T.state tree.old) (T.state tree.new) }
 {
     found_in(tree.piece(path, at, PIECE))
 }
@@ -48,7 +48,7 @@ pub(crate) fn feed<T: Tree>(
     ensures is { OnFiles (FedIs path.now room run.old run.new result) (T.state tree.old) }
     ensures limits { OnLimit result (IsFolderLimit room.most) }
     ensures most { IfOk result (λ o. IfSome o (λ after. after.most ≡ room.most)) }
-    ensures reads { OnlyPieces (has_failed result) (T.state tree.old) (T.state tree.new) }
+    ensures reads { OnlyPieces path.now (has_failed result) (T.state tree.old) (T.state tree.new) }
 {
     let mut room = room;
     let mut at = 0;

@@ -9,5 +9,5 @@ abbrev pub invariant-loop-path : goal.invariant-loop-path
 invariant-loop-path g l = record {
   most : l.room.most ≡ l.most;
   files : OnFiles (SoFar l.most l.folder l.fn.paths (into_iter_items l.path-iterator) l.room l.digests) (g.T.Tree.state l.initial.tree);
-  reads : OnlyPieces false (g.T.Tree.state l.initial.tree) (g.T.Tree.state l.tree);
+  reads : OnlyPieces l.folder false (g.T.Tree.state l.initial.tree) (g.T.Tree.state l.tree);
 }

@@ -1,9 +1,17 @@
-use Rattle.std.proofs.Common.{◌≤◌, length, subst, ◌∙◌, arith}
+use Rattle.std.proofs.Common.{◌≤◌, length, refl, subst, ◌∙◌, arith}
 use Rattle.std.specs.Prelude.{IfSome, false}
 use Rattle.std.proofs.lemmas.Result.{err_from_is_err_and}
 use Rattle.vk_folder.specs.Hashed.{IsLess, most_piece}
-use Rattle.vk_folder.proofs.PieceLemmas.{pieces_then, read_out, read_over, fed_more, fed_last, fed_over}
+use Rattle.vk_folder.proofs.PieceLemmas.{pieces_nothing, pieces_then, read_out, read_over, fed_nothing, fed_more, fed_last, fed_over}
 use Rattle.vk_folder.proofs.pieces.feed.Goals as goal
+
+pub loop-piece-init : goal.loop-piece-init
+loop-piece-init g c = record {
+  most = refl;
+  left = omega arith;
+  fed = fed_nothing c.args.path.now c.args.run.now (g.T.Tree.state c.args.tree.now);
+  reads = pieces_nothing _;
+}
 
 pub returns-in_err-piece-clause-reads : goal.returns-in_err-piece-clause-reads
 returns-in_err-piece-clause-reads g c =

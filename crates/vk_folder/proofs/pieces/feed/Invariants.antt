@@ -11,7 +11,7 @@ invariant-loop-piece g l = record {
   most : l.room.most ≡ l.initial.room.most;
   left : l.room.left + l.at ≡ l.initial.room.left;
   fed : OnFiles (FedTo l.path l.at l.initial.run l.run) (g.T.Tree.state l.initial.tree);
-  reads : OnlyPieces false (g.T.Tree.state l.initial.tree) (g.T.Tree.state l.tree);
+  reads : OnlyPieces l.path false (g.T.Tree.state l.initial.tree) (g.T.Tree.state l.tree);
 }
 
 abbrev pub decreases-loop-piece : goal.decreases-loop-piece
