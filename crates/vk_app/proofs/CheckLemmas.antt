@@ -1,5 +1,5 @@
 -- A report that is checked: how it is read, and how that ends.
-use Rattle.std.proofs.Common.{◌≡◌, ◌≢◌, ◌≤◌, ◌<◌, Bool, true, false, ℕ, List, [], length, refl, ap, sym, subst, ◌∙◌, arith}
+use Rattle.std.proofs.Common.{◌≡◌, ◌≢◌, ◌⊎◌, ◌≤◌, ◌<◌, inl, inr, ◌∷◌, Bool, true, false, ℕ, List, [], length, refl, ap, sym, subst, ◌∙◌, arith}
 use Rattle.std.specs.Prelude.{Option, Some, None, IfSome, IfOk, Result, Ok, Err}
 use Rattle.std.proofs.lemmas.Bool.Decides.{nat_tests}
 use Rattle.std.proofs.lemmas.Option.{IfSome_then}
@@ -7,14 +7,15 @@ use Rattle.vk_spec.specs.Paths.{Path}
 use Rattle.vk_spec.specs.Files.{Files}
 use Rattle.vk_spec.specs.Settings.{Setting}
 use Rattle.vk_spec.specs.Earlies.{Early}
-use Rattle.vk_spec.specs.States.{State, OnlyRead}
+use Rattle.vk_spec.specs.Lists.{NoRepeats}
+use Rattle.vk_spec.specs.States.{State, Looks}
 use Rattle.vk_spec.specs.Standing.{Disk, disk_of, OnFiles}
-use Rattle.vk_spec.specs.Calls.{Made, Says, NoLonger, read_of, is_failed}
+use Rattle.vk_spec.specs.Calls.{Made, Says, NoLonger, read_of, noted, is_failed}
 use Rattle.vk_spec.specs.Catalogues.{CatalogueState, OnPages}
 use Rattle.vk_spec.specs.Conditions.{Condition}
-use Rattle.vk_spec.proofs.CallLemmas.{read_once, says_of}
+use Rattle.vk_spec.proofs.CallLemmas.{looks_of, says_of}
 use Rattle.vk_spec.proofs.OptionLemmas.{of_each, of_both}
-use Rattle.vk_spec.proofs.StateLemmas.{read_then, told_before}
+use Rattle.vk_spec.proofs.StateLemmas.{told_before}
 use Rattle.vk_base.specs.Stops.{has_failed}
 use Rattle.vk_base.specs.declared.limits.Limit.TheVariants as limit
 use Rattle.vk_base.specs.declared.stops.Stop.{Stop}
@@ -47,12 +48,14 @@ use Rattle.vk_app.specs.Resolutions.{Resolution, Settles}
 use Rattle.vk_app.specs.Resolved.{IsReady}
 use Rattle.vk_app.specs.Shown.{Shown, told, limit_line}
 use Rattle.vk_app.specs.Checks.{most_report, report_in, report_at, verdict_shown, ShowsVerdict, ShowsAgainst, ShowsSeen, ShowsCheck}
-use Rattle.vk_app.specs.Checked.{ReportIs, shown_unread, Judges, shown_judged, ShowsJudged, EndsIn, made, lacks}
+use Rattle.vk_app.specs.Asked.{Purpose, to_plan}
+use Rattle.vk_app.specs.Once.{ReadsOnce, ReadsFor}
+use Rattle.vk_app.specs.Checked.{ReportIs, ReadsReport, shown_unread, Judges, shown_judged, ShowsJudged, EndsIn, made, lacks}
 use Rattle.vk_app.specs.Answers.{ShowsSettled}
 use Rattle.vk_app.specs.Ends.{EndsFor, EndsWith, MayEnd, done, refused, limited, lacking, broken, shown_of}
-use Rattle.vk_app.proofs.DoneLemmas.{ends_by, told_after}
+use Rattle.vk_app.proofs.DoneLemmas.{ends_by}
 use Rattle.vk_app.proofs.ExistenceLemmas.{settles_some}
-use Rattle.vk_app.proofs.ReadLemmas.{reads_again}
+use Rattle.vk_app.proofs.ReadLemmas.{own_alone, own_before}
 
 -- ---- reading the report
 
@@ -80,8 +83,19 @@ read_fails (Err (stop.Fault read.TooLarge)) = refl
 read_fails (Err stop.Failed) = refl
 read_fails (Err (stop.Memory m)) = refl
 
-pub report_read : (path : Path) (answer : Result (List ℕ) (Stop ReadFault)) {a b : State} → Made (read_of path most_report) (read_answer answer) a b → OnlyRead (has_failed answer) a b
-report_read path answer m = read_once refl m (read_fails answer)
+once_noted : (path : Path) (answer : Result (List ℕ) (Stop ReadFault)) → (noted path (read_answer answer) ≡ []) ⊎ (noted path (read_answer answer) ≡ path ∷ [])
+once_noted path (Ok bytes) = inr refl
+once_noted path (Err (stop.Fault read.Missing)) = inr refl
+once_noted path (Err (stop.Fault read.TooLarge)) = inr refl
+once_noted path (Err stop.Failed) = inl refl
+once_noted path (Err (stop.Memory m)) = inl refl
+
+pub report_read : (path : Path) (answer : Result (List ℕ) (Stop ReadFault)) {a b : State} → Made (read_of path most_report) (read_answer answer) a b → ReadsReport path (has_failed answer) a b
+report_read path answer {a = a} {b = b} m = record {
+  own = noted path (read_answer answer);
+  once = once_noted path answer;
+  looks = subst (λ f. Looks (noted path (read_answer answer)) f a b) (read_fails answer) (looks_of refl m);
+}
 
 pub report_small : (answer : Result (List ℕ) (Stop ReadFault)) → NoLonger most_report (read_answer answer) → IfOk answer (λ bytes. length bytes ≤ most_report)
 report_small (Ok bytes) small = small
@@ -108,14 +122,14 @@ unread_shows report (stop.Fault read.TooLarge) files r is three four = subst (λ
 unread_shows report stop.Failed files r is three four = absurd (four refl)
 unread_shows report (stop.Memory m) files r is three four = absurd (three refl)
 
-pub ends_unread : (project : Project) (report : Path) (e : Stop ReadFault) (Answers : Files → Shown → Type 0) (May : Files → Path → Type 0) (earlier : List Path) (shown : Shown) (a b : State)
-    → ((files : Files) (first : Shown) → ((r : Resolution) → ShowsCheck report files r first) → Answers files first)
-    → OnFiles (ReportIs report (Err e)) a → OnlyRead (has_failed {A = List ℕ} (Err e)) a b → EndsWith (shown_unread report e) shown
-    → EndsFor (Ok (task.Check project report)) Answers May earlier shown a b
-ends_unread project report e Answers May earlier shown a b answers is only ends =
-    ends_by (task.Check project report) Answers May earlier (shown_unread report e) shown (has_failed {A = List ℕ} (Err e)) a b (unread_may_end project report e) (unread_calm report e)
-    (IfSome_then a.told is (λ t seen three four. answers t.files (shown_unread report e) (λ r. unread_shows report e t.files r seen three four)))
-    (reads_again May earlier only) ends
+pub ends_unread : (project : Project) (report : Path) (e : Stop ReadFault) (Answers : Files → Shown → Type 0) (May : Purpose → Files → Path → Type 0) (earlier : List Path) (shown : Shown) (a b : State)
+    → ((files : Files) (first : Shown) → ((r : Resolution) → ShowsCheck report files r first) → Answers files first) → NoRepeats earlier
+    → OnFiles (ReportIs report (Err e)) a → ReadsReport report (has_failed {A = List ℕ} (Err e)) a b → EndsWith (shown_unread report e) shown
+    → EndsFor (Ok (task.Check project report)) Answers (ReadsFor (Ok (task.Check project report)) May earlier) shown a b
+ends_unread project report e Answers May earlier shown a b answers distinct is r ends =
+    ends_by (task.Check project report) Answers (ReadsFor (Ok (task.Check project report)) May earlier) (shown_unread report e) shown (has_failed {A = List ℕ} (Err e)) a b (unread_may_end project report e) (unread_calm report e)
+    (IfSome_then a.told is (λ t seen three four. answers t.files (shown_unread report e) (λ x. unread_shows report e t.files x seen three four)))
+    (own_alone (Ok (task.Check project report)) May earlier r.own distinct r.looks r.once) ends
 
 -- under a setting, the project comes to something
 pub settles_unread : (project : Project) (report : Path) (setting : Setting) (start : Start) (files : Files) (first : Shown) → ((r : Resolution) → ShowsCheck report files r first) → ShowsSettled (task.Check project report) setting start files first
@@ -131,19 +145,19 @@ verdict_may_end project report (No line want) = refused (task.Check project repo
 against_read : (report : Path) (bytes : List ℕ) (files : Files) (r : Resolution) (shown : Shown) → ReportIs report (Ok bytes) (disk_of files) → ShowsAgainst bytes r shown → ShowsCheck report files r shown
 against_read report bytes files r shown is shows = subst (λ seen. ShowsSeen report seen r shown) (sym is) shows
 
-pub ends_against : (project : Project) (report : Path) (bytes : List ℕ) (e : Early) (May : Files → Path → Type 0) (earlier : List Path) (shown : Shown) (a b : State)
-    → OnFiles (ReportIs report (Ok bytes)) a → OnlyRead false a b → EndsIn (ShowsVerdict bytes (Err e)) shown
-    → EndsFor (Ok (task.Check project report)) (λ files s. ShowsCheck report files (the.early e) s) May earlier shown a b
-ends_against project report bytes e May earlier shown a b is only (made shows) = record {
+pub ends_against : (project : Project) (report : Path) (bytes : List ℕ) (e : Early) (May : Purpose → Files → Path → Type 0) (earlier : List Path) (shown : Shown) (a b : State) → NoRepeats earlier
+    → OnFiles (ReportIs report (Ok bytes)) a → ReadsReport report false a b → EndsIn (ShowsVerdict bytes (Err e)) shown
+    → EndsFor (Ok (task.Check project report)) (λ files s. ShowsCheck report files (the.early e) s) (ReadsFor (Ok (task.Check project report)) May earlier) shown a b
+ends_against project report bytes e May earlier shown a b distinct is r (made shows) = record {
   failed = false;
   may = subst (λ s. MayEnd (Ok (task.Check project report)) s false) (sym shows.2) (verdict_may_end project report shows.0);
-  reads = reads_again May earlier only;
+  reads = own_alone (Ok (task.Check project report)) May earlier r.own distinct r.looks r.once;
   content = IfSome_then a.told is (λ t seen three four. against_read report bytes t.files (the.early e) shown seen shows);
 }
-ends_against project report bytes e May earlier shown a b is only lacks = record {
+ends_against project report bytes e May earlier shown a b distinct is r lacks = record {
   failed = false;
   may = lacking (Ok (task.Check project report));
-  reads = reads_again May earlier only;
+  reads = own_alone (Ok (task.Check project report)) May earlier r.own distinct r.looks r.once;
   content = of_each a.told (λ t three four. absurd (three refl));
 }
 
@@ -181,29 +195,25 @@ shows_judged project bytes setting start files (Err (stop.Fault (Facts n))) most
 shows_judged project bytes setting start files (Err stop.Failed) most h three four = absurd (four refl)
 shows_judged project bytes setting start files (Err (stop.Memory m)) most h three four = absurd (three refl)
 
-pub judge_ends : (project : Project) (report : Path) (bytes : List ℕ) (setting : made_setting.Setting) (start : made_start.Start) (answer : Result Verdict (Stop CloseFault)) (May : Files → Path → Type 0) (earlier : List Path) (shown : Shown) (a b : State)
+pub judge_ends : (project : Project) (report : Path) (bytes : List ℕ) (setting : made_setting.Setting) (start : made_start.Start) (answer : Result Verdict (Stop CloseFault)) (Reads : Bool → State → State → Type 0) (shown : Shown) (a b : State)
     → IfSome a.told (λ t. IsReady project setting start t.files)
     → IfSome a.told (λ t. Judges (setting_view setting) (page_of (start_view start) t.files) bytes answer)
-    → OnlyRead (has_failed answer) a b → EndsWith (shown_judged project answer) shown
-    → EndsFor (Ok (task.Check project report)) (ShowsJudged bytes (setting_view setting) (start_view start)) May earlier shown a b
-judge_ends project report bytes setting start answer May earlier shown a b ready judges only ends =
-    ends_by (task.Check project report) _ May earlier (shown_judged project answer) shown (has_failed answer) a b (judged_may_end project report answer) (judged_calm project answer)
+    → Reads (has_failed answer) a b → EndsWith (shown_judged project answer) shown
+    → EndsFor (Ok (task.Check project report)) (ShowsJudged bytes (setting_view setting) (start_view start)) Reads shown a b
+judge_ends project report bytes setting start answer Reads shown a b ready judges reads ends =
+    ends_by (task.Check project report) _ Reads (shown_judged project answer) shown (has_failed answer) a b (judged_may_end project report answer) (judged_calm project answer)
     (of_both a.told ready judges (λ t r h three four. shows_judged project bytes (setting_view setting) (start_view start) t.files answer r.most h three four))
-    (reads_again May earlier only) ends
+    reads ends
 
 -- the report was read, and then judged
-pub check_ends : (project : Project) (report : Path) (bytes : List ℕ) (setting : Setting) (start : Start) (May : Files → Path → Type 0) (earlier : List Path) (shown : Shown) (a b c : State)
-    → OnFiles (ReportIs report (Ok bytes)) a → OnlyRead false a b
-    → EndsFor (Ok (task.Check project report)) (ShowsJudged bytes setting start) May earlier shown b c
-    → EndsFor (Ok (task.Check project report)) (ShowsSettled (task.Check project report) setting start) May earlier shown a c
-check_ends project report bytes setting start May earlier shown a b c is only ends = record {
+pub check_ends : (project : Project) (report : Path) (bytes : List ℕ) (setting : Setting) (start : Start) (May : Purpose → Files → Path → Type 0) (earlier : List Path) (shown : Shown) (a b c : State)
+    → OnFiles (ReportIs report (Ok bytes)) a → ReadsReport report false a b
+    → EndsFor (Ok (task.Check project report)) (ShowsJudged bytes setting start) (ReadsOnce (May to_plan) earlier) shown b c
+    → EndsFor (Ok (task.Check project report)) (ShowsSettled (task.Check project report) setting start) (ReadsFor (Ok (task.Check project report)) May earlier) shown a c
+check_ends project report bytes setting start May earlier shown a b c is r ends = record {
   failed = ends.failed;
   may = ends.may;
-  reads = reads_again May earlier (read_then only ends.reads.only);
-  content = of_both a.told is (told_before (λ f. shown.status ≢ 3 → shown.status ≢ 4 → ShowsJudged bytes setting start f shown) only ends.content)
+  reads = own_before (Ok (task.Check project report)) May earlier r.own r.looks r.once ends.reads;
+  content = of_both a.told is (told_before (λ f. shown.status ≢ 3 → shown.status ≢ 4 → ShowsJudged bytes setting start f shown) (record { asked = r.own; looks = r.looks }) ends.content)
       (λ t seen shows three four. let s = shows three four in (s.0, s.1, against_read report bytes t.files s.0 shown seen s.2));
 }
-
--- the tree that was read tells the same files
-pub still_ready : {failed : Bool} (project : Project) (setting : made_setting.Setting) (start : made_start.Start) (a b : State) → OnlyRead failed a b → IfSome a.told (λ t. IsReady project setting start t.files) → IfSome b.told (λ t. IsReady project setting start t.files)
-still_ready project setting start a b only ready = told_after (IsReady project setting start) only ready

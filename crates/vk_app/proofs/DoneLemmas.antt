@@ -2,6 +2,7 @@
 use Rattle.std.proofs.Common.{◌≡◌, ◌≢◌, ◌⊎◌, ◌++◌, inl, inr, Bool, true, false, ℕ, List, [], refl, ap, sym, subst, ◌∙◌}
 use Rattle.std.specs.Prelude.{Option, Some, None, IfSome, IfOk, Result, Ok, Err}
 use Rattle.std.specs.List.{Contains}
+use Rattle.std.proofs.lemmas.List.{append_assoc}
 use Rattle.std.proofs.lemmas.List.Elements.{Contains-append_cases}
 use Rattle.std.proofs.lemmas.Option.{IfSome_then}
 use Rattle.vk_spec.specs.Lists.{NoRepeats, IsWithin}
@@ -49,8 +50,8 @@ use Rattle.vk_resolve.specs.Resolved.{IsResolved}
 use Rattle.vk_app.specs.declared.requests.Task.{Task}
 use Rattle.vk_app.specs.declared.requests.Task.TheVariants as task
 use Rattle.vk_app.specs.Requests.{project_of}
-use Rattle.vk_app.specs.Asked.{AsksNothing, IsOfPages, IsOfOpened, IsOfProject}
-use Rattle.vk_app.specs.Once.{AreOnce, ReadsFor, asks_once}
+use Rattle.vk_app.specs.Asked.{Purpose, to_plan, to_tell, AsksNothing, IsOfPorts, IsOfOpened, IsOfProject}
+use Rattle.vk_app.specs.Once.{AreListed, ReadsOnce, AreOwn, ReadsFor}
 use Rattle.vk_app.specs.Resolutions as the
 use Rattle.vk_app.specs.Resolutions.{Resolution, Settles}
 use Rattle.vk_app.specs.Resolved.{resolution_of, Resolves, OpenedShows, OpenedMayAsk, IsReady, IsOpenedFor}
@@ -59,7 +60,7 @@ use Rattle.vk_app.specs.Answers.{ShowsSettled, ShowsEarly, ShowsRead, ShowsProje
 use Rattle.vk_app.specs.Runs.{MayPass}
 use Rattle.vk_app.specs.Ends.{EndsFor, MayEnd, done, refused, limited, lacking, broken, EndsWith, whole, short, shown_of, shown_load, shown_out}
 use Rattle.vk_app.proofs.AnswerLemmas.{opening_form}
-use Rattle.vk_app.proofs.ReadLemmas.{not_read}
+use Rattle.vk_app.proofs.ReadLemmas.{for_plan, not_read}
 
 -- ---- what is answered of a setting and pages
 
@@ -106,24 +107,24 @@ not_failed project (Err stop.Failed) four = absurd (four refl)
 not_failed project (Err (stop.Memory m)) four = refl
 
 -- a task that ends with this, unless memory runs out before that is told
-pub ends_by : (t : Task) (Answers : Files → Shown → Type 0) (May : Files → Path → Type 0) (earlier : List Path) (first shown : Shown) (failed : Bool) (a b : State)
+pub ends_by : (t : Task) (Answers : Files → Shown → Type 0) (Reads : Bool → State → State → Type 0) (first shown : Shown) (failed : Bool) (a b : State)
     → MayEnd (Ok t) first failed → (first.status ≢ 4 → failed ≡ false) → IfSome a.told (λ f. first.status ≢ 3 → first.status ≢ 4 → Answers f.files first)
-    → ReadsFor (asks_once (Ok t)) May earlier failed a b → EndsWith first shown → EndsFor (Ok t) Answers May earlier shown a b
-ends_by t Answers May earlier first shown failed a b may calm content reads whole = record { failed = failed; may = may; reads = reads; content = content }
-ends_by t Answers May earlier first shown failed a b may calm content reads (short four) = record {
+    → Reads failed a b → EndsWith first shown → EndsFor (Ok t) Answers Reads shown a b
+ends_by t Answers Reads first shown failed a b may calm content reads whole = record { failed = failed; may = may; reads = reads; content = content }
+ends_by t Answers Reads first shown failed a b may calm content reads (short four) = record {
   failed = false;
   may = lacking (Ok t);
-  reads = subst (λ f. ReadsFor (asks_once (Ok t)) May earlier f a b) (calm four) reads;
+  reads = subst (λ f. Reads f a b) (calm four) reads;
   content = of_each a.told (λ f three other. absurd (three refl));
 }
 
 -- a task whose project comes to this, and that shows it
-pub ends_with : (t : Task) (Answers : Files → Shown → Type 0) (May : Files → Path → Type 0) (earlier : List Path) (answer : Result Outcome (Stop CloseFault)) (shown : Shown) (a b : State)
+pub ends_with : (t : Task) (Answers : Files → Shown → Type 0) (Reads : Bool → State → State → Type 0) (answer : Result Outcome (Stop CloseFault)) (shown : Shown) (a b : State)
     → MayPass t (limit.Facts (project_of t).max_facts)
     → IfSome a.told (λ f. (shown_of (project_of t) answer).status ≢ 3 → (shown_of (project_of t) answer).status ≢ 4 → Answers f.files (shown_of (project_of t) answer))
-    → ReadsFor (asks_once (Ok t)) May earlier (has_failed answer) a b → EndsWith (shown_of (project_of t) answer) shown → EndsFor (Ok t) Answers May earlier shown a b
-ends_with t Answers May earlier answer shown a b pass content reads ends =
-    ends_by t Answers May earlier (shown_of (project_of t) answer) shown (has_failed answer) a b (may_end t answer pass) (not_failed (project_of t) answer) content reads ends
+    → Reads (has_failed answer) a b → EndsWith (shown_of (project_of t) answer) shown → EndsFor (Ok t) Answers Reads shown a b
+ends_with t Answers Reads answer shown a b pass content reads ends =
+    ends_by t Answers Reads (shown_of (project_of t) answer) shown (has_failed answer) a b (may_end t answer pass) (not_failed (project_of t) answer) content reads ends
 
 -- what is shown of an answer is what a plan shows, but for a failure and out of memory
 shows_plan : (project : Project) (setting : Setting) (start : Start) (files : Files) (answer : Result Outcome (Stop CloseFault)) → setting.max_facts ≡ project.max_facts → Resolves (Settles setting (page_of start files)) answer
@@ -136,11 +137,11 @@ shows_plan project setting start files (Err (stop.Memory m)) most h three four =
 pub plan_ends : (project : Project) (setting : made.Setting) (start : made_start.Start) (answer : Result Outcome (Stop CloseFault)) (shown : Shown) (a b : State)
     → IfSome a.told (λ t. IsReady project setting start t.files)
     → IfSome a.told (λ t. Resolves (Settles (setting_view setting) (page_of (start_view start) t.files)) answer)
-    → ReadsFor true (IsOfPages (start_view start)) (paths_of (opened_files start)) (has_failed answer) a b → EndsWith (shown_of project answer) shown
-    → EndsFor (Ok (task.Plan project)) (ShowsSettled (task.Plan project) (setting_view setting) (start_view start)) (IsOfPages (start_view start)) (paths_of (opened_files start)) shown a b
+    → ReadsOnce (IsOfPorts (start_view start) to_plan) (paths_of (opened_files start)) (has_failed answer) a b → EndsWith (shown_of project answer) shown
+    → EndsFor (Ok (task.Plan project)) (ShowsSettled (task.Plan project) (setting_view setting) (start_view start)) (ReadsFor (Ok (task.Plan project)) (IsOfPorts (start_view start)) (paths_of (opened_files start))) shown a b
 plan_ends project setting start answer shown a b ready resolves reads ends =
-    ends_with (task.Plan project) _ _ _ answer shown a b refl
-    (of_both a.told ready resolves (λ t r h three four. shows_plan project (setting_view setting) (start_view start) t.files answer r.most h three four)) reads ends
+    ends_with (task.Plan project) _ (ReadsFor (Ok (task.Plan project)) (IsOfPorts (start_view start)) (paths_of (opened_files start))) answer shown a b refl
+    (of_both a.told ready resolves (λ t r h three four. shows_plan project (setting_view setting) (start_view start) t.files answer r.most h three four)) (for_plan _ _ _ reads) ends
 
 -- ---- a load
 
@@ -164,11 +165,11 @@ shows_load size project setting start files (Err (stop.Memory m)) most h three f
 pub load_ends : (size : ℕ) (project : Project) (setting : made.Setting) (start : made_start.Start) (answer : Result Outcome (Stop CloseFault)) (shown : Shown) (a b : State)
     → IfSome a.told (λ t. IsReady project setting start t.files)
     → IfSome a.told (λ t. Resolves (Settles (setting_view setting) (page_of (start_view start) t.files)) answer)
-    → ReadsFor true (IsOfPages (start_view start)) (paths_of (opened_files start)) (has_failed answer) a b → EndsWith (shown_load size project answer) shown
-    → EndsFor (Ok (task.SelfLoad size project)) (ShowsSettled (task.SelfLoad size project) (setting_view setting) (start_view start)) (IsOfPages (start_view start)) (paths_of (opened_files start)) shown a b
+    → ReadsOnce (IsOfPorts (start_view start) to_plan) (paths_of (opened_files start)) (has_failed answer) a b → EndsWith (shown_load size project answer) shown
+    → EndsFor (Ok (task.SelfLoad size project)) (ShowsSettled (task.SelfLoad size project) (setting_view setting) (start_view start)) (ReadsFor (Ok (task.SelfLoad size project)) (IsOfPorts (start_view start)) (paths_of (opened_files start))) shown a b
 load_ends size project setting start answer shown a b ready resolves reads ends =
-    ends_by (task.SelfLoad size project) _ _ _ (shown_load size project answer) shown (has_failed answer) a b (load_may_end size project answer) (load_not_failed size project answer)
-    (of_both a.told ready resolves (λ t r h three four. shows_load size project (setting_view setting) (start_view start) t.files answer r.most h three four)) reads ends
+    ends_by (task.SelfLoad size project) _ (ReadsFor (Ok (task.SelfLoad size project)) (IsOfPorts (start_view start)) (paths_of (opened_files start))) (shown_load size project answer) shown (has_failed answer) a b (load_may_end size project answer) (load_not_failed size project answer)
+    (of_both a.told ready resolves (λ t r h three four. shows_load size project (setting_view setting) (start_view start) t.files answer r.most h three four)) (for_plan _ _ _ reads) ends
 
 -- the world's tree tells what its setting was opened on
 pub ready_kept : (project : Project) (setting : made.Setting) (start : made_start.Start) (s : State) → IfSome s.told (λ t. IsReady project setting start t.files) → IfSome s.told (λ t. IsOf t.files (opened_files start))
@@ -179,22 +180,28 @@ ready_kept project setting start s ready = IfSome_then s.told ready (λ t r. r.k
 -- what a task shows of its setting is what it shows of what was opened
 pub ends_ready : (task : Task) (o : Opened) (setting : made.Setting) (start : made_start.Start) (shown : Shown) (read : Kept) (a b : State)
     → o ≡ opened.Ready setting start → IsKept read (Ok o)
-    → EndsFor (Ok task) (ShowsSettled task (setting_view setting) (start_view start)) (IsOfPages (start_view start)) (paths_of (opened_files start)) shown a b
-    → EndsFor (Ok task) (OpenedShows task o) (OpenedMayAsk o) (paths_of read) shown a b
+    → EndsFor (Ok task) (ShowsSettled task (setting_view setting) (start_view start)) (ReadsFor (Ok task) (IsOfPorts (start_view start)) (paths_of (opened_files start))) shown a b
+    → EndsFor (Ok task) (OpenedShows task o) (ReadsFor (Ok task) (OpenedMayAsk o) (paths_of read)) shown a b
 ends_ready task o setting start shown read a b is kept ends =
     let same : read ≡ opened_files start = rw is at kept in
     rw (is, same) ends
 
+-- what was opened was read once
+pub opened_once : (o : Opened) (setting : made.Setting) (start : made_start.Start) (read : Kept) → o ≡ opened.Ready setting start → IsKept read (Ok o) → NoRepeats (paths_of read) → NoRepeats (paths_of (opened_files start))
+opened_once o setting start read is kept distinct =
+    let same : read ≡ opened_files start = rw is at kept in
+    subst (λ k. NoRepeats (paths_of k)) same distinct
+
 -- an early line is told
 pub ends_early : (t : Task) (Answers : Files → Shown → Type 0) (e : Early) (shown : Shown) (earlier : List Path) (s : State) → ((files : Files) → Answers files (shown_for (the.early (early_view e)))) → NoRepeats earlier
-    → EndsWith (shown_for (resolution_of (outcome_view (outcome.Early e)))) shown → EndsFor (Ok t) Answers AsksNothing earlier shown s s
+    → EndsWith (shown_for (resolution_of (outcome_view (outcome.Early e)))) shown → EndsFor (Ok t) Answers (ReadsFor (Ok t) AsksNothing earlier) shown s s
 ends_early t Answers e shown earlier s shows distinct ends =
-    ends_by t Answers AsksNothing earlier (shown_for (the.early (early_view e))) shown false s s (refused t _) (λ four. refl)
-    (of_each s.told (λ f three four. shows f.files)) (not_read (asks_once (Ok t)) AsksNothing earlier s distinct) ends
+    ends_by t Answers (ReadsFor (Ok t) AsksNothing earlier) (shown_for (the.early (early_view e))) shown false s s (refused t _) (λ four. refl)
+    (of_each s.told (λ f three four. shows f.files)) (not_read (Ok t) AsksNothing earlier s distinct) ends
 
 -- what a task shows of an early line is what it shows of what was opened
 pub ends_refused : (t : Task) (o : Opened) (e : Early) (shown : Shown) (earlier : List Path) (a b : State) → o ≡ opened.Refused e
-    → EndsFor (Ok t) (ShowsEarly t (early_view e)) AsksNothing earlier shown a b → EndsFor (Ok t) (OpenedShows t o) (OpenedMayAsk o) earlier shown a b
+    → EndsFor (Ok t) (ShowsEarly t (early_view e)) (ReadsFor (Ok t) AsksNothing earlier) shown a b → EndsFor (Ok t) (OpenedShows t o) (ReadsFor (Ok t) (OpenedMayAsk o) earlier) shown a b
 ends_refused t o e shown earlier a b is ends = rw is ends
 
 -- ---- opening, and then the rest
@@ -229,62 +236,72 @@ opened_shows task (opened.Refused e) files shown tells h = subst (λ read. Shows
 opening_listed : {project : Project} {answer : Result Opened Outage} {a b : State} (opens : Opens project answer a b) → IfSome a.told (λ t. IsWithin (paths_of opens.once.more) (opening_paths project t.files))
 opening_listed {project = project} {a = a} opens = subst (λ kept. IfSome a.told (λ t. IsWithin (paths_of kept) (opening_paths project t.files))) opens.once.kept opens.within
 
--- a path of the pages of what was opened is one of the project
-of_opened : (project : Project) (o : Opened) (files : Files) (path : Path) → Tells (Ok o) (opened_of project files) → OpenedMayAsk o files path → IsOfOpened (opened_of project files) files path
-of_opened project (opened.Ready setting start) files path tells page = subst (λ read. IsOfOpened read files path) (sym tells.0) page
-of_opened project (opened.Refused e) files path tells page = absurd page
+-- what is asked for on behalf of the ports of what was opened is asked for by the project
+of_opened : (project : Project) (o : Opened) (purpose : Purpose) (files : Files) (path : Path) → Tells (Ok o) (opened_of project files) → OpenedMayAsk o purpose files path → IsOfOpened (opened_of project files) purpose files path
+of_opened project (opened.Ready setting start) purpose files path tells of = subst (λ read. IsOfOpened read purpose files path) (sym tells.0) of
+of_opened project (opened.Refused e) purpose files path tells of = absurd of
 
 -- the paths of opening, and then those of the pages
 listed_in : (project : Project) (o : Opened) (files : Files) (first second : List Path) → Tells (Ok o) (opened_of project files)
-    → IsWithin first (opening_paths project files) → ((path : Path) → Contains second path → OpenedMayAsk o files path)
-    → (path : Path) → Contains (first ++ second) path → IsOfProject project files path
+    → IsWithin first (opening_paths project files) → ((path : Path) → Contains second path → OpenedMayAsk o to_plan files path)
+    → (path : Path) → Contains (first ++ second) path → IsOfProject project to_plan files path
 listed_in project o files first second tells opening later path has = by (Contains-append_cases first second path has)
   where
-    by : Contains first path ⊎ Contains second path → IsOfProject project files path
+    by : Contains first path ⊎ Contains second path → IsOfProject project to_plan files path
     by (inl there) = inl (opening path there)
-    by (inr there) = inr (of_opened project o files path tells (later path there))
+    by (inr there) = inr (of_opened project o to_plan files path tells (later path there))
 
 listed_opened : (project : Project) (o : Opened) (first second : List Path) (told : Option Told) → IfSome told (λ t. Tells (Ok o) (opened_of project t.files))
-    → IfSome told (λ t. IsWithin first (opening_paths project t.files)) → IfSome told (λ t. (path : Path) → Contains second path → OpenedMayAsk o t.files path)
-    → IfSome told (λ t. (path : Path) → Contains (first ++ second) path → IsOfProject project t.files path)
+    → IfSome told (λ t. IsWithin first (opening_paths project t.files)) → IfSome told (λ t. (path : Path) → Contains second path → OpenedMayAsk o to_plan t.files path)
+    → IfSome told (λ t. (path : Path) → Contains (first ++ second) path → IsOfProject project to_plan t.files path)
 listed_opened project o first second None tells opening later = tt
 listed_opened project o first second (Some t) tells opening later = listed_in project o t.files first second tells opening later
 
--- each path once, opening included
-once_opened : (once : Bool) (project : Project) (o : Opened) (a b : State) (asked : List Path) (opens : Opens project (Ok o) a b)
-    → AreOnce once (OpenedMayAsk o) (paths_of opens.read) asked b → AreOnce once (IsOfProject project) [] (paths_of opens.once.more ++ asked) a
-once_opened true project o a b asked opens paths = (
-  subst (λ kept. NoRepeats (paths_of kept ++ asked)) opens.once.kept paths.0,
-  listed_opened project o (paths_of opens.once.more) asked a.told opens.content (opening_listed opens)
-      (told_before (λ f. (path : Path) → Contains asked path → OpenedMayAsk o f path) (opening.only_read opens) paths.1),
-)
-once_opened false project o a b asked opens paths = tt
+-- what is read besides is of the project
+own_opened : (task : Task) (o : Opened) (own : List Path) (a b : State) → Opens (project_of task) (Ok o) a b → AreOwn (Ok task) (OpenedMayAsk o to_tell) own b → AreOwn (Ok task) (IsOfProject (project_of task) to_tell) own a
+own_opened (task.Plan project) o own a b opens besides = besides
+own_opened (task.Abi project instance) o own a b opens besides =
+    of_both a.told opens.content (told_before (λ f. (path : Path) → Contains own path → OpenedMayAsk o to_tell f path) (opening.only_read opens) besides)
+    (λ t tells h path has. of_opened project o to_tell t.files path tells (h path has))
+own_opened (task.Check project report) o own a b opens besides = besides
+own_opened (task.SelfLoad size project) o own a b opens besides = besides
+
+-- each path once for the plan, opening included
+reads_opened : (task : Task) (o : Opened) {failed : Bool} (a b c : State) (opens : Opens (project_of task) (Ok o) a b)
+    → ReadsFor (Ok task) (OpenedMayAsk o) (paths_of opens.read) failed b c → ReadsFor (Ok task) (IsOfProject (project_of task)) [] failed a c
+reads_opened task o a b c opens r = record {
+  only = record { asked = paths_of opens.once.more ++ r.only.asked; looks = looks_then opens.once.looks r.only.looks };
+  first = paths_of opens.once.more ++ r.first;
+  own = r.own;
+  rest = r.rest;
+  parts = ap (λ l. paths_of opens.once.more ++ l) r.parts ∙ sym (append_assoc (paths_of opens.once.more) r.first (r.own ++ r.rest));
+  distinct = subst NoRepeats (sym (append_assoc (paths_of opens.once.more) r.first r.rest))
+      (subst (λ kept. NoRepeats (paths_of kept ++ (r.first ++ r.rest))) opens.once.kept r.distinct);
+  listed = subst (λ l. AreListed (IsOfProject (project_of task) to_plan) l a) (sym (append_assoc (paths_of opens.once.more) r.first r.rest))
+      (listed_opened (project_of task) o (paths_of opens.once.more) (r.first ++ r.rest) a.told opens.content (opening_listed opens)
+      (told_before (λ f. (path : Path) → Contains (r.first ++ r.rest) path → OpenedMayAsk o to_plan f path) (opening.only_read opens) r.listed));
+  besides = own_opened task o r.own a b opens r.besides;
+}
 
 -- a project that was opened, and what came of it
 pub ends_opened : (task : Task) (o : Opened) (shown : Shown) (a b c : State) (opens : Opens (project_of task) (Ok o) a b)
-    → EndsFor (Ok task) (OpenedShows task o) (OpenedMayAsk o) (paths_of opens.read) shown b c → EndsFor (Ok task) (ShowsProject task) (IsOfProject (project_of task)) [] shown a c
+    → EndsFor (Ok task) (OpenedShows task o) (ReadsFor (Ok task) (OpenedMayAsk o) (paths_of opens.read)) shown b c → EndsFor (Ok task) (ShowsProject task) (ReadsFor (Ok task) (IsOfProject (project_of task)) []) shown a c
 ends_opened task o shown a b c opens ends = record {
   failed = ends.failed;
   may = ends.may;
-  reads = record {
-    only = record { asked = paths_of opens.once.more ++ ends.reads.only.asked; looks = looks_then opens.once.looks ends.reads.only.looks };
-    paths = once_opened (asks_once (Ok task)) (project_of task) o a b ends.reads.only.asked opens ends.reads.paths;
-  };
+  reads = reads_opened task o a b c opens ends.reads;
   content = of_both a.told opens.content (told_before (λ f. shown.status ≢ 3 → shown.status ≢ 4 → OpenedShows task o f shown) (opening.only_read opens) ends.content)
       (λ t tells h three four. opened_shows task o t.files shown tells (h three four));
 }
 
 -- a project that wasn't opened
-once_alone : (once : Bool) (project : Project) (o : Outage) (a b : State) (opens : Opens project (Err o) a b) → AreOnce once (IsOfProject project) [] (paths_of opens.once.more) a
-once_alone true project o a b opens = (opening.none_twice opens, IfSome_then a.told (opening_listed opens) (λ t within path has. inl (within path has)))
-once_alone false project o a b opens = tt
-
-opening_alone : (once : Bool) (project : Project) (o : Outage) (a b : State) → Opens project (Err o) a b → ReadsFor once (IsOfProject project) [] (was_out {A = Opened} (Err o)) a b
-opening_alone once project o a b opens = record {
+opening_alone : (task : Task) (o : Outage) (a b : State) → Opens (project_of task) (Err o) a b → ReadsFor (Ok task) (IsOfProject (project_of task)) [] (was_out {A = Opened} (Err o)) a b
+opening_alone task o a b opens = for_plan (Ok task) (IsOfProject (project_of task)) [] (record {
   only = record { asked = paths_of opens.once.more; looks = opens.once.looks };
-  paths = once_alone once project o a b opens;
-}
+  distinct = opening.none_twice opens;
+  listed = IfSome_then a.told (opening_listed opens) (λ t within path has. inl (within path has));
+})
 
-pub ends_unopened : (task : Task) (o : Outage) (shown : Shown) (a b : State) → Opens (project_of task) (Err o) a b → shown ≡ shown_out o → EndsFor (Ok task) (ShowsProject task) (IsOfProject (project_of task)) [] shown a b
-ends_unopened task outage.Failed shown a b opens is = rw is (record { failed = true; may = broken task; reads = opening_alone (asks_once (Ok task)) (project_of task) outage.Failed a b opens; content = of_each a.told (λ t three four. absurd (four refl)) })
-ends_unopened task (outage.Memory m) shown a b opens is = rw is (record { failed = false; may = lacking (Ok task); reads = opening_alone (asks_once (Ok task)) (project_of task) (outage.Memory m) a b opens; content = of_each a.told (λ t three four. absurd (three refl)) })
+pub ends_unopened : (task : Task) (o : Outage) (shown : Shown) (a b : State) → Opens (project_of task) (Err o) a b → shown ≡ shown_out o → EndsFor (Ok task) (ShowsProject task) (ReadsFor (Ok task) (IsOfProject (project_of task)) []) shown a b
+ends_unopened task outage.Failed shown a b opens is = rw is (record { failed = true; may = broken task; reads = opening_alone task outage.Failed a b opens; content = of_each a.told (λ t three four. absurd (four refl)) })
+ends_unopened task (outage.Memory m) shown a b opens is = rw is (record { failed = false; may = lacking (Ok task); reads = opening_alone task (outage.Memory m) a b opens; content = of_each a.told (λ t three four. absurd (three refl)) })

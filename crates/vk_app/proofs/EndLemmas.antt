@@ -15,19 +15,17 @@ use Rattle.vk_base.specs.Stops.{fault_in}
 use Rattle.vk_base.specs.declared.stops.Unread.{Unread}
 use Rattle.vk_base.specs.declared.stops.Unread.TheVariants as unread
 use Rattle.vk_words.specs.declared.faults.WordFault.{WordFault}
-use Rattle.vk_spec.specs.Paths.{Path}
-use Rattle.vk_base.specs.declared.instances.Instance.{Instance}
 use Rattle.vk_model.specs.declared.projects.Project.{Project}
 use Rattle.vk_gen.specs.Loads.{load_files, load_state}
 use Rattle.vk_app.specs.declared.requests.Task.{Task}
 use Rattle.vk_app.specs.declared.requests.Task.TheVariants as task
 use Rattle.vk_app.specs.Asked.{IsOfProject, LeavesTree, MayAsk}
-use Rattle.vk_app.specs.Once.{asks_once}
+use Rattle.vk_app.specs.Once.{ReadsFor}
 use Rattle.vk_app.specs.Requests.{Request, project_of}
 use Rattle.vk_app.specs.Shown.{Shown, told, memory_line, tree_line, output_line}
 use Rattle.vk_app.specs.Answers.{IsAnswerTo, ShowsProject}
-use Rattle.vk_app.specs.Runs.{Outside, IsCalm, Shows, ShowsAnswer, IsSure, HasCauses, IsLine, of_words, of_limit, of_memory, of_tree, of_output, TellsLine, TookSome, TookFault, TookLimit, KeepsOut, JudgesWords, RunsAs}
-use Rattle.vk_app.specs.Ends.{EndsAs, EndsFor, EndsOverLoad, Tells, MayEnd, malformed, done, refused, limited, lacking, broken, whole, short, WordsEnd, line_after, told_status}
+use Rattle.vk_app.specs.Runs.{Outside, IsCalm, Shows, ShowsAnswer, IsSure, HasCauses, IsUntold, IsLine, of_words, of_limit, of_memory, of_tree, Stops, out_stopped, err_stopped, TellsLine, TookFault, TookLimit, KeepsOut, JudgesWords, RunsAlone, RunsAs}
+use Rattle.vk_app.specs.Ends.{EndsAlone, EndsAs, EndsFor, EndsOverLoad, Tells, MayEnd, malformed, done, refused, limited, lacking, broken, whole, short, WordsEnd, line_after, told_status}
 use Rattle.vk_app.proofs.AnswerLemmas.{one_answer}
 use Rattle.vk_app.proofs.ReadLemmas.{not_read}
 
@@ -140,7 +138,28 @@ line_limit before after (limited task l within) e taken = (l, within, taken)
 line_limit before after (lacking request) e taken = absurd (omega (arith, e))
 line_limit before after (broken task) e taken = absurd (omega (arith, e))
 
+-- an end that isn't out of memory or a failure is the one answer
+is_the_answer : (request : Request) (files : Files) {one other : Shown} → (one.status ≢ 3 → one.status ≢ 4 → IsAnswerTo request files one) → IsAnswerTo request files other → one.status ≢ 3 → one.status ≢ 4 → one ≡ other
+is_the_answer request files {one = one} {other = other} fits answer three four = one_answer request files one other (fits three four) answer
+
+-- where files are told, an end that isn't out of memory or a failure answers
+abbrev Fits : Request → Shown → Outside → Type 0
+Fits request shown before = IfSome before.tree.told (λ t. shown.status ≢ 3 → shown.status ≢ 4 → IsAnswerTo request t.files shown)
+
 -- ---- the causes of the failures outside
+
+-- the line of an end that has one, with its cause; `out` is told nothing then
+line_told : {request : Request} {shown : Shown} {failed : Bool} (before after : Outside) → MayEnd request shown failed → OnlyRead failed before.tree after.tree → Fits request shown before → shown.err ≢ [] → IsLine before after request shown.err × (shown.out ≡ [])
+line_told before after (malformed fault) only fits some = (of_words fault, refl)
+line_told before after (done task report) only fits some = absurd (some refl)
+line_told before after (refused task report) only fits some = absurd (some refl)
+line_told before after (limited task l within) only fits some = (
+  of_limit task l within (IfSome_then before.tree.told fits (λ t h other answer. sym (ap (λ s. s.err) (is_the_answer (Ok task) t.files {other = other} h answer (λ e. absurd (omega (arith, e))) (λ e. absurd (omega (arith, e))))))),
+  refl,
+)
+line_told before after (lacking request) only fits some = (of_memory request, refl)
+line_told before after (broken task) only fits some = (of_tree task (risen_where only refl), refl)
+
 
 tree_cause : {request : Request} {shown : Shown} {failed : Bool} (status : ℕ) (before after : Outside) → MayEnd request shown failed → OnlyRead failed before.tree after.tree → TellsBy shown status before after → status ≡ 4 → MayHaveRisen before.tree.faults after.tree.faults
 tree_cause status before after may only (both false false sent line is) four = risen_where only (four_failed may (sym is ∙ four))
@@ -148,17 +167,27 @@ tree_cause status before after may only (both false true sent line is) four = ab
 tree_cause status before after may only (both true false sent line is) four = absurd (omega (arith, is, four))
 tree_cause status before after may only (both true true sent line is) four = absurd (omega (arith, is, four))
 
-sink_cause : {request : Request} {shown : Shown} {failed : Bool} (status : ℕ) (before after : Outside) → MayEnd request shown failed → TellsBy shown status before after → status ≡ 5 → MayHaveRisen before.out.faults after.out.faults ⊎ MayHaveRisen before.err.faults after.err.faults
-sink_cause status before after may (both false false sent line is) five = absurd (never_five may (sym is ∙ five))
-sink_cause status before after may (both false true sent line is) five = inr (sent_risen line refl)
-sink_cause status before after may (both true false sent line is) five = inl (sent_risen sent refl)
-sink_cause status before after may (both true true sent line is) five = inl (sent_risen sent refl)
+sink_cause : {request : Request} {shown : Shown} {failed : Bool} (status : ℕ) (before after : Outside) → MayEnd request shown failed → OnlyRead failed before.tree after.tree → Fits request shown before → TellsBy shown status before after → status ≡ 5 → Stops request before after
+sink_cause status before after may only fits (both false false sent line is) five = absurd (never_five may (sym is ∙ five))
+sink_cause {shown = shown} status before after may only fits (both false true sent line is) five =
+    let told = line_told before after may only fits (λ e. let clash : true ≡ false = nothing_stops shown.err true _ _ line e in (cc)) in
+    err_stopped shown.err line.taken.0 told.0 (sent_risen line refl) line.taken.1 (subst (λ l. Taken before.out.taken l after.out.taken) told.1 sent.taken)
+sink_cause status before after may only fits (both true false sent line is) five = out_stopped (sent_risen sent refl) (inl line.taken)
+sink_cause status before after may only fits (both true true sent line is) five = out_stopped (sent_risen sent refl) (inr (line.taken.0, sent_risen line refl, line.taken.1))
 
-tree_told : {request : Request} {shown : Shown} {failed : Bool} (status : ℕ) (before after : Outside) → MayEnd request shown failed → OnlyRead failed before.tree after.tree → TellsBy shown status before after → Rose before.tree.faults after.tree.faults → (status ≡ 4) ⊎ ((status ≡ 5) × MayHaveRisen before.err.faults after.err.faults)
+-- one of the sinks stopped
+either_stopped : {request : Request} {before after : Outside} → Stops request before after → MayHaveRisen before.out.faults after.out.faults ⊎ MayHaveRisen before.err.faults after.err.faults
+either_stopped (out_stopped risen part) = inl risen
+either_stopped (err_stopped line rest is risen took none) = inr risen
+
+tree_told : {request : Request} {shown : Shown} {failed : Bool} (status : ℕ) (before after : Outside) → MayEnd request shown failed → OnlyRead failed before.tree after.tree → TellsBy shown status before after → Rose before.tree.faults after.tree.faults → (status ≡ 4) ⊎ IsUntold status before after
 tree_told status before after may only (both false false sent line is) rose = inl (is ∙ failed_four may (fails_where only rose))
-tree_told status before after may only (both false true sent line is) rose = inr (is, sent_risen line refl)
-tree_told status before after may only (both true false sent line is) rose = let clash : true ≡ false = nothing_stops _ true _ _ sent (failed_silent may (fails_where only rose)) in (cc)
-tree_told status before after may only (both true true sent line is) rose = inr (is, sent_risen line refl)
+tree_told status before after may only (both false true sent line is) rose = inr (record {
+  ends = is;
+  err = sent_risen line refl;
+  out = subst (λ l. Taken before.out.taken l after.out.taken) (failed_silent may (fails_where only rose)) sent.taken;
+})
+tree_told status before after may only (both true se sent line is) rose = let clash : true ≡ false = nothing_stops _ true _ _ sent (failed_silent may (fails_where only rose)) in (cc)
 
 out_told : (shown : Shown) (status : ℕ) (before after : Outside) → TellsBy shown status before after → Rose before.out.faults after.out.faults → status ≡ 5
 out_told shown status before after (both false se sent line is) rose = let clash : false ≡ true = sent_rose sent rose in (cc)
@@ -169,10 +198,10 @@ err_told shown status before after (both so false sent line is) rose = let clash
 err_told shown status before after (both false true sent line is) rose = is
 err_told shown status before after (both true true sent line is) rose = is
 
-has_causes : {request : Request} {shown : Shown} {failed : Bool} (status : ℕ) (before after : Outside) → MayEnd request shown failed → OnlyRead failed before.tree after.tree → TellsBy shown status before after → HasCauses status before after
-has_causes status before after may only parts = record {
+has_causes : {request : Request} {shown : Shown} {failed : Bool} (status : ℕ) (before after : Outside) → MayEnd request shown failed → OnlyRead failed before.tree after.tree → Fits request shown before → TellsBy shown status before after → HasCauses request status before after
+has_causes status before after may only fits parts = record {
   tree = tree_cause status before after may only parts;
-  sink = sink_cause status before after may parts;
+  sink = sink_cause status before after may only fits parts;
   tree_rose = tree_told status before after may only parts;
   out_rose = out_told _ status before after parts;
   err_rose = err_told _ status before after parts;
@@ -192,30 +221,12 @@ line_is status line before after parts five e =
     let whole = line_whole status before after parts five in
     subst (λ l. Taken before.err.taken l after.err.taken) (e (sym whole.0)) whole.1
 
-cut : {request : Request} (line : List ℕ) (before after : SinkState) → IsLine request line → Sent line true before after → TookSome request before after
-cut line before after is sent = record { line = line; is_line = is; risen = sent_risen sent refl; rest = sent.taken.0; took = sent.taken.1 }
-
-line_cut : {request : Request} {shown : Shown} {failed : Bool} (before after : SinkState) → MayEnd request shown failed → Sent shown.err true before after → TookSome request before after
-line_cut before after (malformed fault) sent = cut _ before after (of_words fault) sent
-line_cut before after (done task report) sent = let clash : true ≡ false = nothing_stops _ true _ _ sent refl in (cc)
-line_cut before after (refused task report) sent = let clash : true ≡ false = nothing_stops _ true _ _ sent refl in (cc)
-line_cut before after (limited task l within) sent = cut _ before after (of_limit task l within) sent
-line_cut before after (lacking request) sent = cut _ before after (of_memory request) sent
-line_cut before after (broken task) sent = cut _ before after (of_tree (Ok task)) sent
-
-output_told : {request : Request} {shown : Shown} {failed : Bool} (status : ℕ) (before after : Outside) → MayEnd request shown failed → TellsBy shown status before after → status ≡ 5 → Taken before.err.taken output_line after.err.taken ⊎ TookSome request before.err after.err
-output_told status before after may (both false false sent line is) five = absurd (never_five may (sym is ∙ five))
-output_told status before after may (both false true sent line is) five = inr (line_cut before.err after.err may line)
-output_told status before after may (both true false sent line is) five = inl line.taken
-output_told {request = request} status before after may (both true true sent line is) five = inr (cut output_line before.err after.err (of_output request) line)
-
 tells_line : {request : Request} {shown : Shown} {failed : Bool} (status : ℕ) (before after : Outside) → MayEnd request shown failed → TellsBy shown status before after → TellsLine request status before after
 tells_line status before after may parts = record {
   done = λ small. line_is status [] before after parts (λ e. absurd (omega (arith, small, e))) (λ e. line_done may (omega (arith, small, e)));
   words = λ two. let whole = line_whole status before after parts (λ e. absurd (omega (arith, two, e))) in line_words before.err after.err may (sym whole.0 ∙ two) whole.1;
   memory = λ three. line_is status memory_line before after parts (λ e. absurd (omega (arith, three, e))) (λ e. line_memory may (e ∙ three));
   tree = λ four. line_is status tree_line before after parts (λ e. absurd (omega (arith, four, e))) (λ e. line_tree may (e ∙ four));
-  output = output_told status before after may parts;
   limit = λ six. let whole = line_whole status before after parts (λ e. absurd (omega (arith, six, e))) in line_limit before.err after.err may (sym whole.0 ∙ six) whole.1;
 }
 
@@ -240,10 +251,6 @@ went_front bytes true before after sent = sent.taken
 went_nothing : (stopped : Bool) (before after : SinkState) → Sent [] stopped before after → Taken before.taken [] after.taken
 went_nothing false before after sent = sent.taken
 went_nothing true before after sent = let clash : true ≡ false = nothing_stops _ true _ _ sent refl in (cc)
-
--- an end that isn't out of memory or a failure is the one answer
-is_the_answer : (request : Request) (files : Files) {one other : Shown} → (one.status ≢ 3 → one.status ≢ 4 → IsAnswerTo request files one) → IsAnswerTo request files other → one.status ≢ 3 → one.status ≢ 4 → one ≡ other
-is_the_answer request files {one = one} {other = other} fits answer three four = one_answer request files one other (fits three four) answer
 
 end_front : (request : Request) (files : Files) {one : Shown} (other : Shown) {failed : Bool} (stopped : Bool) (before after : SinkState) → MayEnd request one failed → (one.status ≢ 3 → one.status ≢ 4 → IsAnswerTo request files one) → IsAnswerTo request files other
     → Sent one.out stopped before after → (rest : List ℕ) × TookFront before.taken other.out rest after.taken
@@ -294,17 +301,17 @@ err_leaves (Err fault) e = tt {0}
 
 judges_words : (request : Request) (shown : Shown) (status : ℕ) (before after : Outside) → EndsAs request shown before.tree after.tree → TellsBy shown status before after → JudgesWords request status before after
 judges_words request shown status before after ends parts = record {
-  only = λ two. let err = two_is_err ends.ends.may (status_two status before after parts two) in (err, ends.unread (err_leaves request err));
-  comes = λ err. (status_err status before after ends.ends.may parts err, ends.unread (err_leaves request err));
+  only = λ two. let err = two_is_err ends.ends.may (status_two status before after parts two) in (err, (ends.alone (err_leaves request err)).same);
+  comes = λ err. (status_err status before after ends.ends.may parts err, (ends.alone (err_leaves request err)).same);
 }
 
 -- ---- the answer
 
-answers : (request : Request) (shown : Shown) (status : ℕ) (before after : Outside) → EndsAs request shown before.tree after.tree → TellsBy shown status before after → HasCauses status before after
+answers : (request : Request) (shown : Shown) (status : ℕ) (before after : Outside) → EndsAs request shown before.tree after.tree → TellsBy shown status before after → HasCauses request status before after
     → IfSome before.tree.told (λ t. IsCalm before after → status ≢ 3 → ShowsAnswer request t.files status before after)
 answers request shown status before after ends parts causes =
     IfSome_then before.tree.told ends.ends.content (λ told fits calm three.
-    let shows = shows_end shown status before after parts (λ five. elim (causes.sink five) [ inl out ↦ calm.out out | inr err ↦ calm.err err ]) in
+    let shows = shows_end shown status before after parts (λ five. elim (either_stopped (causes.sink five)) [ inl out ↦ calm.out out | inr err ↦ calm.err err ]) in
     record { shown = shown; answer = fits (λ e. three (shows.ends ∙ e)) (λ e. calm.tree (causes.tree (shows.ends ∙ e))); shows = shows })
 
 -- no sink stops that has room for the answer
@@ -338,11 +345,25 @@ small status before after may (both false true sent line is) = omega (arith, is)
 small status before after may (both true false sent line is) = omega (arith, is)
 small status before after may (both true true sent line is) = omega (arith, is)
 
+-- 4 is told of an end that has it
+four_ends : {shown : Shown} (status : ℕ) (before after : Outside) → TellsBy shown status before after → status ≡ 4 → shown.status ≡ 4
+four_ends status before after parts four = sym (line_whole status before after parts (λ e. absurd (omega (arith, four, e)))).0 ∙ four
+
+-- a run that leaves the tree
+runs_alone : (request : Request) (shown : Shown) (status : ℕ) (before after : Outside) → EndsAlone request shown before.tree after.tree → TellsBy shown status before after → HasCauses request status before after → RunsAlone request status before after
+runs_alone request shown status before after ends parts causes = record {
+  tree = ends.same;
+  never = λ four. ends.calm (four_ends status before after parts four);
+  answers = λ files out err three.
+      let shows = shows_end shown status before after parts (λ five. elim (either_stopped (causes.sink five)) [ inl o ↦ out o | inr e ↦ err e ]) in
+      record { shown = shown; answer = ends.content files (λ e. three (shows.ends ∙ e)); shows = shows };
+}
+
 -- an end that was told is a run
 pub runs_as : (request : Request) (shown : Shown) (status : ℕ) (before after : Outside) → EndsAs request shown before.tree after.tree → Tells shown status before.out after.out before.err after.err → RunsAs request status before after
 runs_as request shown status before after ends t =
     let parts = parts_of shown status before after t in
-    let causes = has_causes status before after ends.ends.may ends.ends.reads.only parts in
+    let causes = has_causes status before after ends.ends.may ends.ends.reads.only ends.ends.content parts in
     record {
       answers = answers request shown status before after ends parts causes;
       completes = completes request shown status before after ends parts;
@@ -351,20 +372,23 @@ runs_as request shown status before after ends t =
       out = keeps_out request shown status before after ends t;
       err = tells_line status before after ends.ends.may parts;
       reads = record { failed = ends.ends.failed; reads = ends.ends.reads };
-      still = λ leaves. ends.unread leaves;
+      alone = λ leaves. runs_alone request shown status before after (ends.alone leaves) parts causes;
       small = small status before after ends.ends.may parts;
     }
 
--- ---- words that ask for no task
+-- ---- what leaves the tree
 
--- nothing was read
-unasked : (request : Request) (shown : Shown) (s : State) → MayEnd request shown false → IfSome s.told (λ t. shown.status ≢ 3 → shown.status ≢ 4 → IsAnswerTo request t.files shown) → EndsAs request shown s s
-unasked request shown s may content = record { ends = record { failed = false; may = may; reads = not_read (asks_once request) (MayAsk request) [] s tt; content = content }; unread = λ err. refl }
+-- nothing was read, and what is shown is the answer over any files
+unasked : (request : Request) (shown : Shown) (s : State) → MayEnd request shown false → ((files : Files) → shown.status ≢ 3 → IsAnswerTo request files shown) → EndsAs request shown s s
+unasked request shown s may content = record {
+  ends = record { failed = false; may = may; reads = not_read request (MayAsk request) [] s tt; content = of_each s.told (λ t three four. content t.files three) };
+  alone = λ leaves. record { same = refl; calm = λ four. let clash : true ≡ false = sym (four_failed may four) in (cc); content = content };
+}
 
 pub ends_of_words : (request : Request) (unread : Unread WordFault) (shown : Shown) (s : State) → Fails (fault_in unread) request → WordsEnd unread shown → EndsAs request shown s s
-ends_of_words request (unread.Fault fault) shown s is whole = rw is (unasked _ _ s (malformed fault) (of_each s.told (λ t three four. refl)))
-ends_of_words request (unread.Fault fault) shown s is (short four) = unasked request _ s (lacking request) (of_each s.told (λ t three other. absurd (three refl)))
-ends_of_words request (unread.Memory m) shown s is end = rw end (unasked request _ s (lacking request) (of_each s.told (λ t three other. absurd (three refl))))
+ends_of_words request (unread.Fault fault) shown s is whole = rw is (unasked _ _ s (malformed fault) (λ files three. refl))
+ends_of_words request (unread.Fault fault) shown s is (short four) = unasked request _ s (lacking request) (λ files three. absurd (three refl))
+ends_of_words request (unread.Memory m) shown s is end = rw end (unasked request _ s (lacking request) (λ files three. absurd (three refl)))
 
 -- a task that was read
 pub ends_asked : (request : Request) (t : Task) (shown : Shown) (a b : State) → request ≡ Ok t → EndsAs (Ok t) shown a b → EndsAs request shown a b
@@ -372,28 +396,20 @@ ends_asked request t shown a b is ends = rw is ends
 
 -- ---- a task over the files of the tree
 
-pub ends_plan : (t : Task) (project : Project) (shown : Shown) (a b : State) → t ≡ task.Plan project → EndsFor (Ok t) (ShowsProject t) (IsOfProject (project_of t)) [] shown a b → EndsAs (Ok t) shown a b
-ends_plan t project shown a b is ends = rw is (over (rw is at ends))
-  where
-    over : EndsFor (Ok (task.Plan project)) (ShowsProject (task.Plan project)) (IsOfProject project) [] shown a b → EndsAs (Ok (task.Plan project)) shown a b
-    over e = record { ends = record { failed = e.failed; may = e.may; reads = record { only = e.reads.only; paths = e.reads.paths }; content = e.content }; unread = λ leaves. absurd leaves }
+-- how a task ends over its project's files
+abbrev pub EndsOver : Task → Shown → State → State → Type 0
+EndsOver t shown a b = EndsFor (Ok t) (ShowsProject t) (ReadsFor (Ok t) (IsOfProject (project_of t)) []) shown a b
 
-pub ends_abi : (t : Task) (project : Project) (i : Instance) (shown : Shown) (a b : State) → t ≡ task.Abi project i → EndsFor (Ok t) (ShowsProject t) (IsOfProject (project_of t)) [] shown a b → EndsAs (Ok t) shown a b
-ends_abi t project i shown a b is ends = rw is (over (rw is at ends))
-  where
-    over : EndsFor (Ok (task.Abi project i)) (ShowsProject (task.Abi project i)) (IsOfProject project) [] shown a b → EndsAs (Ok (task.Abi project i)) shown a b
-    over e = record { ends = record { failed = e.failed; may = e.may; reads = record { only = e.reads.only; paths = e.reads.paths }; content = e.content }; unread = λ leaves. absurd leaves }
-
-pub ends_check : (t : Task) (project : Project) (report : Path) (shown : Shown) (a b : State) → t ≡ task.Check project report → EndsFor (Ok t) (ShowsProject t) (IsOfProject (project_of t)) [] shown a b → EndsAs (Ok t) shown a b
-ends_check t project report shown a b is ends = rw is (over (rw is at ends))
-  where
-    over : EndsFor (Ok (task.Check project report)) (ShowsProject (task.Check project report)) (IsOfProject project) [] shown a b → EndsAs (Ok (task.Check project report)) shown a b
-    over e = record { ends = record { failed = e.failed; may = e.may; reads = record { only = e.reads.only; paths = e.reads.paths }; content = e.content }; unread = λ leaves. absurd leaves }
+pub ends_over : (t : Task) (shown : Shown) (a b : State) → (LeavesTree (Ok t) → ⊥) → EndsOver t shown a b → EndsAs (Ok t) shown a b
+ends_over (task.Plan project) shown a b stays e = record { ends = e; alone = λ leaves. absurd leaves }
+ends_over (task.Abi project i) shown a b stays e = record { ends = e; alone = λ leaves. absurd leaves }
+ends_over (task.Check project report) shown a b stays e = record { ends = e; alone = λ leaves. absurd leaves }
+ends_over (task.SelfLoad size project) shown a b stays e = absurd (stays (tt {0}))
 
 -- ---- a load
 
 -- how a task ends over a tree in memory with the load's files, of which no call is to fail
-pub over_load : (t : Task) (size : ℕ) (shown : Shown) (a b : State) → a ≡ load_state size → EndsFor (Ok t) (ShowsProject t) (IsOfProject (project_of t)) [] shown a b → EndsOverLoad t size shown
+pub over_load : (t : Task) (size : ℕ) (shown : Shown) (a b : State) → a ≡ load_state size → EndsOver t shown a b → EndsOverLoad t size shown
 over_load t size shown a b is ends =
     let sure : a.sure ≡ true = ap (λ (s : State). s.sure) is in
     let calm : ends.failed ≡ false = ends.reads.only.looks.ends.safe sure in
@@ -412,7 +428,4 @@ pub ends_load : (t : Task) (size : ℕ) (project : Project) (shown : Shown) (s :
 ends_load t size project shown s is ends = rw is (over (rw is at ends))
   where
     over : EndsOverLoad (task.SelfLoad size project) size shown → EndsAs (Ok (task.SelfLoad size project)) shown s s
-    over e = record {
-      ends = record { failed = false; may = e.may; reads = not_read true (MayAsk (Ok (task.SelfLoad size project))) [] s tt; content = of_each s.told (λ f three four. e.content three) };
-      unread = λ leaves. refl;
-    }
+    over e = unasked (Ok (task.SelfLoad size project)) shown s e.may (λ files three. e.content three)

@@ -1,7 +1,7 @@
 -- The ABI text of an instance: what is found of it over a world, and how that ends.
 use Rattle.std.proofs.Common.{◌≡◌, ◌≢◌, ◌||◌, inl, inr, Bool, true, false, List, map, refl, ap, sym, subst, ◌∙◌}
 use Rattle.std.specs.Prelude.{Option, Some, None, IfSome, Result, Ok, Err}
-use Rattle.std.specs.List.{zip}
+use Rattle.std.specs.List.{Contains, zip}
 use Rattle.std.proofs.lemmas.Option.{IfSome_then}
 use Rattle.vk_spec.specs.Paths.{Path}
 use Rattle.vk_spec.specs.Files.{Files}
@@ -9,12 +9,12 @@ use Rattle.vk_spec.specs.Settings.{Setting}
 use Rattle.vk_spec.specs.Settings as plain
 use Rattle.vk_base.specs.declared.instances.Instance.{Instance}
 use Rattle.vk_spec.specs.Lists.{NoRepeats}
-use Rattle.vk_spec.specs.States.{Told, State, OnlyRead}
+use Rattle.vk_spec.specs.States.{Told, State}
 use Rattle.vk_spec.specs.Catalogues.{CatalogueState, Places, OnPages}
 use Rattle.vk_spec.specs.Conditions.{Condition}
 use Rattle.vk_spec.specs.Standing.{disk_of, OnFiles}
 use Rattle.vk_spec.proofs.OptionLemmas.{of_each, of_both}
-use Rattle.vk_spec.proofs.StateLemmas.{read_then, told_before}
+use Rattle.vk_spec.proofs.StateLemmas.{told_before}
 use Rattle.vk_base.specs.Stops.{has_failed, was_out}
 use Rattle.vk_base.specs.declared.limits.Limit.{Limit}
 use Rattle.vk_base.specs.declared.limits.Limit.TheVariants as limit
@@ -23,6 +23,7 @@ use Rattle.vk_base.specs.declared.stops.Outage.TheVariants as outage
 use Rattle.vk_base.specs.declared.stops.Stop.{Stop}
 use Rattle.vk_base.specs.declared.stops.Stop.TheVariants as stop
 use Rattle.vk_resolution.specs.Planning.{Item, order_of}
+use Rattle.vk_resolution.proofs.Members.{map_contains, contains_map}
 use Rattle.vk_resolution.specs.Outcomes.{planned}
 use Rattle.vk_resolution.specs.Reasons.{Reason}
 use Rattle.vk_model.specs.declared.projects.Project.{Project}
@@ -39,15 +40,17 @@ use Rattle.vk_opening.specs.declared.starts.Start as made_start
 use Rattle.vk_files.specs.Kept.{paths_of}
 use Rattle.vk_pages.specs.Pages.{page_of}
 use Rattle.vk_world.specs.Worlds.{pages_in, places_in}
+use Rattle.vk_world.specs.VersionFolders.{place_in}
 use Rattle.vk_worklist.specs.declared.faults.CloseFault.{CloseFault}
 use Rattle.vk_worklist.specs.declared.faults.CloseFault.TheVariants.{Facts}
-use Rattle.vk_folder.specs.Folders.{IsFolderLimit, OnLimit}
-use Rattle.vk_abi.specs.Plans.{Shared, Pair, TextsAre, TextsTold, pair_view}
+use Rattle.vk_folder.specs.Folders.{IsFolderLimit, OnLimit, ReadsOnly}
+use Rattle.vk_abi.specs.Plans.{Shared, Pair, TextsAre, TextsTold, IsBelowSome, pair_view}
 use Rattle.vk_abi.specs.declared.plans.AbiPair.{AbiPair}
 use Rattle.vk_app.specs.declared.requests.Task.TheVariants as task
 use Rattle.vk_app.specs.declared.abi_texts.Spot.{Spot}
 use Rattle.vk_app.specs.declared.abi_texts.Wanted.{Wanted}
-use Rattle.vk_app.specs.Asked.{IsOfPages}
+use Rattle.vk_app.specs.Asked.{IsOfPorts, to_plan, to_tell}
+use Rattle.vk_app.specs.Once.{ReadsOnce, ReadsFor}
 use Rattle.vk_app.specs.Resolutions as the
 use Rattle.vk_app.specs.Resolutions.{Settles}
 use Rattle.vk_app.specs.Resolved.{resolution_of, Resolves, IsReady}
@@ -56,8 +59,8 @@ use Rattle.vk_app.specs.Texts.{place_of, shared_of, shown_at, text_at, AreFolder
 use Rattle.vk_app.specs.Answers.{ShowsSettled}
 use Rattle.vk_app.specs.Ends.{EndsFor, MayEnd, done, refused, limited, lacking, broken, EndsWith, whole, short, shown_of, shown_out}
 use Rattle.vk_app.specs.Folders.{IsPlanOf, HasNoPlan, HaveItems, HaveOutcome, StandIn, AreItemFolders, FindsIn, Finds, HasFolders, FitsOutcome, EndsPlaced, shown_limit, Untouched, EndsInPlan, EndsFound}
-use Rattle.vk_app.proofs.DoneLemmas.{ends_with}
-use Rattle.vk_app.proofs.ReadLemmas.{reads_again}
+use Rattle.vk_app.proofs.DoneLemmas.{ends_by, ends_with}
+use Rattle.vk_app.proofs.ReadLemmas.{for_plan, own_after}
 use Rattle.vk_app.proofs.FolderLemmas.{planned_once}
 
 or_false : (f : Bool) → f || false ≡ f
@@ -89,6 +92,12 @@ fits_outcome i (Ok (outcome.Planned plan reasons)) found s finds = fits_in i (ma
 fits_outcome i (Ok (outcome.Refused faults reasons)) found s finds = tt {0}
 fits_outcome i (Ok (outcome.Early early)) found s finds = tt {0}
 fits_outcome i (Err e) found s finds = tt {0}
+
+-- what is below the folders of items is below folders where versions of ports stand
+in_folder : (start : Start) (files : Files) (items : List Item) (folders : List Path) (path : Path) → AreFolders start files items folders → IsBelowSome folders path → IsOfPorts start to_tell files path
+in_folder start files items folders path stand below =
+    let there = contains_map (λ item. place_in start files item.instance.port item.version) items (Some below.0) (subst (λ l. Contains l (Some below.0)) (sym stand) (map_contains Some folders below.0 below.1)) in
+    (there.0.instance.port, there.0.version, below.0, there.2, below.2)
 
 -- ---- a plan, or none
 
@@ -157,27 +166,27 @@ once_known P N None h = tt
 once_known P N (Some x) h = h
 
 pub placed_text : (wanted : Wanted) (items : List Item) (spot : Spot) (pairs : List AbiPair) (a b : State)
-    → (NoRepeats (order_of items) → OnFiles (TextsTold (shared_of wanted.project.now (setting_view wanted.setting.now)) (zip items spot.folders) (Ok pairs)) a) → OnlyRead false a b
+    → (NoRepeats (order_of items) → OnFiles (TextsTold (shared_of wanted.project.now (setting_view wanted.setting.now)) (zip items spot.folders) (Ok pairs)) a) → ReadsOnly (IsBelowSome spot.folders) false a b
     → EndsPlaced wanted items spot (printed 0 (text_at (map pair_view pairs) spot.place)) a b
 placed_text wanted items spot pairs a b is only = record {
   failed = false;
   may = done (task.Abi wanted.project.now wanted.instance.now) _;
-  only = only;
+  reads = only;
   content = IfSome_then a.told (once_known _ (NoRepeats (order_of items)) a.told is) (λ t told three four once. (Ok (map pair_view pairs), told once, refl));
 }
 
 placed_out : (wanted : Wanted) (items : List Item) (spot : Spot) (e : Stop Limit) (a b : State)
     → (NoRepeats (order_of items) → OnFiles (TextsTold (shared_of wanted.project.now (setting_view wanted.setting.now)) (zip items spot.folders) (Err e)) a)
     → OnLimit {A = List AbiPair} (Err e) (IsFolderLimit wanted.project.now.max_bytes)
-    → OnlyRead (has_failed {A = List AbiPair} (Err e)) a b → EndsPlaced wanted items spot (shown_limit e) a b
+    → ReadsOnly (IsBelowSome spot.folders) (has_failed {A = List AbiPair} (Err e)) a b → EndsPlaced wanted items spot (shown_limit e) a b
 placed_out wanted items spot (stop.Fault l) a b is limits only = record {
   failed = false;
   may = limited (task.Abi wanted.project.now wanted.instance.now) l (inr limits);
-  only = only;
+  reads = only;
   content = IfSome_then a.told (once_known _ (NoRepeats (order_of items)) a.told is) (λ t told three four once. (Err l, told once, refl));
 }
-placed_out wanted items spot stop.Failed a b is limits only = record { failed = true; may = broken (task.Abi wanted.project.now wanted.instance.now); only = only; content = of_each a.told (λ t three four. absurd (four refl)) }
-placed_out wanted items spot (stop.Memory m) a b is limits only = record { failed = false; may = lacking (Ok (task.Abi wanted.project.now wanted.instance.now)); only = only; content = of_each a.told (λ t three four. absurd (three refl)) }
+placed_out wanted items spot stop.Failed a b is limits only = record { failed = true; may = broken (task.Abi wanted.project.now wanted.instance.now); reads = only; content = of_each a.told (λ t three four. absurd (four refl)) }
+placed_out wanted items spot (stop.Memory m) a b is limits only = record { failed = false; may = lacking (Ok (task.Abi wanted.project.now wanted.instance.now)); reads = only; content = of_each a.told (λ t three four. absurd (three refl)) }
 
 calm_out : (e : Stop Limit) → (shown_limit e).status ≢ 4 → has_failed {A = List AbiPair} (Err e) ≡ false
 calm_out (stop.Fault l) four = refl
@@ -187,12 +196,12 @@ calm_out (stop.Memory m) four = refl
 pub placed_limit : (wanted : Wanted) (items : List Item) (spot : Spot) (e : Stop Limit) (shown : Shown) (a b : State)
     → (NoRepeats (order_of items) → OnFiles (TextsTold (shared_of wanted.project.now (setting_view wanted.setting.now)) (zip items spot.folders) (Err e)) a)
     → OnLimit {A = List AbiPair} (Err e) (IsFolderLimit wanted.project.now.max_bytes)
-    → OnlyRead (has_failed {A = List AbiPair} (Err e)) a b → EndsWith (shown_limit e) shown → EndsPlaced wanted items spot shown a b
+    → ReadsOnly (IsBelowSome spot.folders) (has_failed {A = List AbiPair} (Err e)) a b → EndsWith (shown_limit e) shown → EndsPlaced wanted items spot shown a b
 placed_limit wanted items spot e shown a b is limits only whole = placed_out wanted items spot e a b is limits only
 placed_limit wanted items spot e shown a b is limits only (short four) = record {
   failed = false;
   may = lacking (Ok (task.Abi wanted.project.now wanted.instance.now));
-  only = subst (λ f. OnlyRead f a b) (calm_out e four) only;
+  reads = subst (λ f. ReadsOnly (IsBelowSome spot.folders) f a b) (calm_out e four) only;
   content = of_each a.told (λ t three other. absurd (three refl));
 }
 
@@ -201,7 +210,14 @@ placed_limit wanted items spot e shown a b is limits only (short four) = record 
 module _ (wanted : Wanted) (start : made_start.Start) (a b c : State) where
   abbrev Ends : Shown → Type 0
   Ends shown = EndsFor (Ok (task.Abi wanted.project.now wanted.instance.now)) (ShowsSettled (task.Abi wanted.project.now wanted.instance.now) (setting_view wanted.setting.now) (start_view start))
-      (IsOfPages (start_view start)) (paths_of (opened_files start)) shown a c
+      (ReadsFor (Ok (task.Abi wanted.project.now wanted.instance.now)) (IsOfPorts (start_view start)) (paths_of (opened_files start))) shown a c
+
+  -- what was read for the plan
+  abbrev Reads : Bool → State → State → Type 0
+  Reads = ReadsOnce (IsOfPorts (start_view start) to_plan) (paths_of (opened_files start))
+
+  plan_reads : (failed : Bool) → Reads failed a b → c ≡ b → ReadsFor (Ok (task.Abi wanted.project.now wanted.instance.now)) (IsOfPorts (start_view start)) (paths_of (opened_files start)) failed a c
+  plan_reads failed reads same = for_plan _ _ _ (subst (Reads failed a) (sym same) reads)
 
   abbrev ResolvesTo : Result Outcome (Stop CloseFault) → Type 0
   ResolvesTo answer = IfSome a.told (λ t. Resolves (Settles (setting_view wanted.setting.now) (page_of (start_view start) t.files)) answer)
@@ -209,33 +225,27 @@ module _ (wanted : Wanted) (start : made_start.Start) (a b c : State) where
   -- nothing was read besides, and this is shown
   still : (first shown : Shown) (failed : Bool) → MayEnd (Ok (task.Abi wanted.project.now wanted.instance.now)) first failed → (first.status ≢ 4 → failed ≡ false)
       → IfSome a.told (λ t. first.status ≢ 3 → first.status ≢ 4 → ShowsSettled (task.Abi wanted.project.now wanted.instance.now) (setting_view wanted.setting.now) (start_view start) t.files first)
-      → OnlyRead failed a b → c ≡ b → EndsWith first shown → Ends shown
-  still first shown failed may calm content only same whole = record { failed = failed; may = may; reads = reads_again _ _ (subst (OnlyRead failed a) (sym same) only); content = content }
-  still first shown failed may calm content only same (short four) = record {
-    failed = false;
-    may = lacking (Ok (task.Abi wanted.project.now wanted.instance.now));
-    reads = reads_again _ _ (subst (λ f. OnlyRead f a c) (calm four) (subst (OnlyRead failed a) (sym same) only));
-    content = of_each a.told (λ t three other. absurd (three refl));
-  }
+      → Reads failed a b → c ≡ b → EndsWith first shown → Ends shown
+  still first shown failed may calm content reads same ends = ends_by (task.Abi wanted.project.now wanted.instance.now) _ _ first shown failed a c may calm content (plan_reads failed reads same) ends
 
   -- no call of the tree that was made since failed, or one did
-  out_ends : (o : Outage) (shown : Shown) → OnlyRead (was_out {A = Option Spot} (Err o)) a b → Untouched (shown_out o) shown b c → Ends shown
+  out_ends : (o : Outage) (shown : Shown) → Reads (was_out {A = Option Spot} (Err o)) a b → Untouched (shown_out o) shown b c → Ends shown
   out_ends outage.Failed shown only u = still (shown_out outage.Failed) shown true (broken (task.Abi wanted.project.now wanted.instance.now)) (λ four. absurd (four refl)) (of_each a.told (λ t three four. absurd (four refl))) only u.same u.ends
   out_ends (outage.Memory m) shown only u = still (shown_out (outage.Memory m)) shown false (lacking (Ok (task.Abi wanted.project.now wanted.instance.now))) (λ four. refl) (of_each a.told (λ t three four. absurd (three refl))) only u.same u.ends
 
   -- there is no plan
   rest_ends : (answer : Result Outcome (Stop CloseFault)) (found : Result (Option Spot) Outage) (shown : Shown) → HasNoPlan answer → found ≡ Ok None → ResolvesTo answer
-      → IfSome a.told (λ t. IsReady wanted.project.now wanted.setting.now start t.files) → OnlyRead (has_failed answer || was_out found) a b → Untouched (shown_of wanted.project.now answer) shown b c → Ends shown
+      → IfSome a.told (λ t. IsReady wanted.project.now wanted.setting.now start t.files) → Reads (has_failed answer || was_out found) a b → Untouched (shown_of wanted.project.now answer) shown b c → Ends shown
   rest_ends answer found shown rest none resolves ready only u =
       let same : has_failed answer || was_out found ≡ has_failed answer = ap (λ f. has_failed answer || was_out f) none ∙ or_false (has_failed answer) in
-      ends_with (task.Abi wanted.project.now wanted.instance.now) _ _ _ answer shown a c (inl refl)
+      ends_with (task.Abi wanted.project.now wanted.instance.now) _ _ answer shown a c (inl refl)
       (of_both a.told ready resolves (λ t r h three four. shows_rest wanted.project.now wanted.instance.now (setting_view wanted.setting.now) (start_view start) t.files answer rest r.most h three four))
-      (reads_again _ _ (subst (OnlyRead (has_failed answer) a) (sym u.same) (subst (λ f. OnlyRead f a b) same only))) u.ends
+      (plan_reads (has_failed answer) (subst (λ f. Reads f a b) same only) u.same) u.ends
 
   -- there is one
   plan_ends_so : (plan : Plan) (reasons : List made_reason.Reason) (found : Result (Option Spot) Outage) (shown : Shown) (s : CatalogueState Condition)
       → s.pages ≡ pages_in (start_view start) a.told → s.origin.places ≡ places_in (start_view start) a.told → ResolvesTo (Ok (outcome.Planned plan reasons))
-      → FindsIn (instance_view wanted.instance.now) (map item_view plan.items) found s → OnlyRead (was_out found) a b → EndsInPlan wanted (map item_view plan.items) found shown b c → Ends shown
+      → FindsIn (instance_view wanted.instance.now) (map item_view plan.items) found s → Reads (was_out found) a b → EndsInPlan wanted (map item_view plan.items) found shown b c → Ends shown
   plan_ends_so plan reasons (Ok None) shown s pages places resolves finds only u =
       still (printed 1 (not_planned (instance_view wanted.instance.now))) shown false (refused (task.Abi wanted.project.now wanted.instance.now) _) (λ four. refl)
       (IfSome_then a.told resolves (λ t h three four. shows_unplanned wanted.project.now wanted.instance.now (setting_view wanted.setting.now) (start_view start) t.files (map item_view plan.items) (reasons_view reasons) h finds))
@@ -243,11 +253,11 @@ module _ (wanted : Wanted) (start : made_start.Start) (a b c : State) where
   plan_ends_so plan reasons (Err o) shown s pages places resolves finds only u = out_ends o shown only u
   plan_ends_so plan reasons (Ok (Some spot)) shown s pages places resolves finds only e =
       let stand = folders_told (start_view start) a.told (map item_view plan.items) spot.folders s pages places finds.2 in
-      let texts = told_before (λ f. shown.status ≢ 3 → shown.status ≢ 4 → SpotShows (shared_of wanted.project.now (setting_view wanted.setting.now)) (map item_view plan.items) spot shown f) only e.content in
+      let texts = told_before (λ f. shown.status ≢ 3 → shown.status ≢ 4 → SpotShows (shared_of wanted.project.now (setting_view wanted.setting.now)) (map item_view plan.items) spot shown f) only.only e.content in
       record {
         failed = e.failed;
         may = e.may;
-        reads = reads_again _ _ (read_then only e.only);
+        reads = own_after _ _ _ only e.reads.only (IfSome_then a.told stand (λ t st path has. in_folder (start_view start) t.files (map item_view plan.items) spot.folders path st (e.reads.within path has)));
         content = of_both a.told (of_both {R = λ t. StandsAndShows t.files plan spot shown} a.told stand texts (λ t st tx. (st, tx))) resolves
             (λ t both h three four. shows_spot wanted.project.now wanted.instance.now (setting_view wanted.setting.now) (start_view start) t.files (map item_view plan.items) (reasons_view reasons) spot shown h finds.0 both.0 (both.1 three four));
       }
@@ -258,7 +268,7 @@ module _ (wanted : Wanted) (start : made_start.Start) (a b c : State) where
 
   pub text_ends : (answer : Result Outcome (Stop CloseFault)) (found : Result (Option Spot) Outage) (shown : Shown) (s : CatalogueState Condition)
       → s.pages ≡ pages_in (start_view start) a.told → s.origin.places ≡ places_in (start_view start) a.told → ResolvesTo answer → IfSome a.told (λ t. IsReady wanted.project.now wanted.setting.now start t.files)
-      → Finds (instance_view wanted.instance.now) answer found s → OnlyRead (has_failed answer || was_out found) a b → EndsFound wanted answer found shown b c → Ends shown
+      → Finds (instance_view wanted.instance.now) answer found s → Reads (has_failed answer || was_out found) a b → EndsFound wanted answer found shown b c → Ends shown
   text_ends (Ok (outcome.Planned plan reasons)) found shown s pages places resolves ready finds only ends = plan_ends_so plan reasons found shown s pages places resolves finds only ends
   text_ends (Ok (outcome.Refused faults reasons)) found shown s pages places resolves ready finds only ends = rest_ends (Ok (outcome.Refused faults reasons)) found shown (tt {0}) finds resolves ready only ends
   text_ends (Ok (outcome.Early early)) found shown s pages places resolves ready finds only ends = rest_ends (Ok (outcome.Early early)) found shown (tt {0}) finds resolves ready only ends

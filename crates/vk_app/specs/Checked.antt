@@ -1,9 +1,10 @@
 -- How a report is read and judged, and how that ends.
-use Rattle.std.specs.Prelude.{◌≡◌, ◌≤◌, ℕ, List, length, IfSome, Result, Ok, Err, codes}
+use Rattle.std.specs.Prelude.{◌≡◌, ◌⊎◌, ◌≤◌, ℕ, Bool, List, [], ◌∷◌, length, IfSome, Result, Ok, Err, codes}
 use Rattle.vk_spec.specs.Paths.{Path}
 use Rattle.vk_spec.specs.Files.{Files}
 use Rattle.vk_spec.specs.Settings.{Setting}
 use Rattle.vk_spec.specs.Standing.{Disk}
+use Rattle.vk_spec.specs.States.{State, Looks}
 use Rattle.vk_spec.specs.Earlies.{Early}
 use Rattle.vk_resolution.specs.Givens.{Pages}
 use Rattle.vk_resolution.specs.Outcomes.{Outcome}
@@ -31,6 +32,12 @@ ReportIs path (Err (stop.Fault read.Missing)) d = report_in (d path) ≡ absent
 ReportIs path (Err (stop.Fault read.TooLarge)) d = report_in (d path) ≡ too_large
 ReportIs path (Err stop.Failed) d = Unit {0}
 ReportIs path (Err (stop.Memory m)) d = Unit {0}
+
+-- nothing but the report was asked for, and that once at most
+pub record ReadsReport (path : Path) (failed : Bool) (before after : State) : Type 0 where
+  pub own : List Path
+  pub once : (own ≡ []) ⊎ (own ≡ path ∷ [])
+  pub looks : Looks own failed before after
 
 -- how it is shown that there is no report to judge
 abbrev pub shown_unread : Path → Stop ReadFault → Shown

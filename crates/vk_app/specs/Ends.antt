@@ -1,7 +1,6 @@
 -- How a run ends, before its bytes go out.
 use Rattle.std.specs.Prelude.{◌≡◌, ◌≢◌, ◌||◌, ℕ, Bool, true, false, List, [], Result, Ok, Err, IfSome}
 use Rattle.vk_spec.specs.Files.{Files}
-use Rattle.vk_spec.specs.Paths.{Path}
 use Rattle.vk_spec.specs.States.{State}
 use Rattle.vk_spec.specs.Sinks.{SinkState, Sent}
 use Rattle.vk_base.specs.declared.limits.Limit.{Limit}
@@ -20,7 +19,7 @@ use Rattle.vk_words.specs.declared.faults.WordFault.{WordFault}
 use Rattle.vk_gen.specs.Loads.{load_files}
 use Rattle.vk_app.specs.declared.requests.Task.{Task}
 use Rattle.vk_app.specs.Asked.{MayAsk, LeavesTree}
-use Rattle.vk_app.specs.Once.{asks_once, ReadsFor}
+use Rattle.vk_app.specs.Once.{ReadsFor}
 use Rattle.vk_app.specs.Requests.{Request}
 use Rattle.vk_app.specs.Resolved.{resolution_of}
 use Rattle.vk_app.specs.Shown.{Shown, shown_for, told, printed, words_line, memory_line, tree_line, output_line, limit_line}
@@ -46,17 +45,23 @@ pub data MayEnd : Request → Shown → Bool → Type 0 where
   lacking : (request : Request) → MayEnd request (told 3 memory_line) false
   broken : (task : Task) → MayEnd (Ok task) (told 4 tree_line) true
 
--- how a request ends where so much of it is done, and what is done to the tree: where files are told, what is shown answers, unless memory ran out or the tree failed
-pub record EndsFor (request : Request) (Answers : Files → Shown → Type 0) (May : Files → Path → Type 0) (earlier : List Path) (shown : Shown) (before after : State) : Type 0 where
+-- how a request ends where so much of it is done, and how the tree is read: where files are told, what is shown answers, unless memory ran out or the tree failed
+pub record EndsFor (request : Request) (Answers : Files → Shown → Type 0) (Reads : Bool → State → State → Type 0) (shown : Shown) (before after : State) : Type 0 where
   pub failed : Bool
   pub may : MayEnd request shown failed
-  pub reads : ReadsFor (asks_once request) May earlier failed before after
+  pub reads : Reads failed before after
   pub content : IfSome before.told (λ t. shown.status ≢ 3 → shown.status ≢ 4 → Answers t.files shown)
 
--- how a request and a tree end, and what is done to the tree
+-- how a request ends that leaves the tree: what is shown is the answer over any files, and no call failed
+pub record EndsAlone (request : Request) (shown : Shown) (before after : State) : Type 0 where
+  pub same : after ≡ before
+  pub calm : shown.status ≢ 4
+  pub content : (files : Files) → shown.status ≢ 3 → IsAnswerTo request files shown
+
+-- how a request and a tree end, and how the tree is read
 pub record EndsAs (request : Request) (shown : Shown) (before after : State) : Type 0 where
-  pub ends : EndsFor request (IsAnswerTo request) (MayAsk request) [] shown before after
-  pub unread : LeavesTree request → after ≡ before
+  pub ends : EndsFor request (IsAnswerTo request) (ReadsFor request (MayAsk request) []) shown before after
+  pub alone : LeavesTree request → EndsAlone request shown before after
 
 -- how a task ends over the files of a load of a size: what is shown of them, or out of memory
 pub record EndsOverLoad (t : Task) (size : ℕ) (shown : Shown) : Type 0 where

@@ -3,7 +3,7 @@ use Rattle.std.specs.Prelude.{◌≡◌, ◌≢◌, ℕ, Bool, List, map, length
 use Rattle.std.specs.List.{Contains, zip}
 use Rattle.vk_spec.specs.Lists.{NoRepeats}
 use Rattle.vk_spec.specs.Paths.{Path}
-use Rattle.vk_spec.specs.States.{State, OnlyRead}
+use Rattle.vk_spec.specs.States.{State}
 use Rattle.vk_spec.specs.Standing.{disk_of}
 use Rattle.vk_spec.specs.Settings.{Instance}
 use Rattle.vk_spec.specs.Versions.{Version, ask_of}
@@ -22,7 +22,8 @@ use Rattle.vk_model.specs.declared.reasons.Reason.{Reason}
 use Rattle.vk_model.specs.declared.plans.Outcome.{Outcome}
 use Rattle.vk_model.specs.declared.plans.Outcome.TheVariants as outcome
 use Rattle.vk_worklist.specs.declared.faults.CloseFault.{CloseFault}
-use Rattle.vk_abi.specs.Plans.{Pair, TextsAre}
+use Rattle.vk_folder.specs.Folders.{ReadsOnly}
+use Rattle.vk_abi.specs.Plans.{Pair, TextsAre, IsBelowSome}
 use Rattle.vk_model.specs.SettingViews.{instance_view, setting_view}
 use Rattle.vk_app.specs.Shown.{Shown, told, printed, memory_line, tree_line, limit_line}
 use Rattle.vk_app.specs.Texts.{place_of, shared_of, shown_at, not_planned}
@@ -96,7 +97,7 @@ shown_limit (stop.Memory m) = told 3 memory_line
 pub record EndsPlaced (wanted : Wanted) (items : List Item) (spot : Spot) (shown : Shown) (before after : State) : Type 0 where
   pub failed : Bool
   pub may : MayEnd (Ok (task.Abi wanted.project.now wanted.instance.now)) shown failed
-  pub only : OnlyRead failed before after
+  pub reads : ReadsOnly (IsBelowSome spot.folders) failed before after
   pub content : IfSome before.told (λ t. shown.status ≢ 3 → shown.status ≢ 4 → NoRepeats (order_of items)
       → (texts : Result (List Pair) Limit) × TextsAre (shared_of wanted.project.now (setting_view wanted.setting.now)) (zip items spot.folders) texts (disk_of t.files) × (shown ≡ shown_at spot.place texts))
 

@@ -1,31 +1,39 @@
--- Reading a tree, each path once and no path that isn't listed.
-use Rattle.std.specs.Prelude.{◌++◌, Bool, true, false, List, IfSome, Ok, Err}
+-- Reading a tree: for a plan each path once and none that isn't listed, and what a request reads besides.
+use Rattle.std.specs.Prelude.{◌≡◌, ◌⊎◌, ◌++◌, Bool, List, [], ◌∷◌, IfSome, Ok, Err}
 use Rattle.std.specs.List.{Contains}
 use Rattle.vk_spec.specs.Lists.{NoRepeats}
 use Rattle.vk_spec.specs.Paths.{Path}
 use Rattle.vk_spec.specs.Files.{Files}
 use Rattle.vk_spec.specs.States.{State, OnlyRead}
 use Rattle.vk_app.specs.declared.requests.Task.TheVariants as task
+use Rattle.vk_app.specs.Asked.{Purpose, to_plan, to_tell}
 use Rattle.vk_app.specs.Requests.{Request}
 
 -- where the files are told, each of these paths is one that may be asked for
 abbrev pub AreListed : (Files → Path → Type 0) → List Path → State → Type 0
 AreListed May paths s = IfSome s.told (λ t. (path : Path) → Contains paths path → May t.files path)
 
--- a plan asks for no path twice; for an ABI text, all files of the ports' folders are read, manifests among them that were read for the plan; a report that is checked may be one of the project's own files
-abbrev pub asks_once : Request → Bool
-asks_once (Err fault) = true
-asks_once (Ok (task.Plan project)) = true
-asks_once (Ok (task.Abi project instance)) = false
-asks_once (Ok (task.Check project report)) = false
-asks_once (Ok (task.SelfLoad size project)) = true
-
--- where each path is to be asked for once: after earlier ones these were, none of them again, no path twice, and none but those that may be asked for
-abbrev pub AreOnce : Bool → (Files → Path → Type 0) → List Path → List Path → State → Type 0
-AreOnce true May earlier asked before = NoRepeats (earlier ++ asked) × AreListed May asked before
-AreOnce false May earlier asked before = Unit {0}
-
--- nothing but reading was done, each path once where that is wanted
-pub record ReadsFor (once : Bool) (May : Files → Path → Type 0) (earlier : List Path) (failed : Bool) (before after : State) : Type 0 where
+-- nothing but reading was done: after earlier paths these were asked for, none of them again, no path twice, and none but those that may be asked for
+pub record ReadsOnce (May : Files → Path → Type 0) (earlier : List Path) (failed : Bool) (before after : State) : Type 0 where
   pub only : OnlyRead failed before after
-  pub paths : AreOnce once May earlier only.asked before
+  pub distinct : NoRepeats (earlier ++ only.asked)
+  pub listed : AreListed May only.asked before
+
+-- what a request asks for besides its plan: a check its report, once at most; an ABI text files of ports' folders, where they are told
+abbrev pub AreOwn : Request → (Files → Path → Type 0) → List Path → State → Type 0
+AreOwn (Err fault) May own s = own ≡ []
+AreOwn (Ok (task.Plan project)) May own s = own ≡ []
+AreOwn (Ok (task.Abi project instance)) May own s = AreListed May own s
+AreOwn (Ok (task.Check project report)) May own s = (own ≡ []) ⊎ (own ≡ report ∷ [])
+AreOwn (Ok (task.SelfLoad size project)) May own s = own ≡ []
+
+-- nothing but reading was done: for the plan each path once, and at one point what is read besides
+pub record ReadsFor (request : Request) (May : Purpose → Files → Path → Type 0) (earlier : List Path) (failed : Bool) (before after : State) : Type 0 where
+  pub only : OnlyRead failed before after
+  pub first : List Path
+  pub own : List Path
+  pub rest : List Path
+  pub parts : only.asked ≡ first ++ (own ++ rest)
+  pub distinct : NoRepeats (earlier ++ (first ++ rest))
+  pub listed : AreListed (May to_plan) (first ++ rest) before
+  pub besides : AreOwn request (May to_tell) own before

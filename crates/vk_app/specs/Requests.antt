@@ -31,11 +31,11 @@ project_of (task.Check project report) = project
 project_of (task.SelfLoad size project) = project
 
 -- the size of a load is from 1 to 2,000
-abbrev pub IsAllowed : Task → Type 0
-IsAllowed (task.Plan project) = Unit {0}
-IsAllowed (task.Abi project instance) = Unit {0}
-IsAllowed (task.Check project report) = Unit {0}
-IsAllowed (task.SelfLoad size project) = (1 ≤ size) × (size ≤ 2000)
+abbrev pub HasSize : Task → Type 0
+HasSize (task.Plan project) = Unit {0}
+HasSize (task.Abi project instance) = Unit {0}
+HasSize (task.Check project report) = Unit {0}
+HasSize (task.SelfLoad size project) = (1 ≤ size) × (size ≤ 2000)
 
 -- what the words ask for, or their first fault
 abbrev pub Request : Type 0

@@ -16,7 +16,7 @@ use Rattle.vk_opening.specs.declared.opens.Opened.{Opened}
 use Rattle.vk_opening.specs.declared.opens.Opened.TheVariants as opened
 use Rattle.vk_worklist.specs.declared.faults.CloseFault.{CloseFault}
 use Rattle.vk_worklist.specs.declared.faults.CloseFault.TheVariants.{Facts}
-use Rattle.vk_app.specs.Asked.{AsksNothing, IsOfPages}
+use Rattle.vk_app.specs.Asked.{Purpose, IsOfPorts, AsksNothing}
 use Rattle.vk_app.specs.Resolutions.{Resolution, early, resolved, too_many}
 use Rattle.vk_app.specs.Shown.{Shown}
 use Rattle.vk_app.specs.Answers.{ShowsSettled, ShowsEarly}
@@ -42,10 +42,10 @@ abbrev pub OpenedShows : Task → Opened → Files → Shown → Type 0
 OpenedShows task (opened.Ready setting start) files shown = ShowsSettled task (setting_view setting) (start_view start) files shown
 OpenedShows task (opened.Refused e) files shown = ShowsEarly task (early_view e) files shown
 
--- what is asked for then: of the ports' pages, or nothing
-abbrev pub OpenedMayAsk : Opened → Files → Path → Type 0
-OpenedMayAsk (opened.Ready setting start) files path = IsOfPages (start_view start) files path
-OpenedMayAsk (opened.Refused e) files path = AsksNothing files path
+-- what is asked for then: on the ports' behalf, or nothing
+abbrev pub OpenedMayAsk : Opened → Purpose → Files → Path → Type 0
+OpenedMayAsk (opened.Ready setting start) purpose files path = IsOfPorts (start_view start) purpose files path
+OpenedMayAsk (opened.Refused e) purpose files path = AsksNothing purpose files path
 
 -- what was kept of files is theirs, and as many requirements are allowed as the words say
 pub record IsReady (project : Project) (setting : Setting) (start : Start) (files : Files) : Type 0 where

@@ -1,8 +1,8 @@
 //! A report in a file against what a project comes to.
 ghost use Rattle.std.specs.Prelude.{◌≡◌, ◌<◌, ◌≤◌, IfOk, IfSome, List, None, Ok, Some, length};
 ghost use Rattle.vk_spec.specs.Catalogues.{OnlyAsked, OnPages};
+ghost use Rattle.vk_spec.specs.Lists.{NoRepeats};
 ghost use Rattle.vk_spec.specs.Paths.{Path};
-ghost use Rattle.vk_spec.specs.States.{OnlyRead};
 ghost use Rattle.vk_spec.specs.Standing.{OnFiles};
 ghost use Rattle.vk_base.specs.Stops.{has_failed};
 ghost use Rattle.vk_json.specs.Words.{word_of};
@@ -16,8 +16,9 @@ ghost use Rattle.vk_world.specs.Worlds.{state_of};
 ghost use Rattle.vk_check.specs.declared.verdicts.Verdict.TheVariants as the_verdict;
 ghost use Rattle.vk_app.specs.declared.requests.Task.TheVariants as task;
 ghost use Rattle.vk_app.specs.Answers.{ShowsEarly, ShowsSettled};
-ghost use Rattle.vk_app.specs.Asked.{AsksNothing, IsOfPages};
-ghost use Rattle.vk_app.specs.Checked.{EndsIn, Judges, ReportIs, ShowsJudged};
+ghost use Rattle.vk_app.specs.Asked.{AsksNothing, IsOfPorts, to_plan};
+ghost use Rattle.vk_app.specs.Once.{ReadsFor, ReadsOnce};
+ghost use Rattle.vk_app.specs.Checked.{EndsIn, Judges, ReadsReport, ReportIs, ShowsJudged};
 ghost use Rattle.vk_app.specs.Checked.{shown_judged, shown_unread};
 ghost use Rattle.vk_app.specs.Checks.{ShowsVerdict, most_report, no_report, verdict_shown};
 ghost use Rattle.vk_app.specs.Ends.{EndsFor, EndsWith, end_view};
@@ -47,7 +48,8 @@ const MOST_REPORT: u64 = 268_435_456;
 fn read_report<T: Tree>(tree: &mut T, path: &TreePath) -> Result<List<u8>, Stop<ReadFault>>
     ensures seen { OnFiles (ReportIs path.now result) (T.state tree.old) }
     ensures small { IfOk result (λ bytes. length bytes ≤ most_report) }
-    ensures reads { OnlyRead (has_failed result) (T.state tree.old) (T.state tree.new) }
+    ensures reads { ReadsReport path.now (has_failed result) (T.state tree.old)
+        (T.state tree.new) }
 {
     tree.read(path, MOST_REPORT)
 }
@@ -195,8 +197,8 @@ fn judge_on<T: Tree>(
     requires small { length bytes.now ≤ most_report }
     ensures { EndsFor (Ok (task.Check checked.entry.project.now checked.entry.report.now))
         (ShowsJudged bytes.now (setting_view setting.now) (start_view start))
-        (IsOfPages (start_view start)) (paths_of (opened_files start)) (end_view result.end)
-        (T.state tree) (T.state result.tree) }
+        (ReadsOnce (IsOfPorts (start_view start) to_plan) (paths_of (opened_files start)))
+        (end_view result.end) (T.state tree) (T.state result.tree) }
 {
     let mut world = World::on(alloc, start, tree);
     let answer = judged_by::<T, Brand>(alloc, bytes, setting, &mut world, Blank::new(1));
@@ -219,11 +221,13 @@ pub fn check_on<T: Tree>(
 ) -> Ended<T>
     requires { IfSome (T.state tree).told
         (λ t. IsReady checked.project.now setting.now start t.files) }
-    ensures { EndsFor (Ok (task.Check checked.entry.project.now checked.entry.report.now))
+    ensures { NoRepeats (paths_of (opened_files start))
+        → EndsFor (Ok (task.Check checked.entry.project.now checked.entry.report.now))
         (ShowsSettled (task.Check checked.entry.project.now checked.entry.report.now)
         (setting_view setting.now) (start_view start))
-        (IsOfPages (start_view start)) (paths_of (opened_files start)) (end_view result.end)
-        (T.state tree) (T.state result.tree) }
+        (ReadsFor (Ok (task.Check checked.entry.project.now checked.entry.report.now))
+        (IsOfPorts (start_view start)) (paths_of (opened_files start)))
+        (end_view result.end) (T.state tree) (T.state result.tree) }
 {
     match read_report(&mut tree, checked.report) {
         Ok(bytes) => judge_on(alloc, checked, bytes.as_slice(), setting, start, tree),
@@ -243,9 +247,10 @@ pub fn check_refused<T: Tree>(
     early: Early,
     mut tree: T,
 ) -> Ended<T>
-    ensures { (project : Project) (earlier : List Path) →
+    ensures { (project : Project) (earlier : List Path) → NoRepeats earlier →
         EndsFor (Ok (task.Check project report.now))
-        (ShowsEarly (task.Check project report.now) (early_view early)) AsksNothing earlier
+        (ShowsEarly (task.Check project report.now) (early_view early))
+        (ReadsFor (Ok (task.Check project report.now)) AsksNothing earlier)
         (end_view result.end) (T.state tree) (T.state result.tree) }
 {
     let outcome = Outcome::Early(early);

@@ -13,12 +13,12 @@ ghost use Rattle.vk_world.specs.Worlds.{state_of};
 ghost use Rattle.vk_app.specs.declared.requests.Task.TheVariants as task;
 ghost use Rattle.vk_pages.specs.Pages.{page_of};
 ghost use Rattle.vk_app.specs.Answers.{ShowsEarly, ShowsProject, ShowsSettled};
-ghost use Rattle.vk_app.specs.Asked.{AsksNothing, IsOfPages, IsOfProject};
+ghost use Rattle.vk_app.specs.Asked.{AsksNothing, IsOfPorts, IsOfProject, to_plan};
 ghost use Rattle.vk_app.specs.Ends.{EndsAs, EndsFor, EndsOverLoad, EndsWith, end_view};
-ghost use Rattle.vk_app.specs.Once.{ReadsFor};
+ghost use Rattle.vk_app.specs.Once.{ReadsFor, ReadsOnce};
 ghost use Rattle.vk_app.specs.Shown.{shown_for};
 ghost use Rattle.vk_model.specs.FaultViews.{outcome_view};
-ghost use Rattle.vk_app.specs.Requests.{IsAllowed, project_of};
+ghost use Rattle.vk_app.specs.Requests.{HasSize, project_of};
 ghost use Rattle.vk_app.specs.Resolutions.{Settles};
 ghost use Rattle.vk_app.specs.Resolved.{IsOpenedFor, IsReady, OpenedMayAsk, OpenedShows};
 ghost use Rattle.vk_app.specs.Resolved.{Resolves, resolution_of};
@@ -73,7 +73,7 @@ fn resolved_on<T: Tree>(alloc: Global, setting: &Setting, start: Start, tree: T)
     requires { IfSome (T.state tree).told (λ t. IsOf t.files (opened_files start)) }
     ensures content { IfSome (T.state tree).told (λ t. Resolves (Settles (setting_view setting.now)
         (page_of (start_view start) t.files)) result.outcome) }
-    ensures reads { ReadsFor true (IsOfPages (start_view start)) (paths_of (opened_files start))
+    ensures reads { ReadsOnce (IsOfPorts (start_view start) to_plan) (paths_of (opened_files start))
         (has_failed result.outcome) (T.state tree) (T.state result.tree) }
 {
     let mut world = World::on(alloc, start, tree);
@@ -98,8 +98,9 @@ fn plan_on<T: Tree>(
         (λ t. IsReady project.now setting.now start t.files) }
     ensures { EndsFor (Ok (task.Plan project.now))
         (ShowsSettled (task.Plan project.now) (setting_view setting.now) (start_view start))
-        (IsOfPages (start_view start)) (paths_of (opened_files start)) (end_view result.end)
-        (T.state tree) (T.state result.tree) }
+        (ReadsFor (Ok (task.Plan project.now))
+        (IsOfPorts (start_view start)) (paths_of (opened_files start)))
+        (end_view result.end) (T.state tree) (T.state result.tree) }
 {
     let found = resolved_on(alloc, setting, start, tree);
     Ended {
@@ -124,8 +125,9 @@ fn load_on<T: Tree>(
     ensures { EndsFor (Ok (task.SelfLoad size project.now))
         (ShowsSettled (task.SelfLoad size project.now) (setting_view setting.now)
         (start_view start))
-        (IsOfPages (start_view start)) (paths_of (opened_files start)) (end_view result.end)
-        (T.state tree) (T.state result.tree) }
+        (ReadsFor (Ok (task.SelfLoad size project.now))
+        (IsOfPorts (start_view start)) (paths_of (opened_files start)))
+        (end_view result.end) (T.state tree) (T.state result.tree) }
 {
     let found = resolved_on(alloc, setting, start, tree);
     Ended {
@@ -143,8 +145,9 @@ fn text_on<T: Tree>(alloc: Global, wanted: Wanted<'_>, start: Start, tree: T) ->
     ensures { EndsFor (Ok (task.Abi wanted.entry.project.now wanted.entry.instance.now))
         (ShowsSettled (task.Abi wanted.entry.project.now wanted.entry.instance.now)
         (setting_view wanted.entry.setting.now) (start_view start))
-        (IsOfPages (start_view start)) (paths_of (opened_files start)) (end_view result.end)
-        (T.state tree) (T.state result.tree) }
+        (ReadsFor (Ok (task.Abi wanted.entry.project.now wanted.entry.instance.now))
+        (IsOfPorts (start_view start)) (paths_of (opened_files start)))
+        (end_view result.end) (T.state tree) (T.state result.tree) }
 {
     let mut world = World::on(alloc, start, tree);
     let outcome = resolved_by::<T, Brand>(alloc, wanted.setting, &mut world, Blank::new(1));
@@ -168,10 +171,10 @@ fn done_on<T: Tree>(
 ) -> Ended<T>
     requires { IfSome (T.state tree).told
         (λ t. IsReady (project_of task.now) setting.now start t.files) }
-    ensures { EndsFor (Ok task.now)
+    ensures { NoRepeats (paths_of (opened_files start)) → EndsFor (Ok task.now)
         (ShowsSettled task.now (setting_view setting.now) (start_view start))
-        (IsOfPages (start_view start)) (paths_of (opened_files start)) (end_view result.end)
-        (T.state tree) (T.state result.tree) }
+        (ReadsFor (Ok task.now) (IsOfPorts (start_view start)) (paths_of (opened_files start)))
+        (end_view result.end) (T.state tree) (T.state result.tree) }
 {
     match task {
         Task::Plan(project) => plan_on(alloc, project, setting, start, tree),
@@ -208,8 +211,9 @@ fn refused<T>(alloc: Global, outcome: Outcome, tree: T) -> Ended<T>
 // Does a task for a project that didn't open, by its early line.
 fn done_refused<T: Tree>(alloc: Global, task: &Task, early: Early, tree: T) -> Ended<T>
     ensures { (earlier : List Path) → NoRepeats earlier →
-        EndsFor (Ok task.now) (ShowsEarly task.now (early_view early)) AsksNothing earlier
-        (end_view result.end) (T.state tree) (T.state result.tree) }
+        EndsFor (Ok task.now) (ShowsEarly task.now (early_view early))
+        (ReadsFor (Ok task.now) AsksNothing earlier) (end_view result.end) (T.state tree)
+        (T.state result.tree) }
 {
     match task {
         Task::Plan(_) => refused(alloc, Outcome::Early(early), tree),
@@ -223,8 +227,9 @@ fn done_refused<T: Tree>(alloc: Global, task: &Task, early: Early, tree: T) -> E
 fn done_opened<T: Tree>(alloc: Global, task: &Task, opened: Opened, tree: T) -> Ended<T>
     requires { IfSome (T.state tree).told (λ t. IsOpenedFor (project_of task.now) opened t.files) }
     ensures { (read : Kept) → IsKept read (Ok opened) → NoRepeats (paths_of read)
-        → EndsFor (Ok task.now) (OpenedShows task.now opened) (OpenedMayAsk opened)
-        (paths_of read) (end_view result.end) (T.state tree) (T.state result.tree) }
+        → EndsFor (Ok task.now) (OpenedShows task.now opened)
+        (ReadsFor (Ok task.now) (OpenedMayAsk opened) (paths_of read)) (end_view result.end)
+        (T.state tree) (T.state result.tree) }
 {
     match opened {
         Opened::Ready { setting, start } => done_on(alloc, task, &setting, start, tree),
@@ -234,8 +239,9 @@ fn done_opened<T: Tree>(alloc: Global, task: &Task, opened: Opened, tree: T) -> 
 
 // Does a task over the files of a tree: opens its project and shows what it comes to.
 fn done_over<T: Tree>(alloc: Global, task: &Task, mut tree: T) -> Ended<T>
-    ensures { EndsFor (Ok task.now) (ShowsProject task.now) (IsOfProject (project_of task.now))
-        [] (end_view result.end) (T.state tree) (T.state result.tree) }
+    ensures { EndsFor (Ok task.now) (ShowsProject task.now)
+        (ReadsFor (Ok task.now) (IsOfProject (project_of task.now)) []) (end_view result.end)
+        (T.state tree) (T.state result.tree) }
 {
     match World::open(alloc, &mut tree, task.project(), None) {
         Ok(opened) => done_opened(alloc, task, opened, tree),
@@ -283,7 +289,7 @@ fn done_load<T>(alloc: Global, task: &Task, size: u32, tree: T) -> Ended<T>
 
 /// Does a task: over the files of a tree, or over those of a load, which leaves the tree as it is.
 pub fn done<T: Tree>(alloc: Global, task: &Task, tree: T) -> Ended<T>
-    requires { IsAllowed task.now }
+    requires { HasSize task.now }
     ensures { EndsAs (Ok task.now) (end_view result.end) (T.state tree) (T.state result.tree) }
 {
     match task {

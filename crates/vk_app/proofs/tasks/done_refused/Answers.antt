@@ -12,7 +12,7 @@ pub returns-in-Abi : goal.returns-in-Abi
 returns-in-Abi g c = λ earlier distinct. rw (c.refused-in-Abi.ensures.tree, c.in-Abi.is) (ends_early _ _ c.args.early _ earlier _ (λ files. refl) distinct c.refused-in-Abi.ensures.end)
 
 pub returns-in-Check : goal.returns-in-Check
-returns-in-Check g c = λ earlier distinct. rw c.in-Check.is (c.check_refused.ensures _ earlier)
+returns-in-Check g c = λ earlier distinct. rw c.in-Check.is (c.check_refused.ensures _ earlier distinct)
 
 pub returns-in-SelfLoad : goal.returns-in-SelfLoad
 returns-in-SelfLoad g c = λ earlier distinct. rw (c.refused-in-SelfLoad.ensures.tree, c.in-SelfLoad.is) (ends_early _ _ c.args.early _ earlier _ (λ files. refl) distinct c.refused-in-SelfLoad.ensures.end)

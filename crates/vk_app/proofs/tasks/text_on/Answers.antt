@@ -21,7 +21,7 @@ returns g c = text_ends c.args.wanted c.args.start (g.T.Tree.state c.args.tree) 
     (tree_read_once (start_view c.args.start) (paths_of (opened_files c.args.start)) g.T.Tree.state c.on-world.result c.find_spot-found.new.world c.args.tree c.into_parts-tree.result.tree
     c.on-world.ensures.tree c.into_parts-tree.ensures.tree c.on-world.ensures.origin
     (asked_each (has_failed c.resolved_by-outcome.result) (was_out c.find_spot-found.result) (calm_found (instance_view c.args.wanted.instance.now) c.resolved_by-outcome.result c.find_spot-found.result _ c.find_spot-found.ensures.finds) c.resolved_by-outcome.ensures.asked c.find_spot-found.ensures.asked)
-    c.into_parts-tree.ensures.read).only
+    c.into_parts-tree.ensures.read)
     c.end_of_found.ensures
 
 pub on-world-requires : goal.on-world-requires
