@@ -1,6 +1,6 @@
 -- The task that words ask for is one that is done.
 use Rattle.std.proofs.Common.{◌≡◌, ◌≤◌, ℕ, refl, ap, sym, subst, ◌∙◌}
-use Rattle.std.specs.Prelude.{Ok, Err, unwrap_or}
+use Rattle.std.specs.Prelude.{Ok, unwrap_or}
 use Rattle.vk_spec.proofs.ReadingLemmas.{bind_ok}
 use Rattle.vk_words.specs.Words.{Words}
 use Rattle.vk_words.specs.Commands.{reads_words}

@@ -1,6 +1,6 @@
 -- A report that is checked: how it is read, and how that ends.
-use Rattle.std.proofs.Common.{◌≡◌, ◌≢◌, ◌⊎◌, ◌≤◌, ◌<◌, inl, inr, ◌∷◌, Bool, true, false, ℕ, List, [], length, refl, ap, sym, subst, ◌∙◌, arith}
-use Rattle.std.specs.Prelude.{Option, Some, None, IfSome, IfOk, Result, Ok, Err}
+use Rattle.std.proofs.Common.{◌≡◌, ◌≢◌, ◌⊎◌, ◌≤◌, ◌<◌, inl, inr, ◌∷◌, Bool, false, ℕ, List, [], length, refl, ap, sym, subst, ◌∙◌, arith}
+use Rattle.std.specs.Prelude.{Option, Some, IfSome, IfOk, Result, Ok, Err}
 use Rattle.std.proofs.lemmas.Bool.Decides.{nat_tests}
 use Rattle.std.proofs.lemmas.Option.{IfSome_then}
 use Rattle.vk_spec.specs.Paths.{Path}
@@ -20,19 +20,17 @@ use Rattle.vk_base.specs.Stops.{has_failed}
 use Rattle.vk_base.specs.declared.limits.Limit.TheVariants as limit
 use Rattle.vk_base.specs.declared.stops.Stop.{Stop}
 use Rattle.vk_base.specs.declared.stops.Stop.TheVariants as stop
-use Rattle.vk_resolution.specs.Givens.{Pages}
-use Rattle.vk_resolution.specs.Outcomes.{Outcome}
 use Rattle.vk_resolution.specs.Closures.{HasTooManyFacts}
 use Rattle.vk_resolution.specs.Planner.{inputs_of}
 use Rattle.vk_tree.specs.Answers.{read_answer}
 use Rattle.vk_tree.specs.declared.trees.ReadFault.{ReadFault}
 use Rattle.vk_tree.specs.declared.trees.ReadFault.TheVariants as read
-use Rattle.vk_files.specs.Kept.{Seen, absent, too_large, holds}
+use Rattle.vk_files.specs.Kept.{too_large, holds}
 use Rattle.vk_model.specs.declared.projects.Project.{Project}
 use Rattle.vk_model.specs.SettingViews.{setting_view}
 use Rattle.vk_model.specs.declared.settings.Setting as made_setting
 use Rattle.vk_opening.specs.Starts.{Start}
-use Rattle.vk_opening.specs.Views.{start_view, opened_files}
+use Rattle.vk_opening.specs.Views.{start_view}
 use Rattle.vk_opening.specs.declared.starts.Start as made_start
 use Rattle.vk_pages.specs.Pages.{page_of}
 use Rattle.vk_pages.proofs.PageLaws.{is_page}
@@ -47,12 +45,12 @@ use Rattle.vk_app.specs.Resolutions as the
 use Rattle.vk_app.specs.Resolutions.{Resolution, Settles}
 use Rattle.vk_app.specs.Resolved.{IsReady}
 use Rattle.vk_app.specs.Shown.{Shown, told, limit_line}
-use Rattle.vk_app.specs.Checks.{most_report, report_in, report_at, verdict_shown, ShowsVerdict, ShowsAgainst, ShowsSeen, ShowsCheck}
+use Rattle.vk_app.specs.Checks.{most_report, report_in, verdict_shown, ShowsVerdict, ShowsAgainst, ShowsSeen, ShowsCheck}
 use Rattle.vk_app.specs.Asked.{Purpose, to_plan}
 use Rattle.vk_app.specs.Once.{ReadsOnce, ReadsFor}
 use Rattle.vk_app.specs.Checked.{ReportIs, ReadsReport, shown_unread, Judges, shown_judged, ShowsJudged, EndsIn, made, lacks}
 use Rattle.vk_app.specs.Answers.{ShowsSettled}
-use Rattle.vk_app.specs.Ends.{EndsFor, EndsWith, MayEnd, done, refused, limited, lacking, broken, shown_of}
+use Rattle.vk_app.specs.Ends.{EndsFor, EndsWith, MayEnd, done, refused, limited, lacking, broken}
 use Rattle.vk_app.proofs.DoneLemmas.{ends_by}
 use Rattle.vk_app.proofs.ExistenceLemmas.{settles_some}
 use Rattle.vk_app.proofs.ReadLemmas.{own_alone, own_before}

@@ -22,7 +22,7 @@ use Rattle.vk_app.specs.declared.requests.Task.TheVariants as task
 use Rattle.vk_app.specs.Asked.{IsOfProject, LeavesTree, MayAsk}
 use Rattle.vk_app.specs.Once.{ReadsFor}
 use Rattle.vk_app.specs.Requests.{Request, project_of}
-use Rattle.vk_app.specs.Shown.{Shown, told, memory_line, tree_line, output_line}
+use Rattle.vk_app.specs.Shown.{Shown, told, memory_line, tree_line}
 use Rattle.vk_app.specs.Answers.{IsAnswerTo, ShowsProject}
 use Rattle.vk_app.specs.Runs.{Outside, IsCalm, Shows, ShowsAnswer, IsSure, HasCauses, IsUntold, IsLine, of_words, of_limit, of_memory, of_tree, Stops, out_stopped, err_stopped, TellsLine, TookFault, TookLimit, KeepsOut, JudgesWords, RunsAlone, RunsAs}
 use Rattle.vk_app.specs.Ends.{EndsAlone, EndsAs, EndsFor, EndsOverLoad, Tells, MayEnd, malformed, done, refused, limited, lacking, broken, whole, short, WordsEnd, line_after, told_status}
@@ -159,7 +159,6 @@ line_told before after (limited task l within) only fits some = (
 )
 line_told before after (lacking request) only fits some = (of_memory request, refl)
 line_told before after (broken task) only fits some = (of_tree task (risen_where only refl), refl)
-
 
 tree_cause : {request : Request} {shown : Shown} {failed : Bool} (status : ℕ) (before after : Outside) → MayEnd request shown failed → OnlyRead failed before.tree after.tree → TellsBy shown status before after → status ≡ 4 → MayHaveRisen before.tree.faults after.tree.faults
 tree_cause status before after may only (both false false sent line is) four = risen_where only (four_failed may (sym is ∙ four))

@@ -13,7 +13,7 @@ use Rattle.vk_world.specs.VersionFolders.{place_in}
 use Rattle.vk_model.specs.declared.projects.Project.{Project}
 use Rattle.vk_app.specs.declared.requests.Task.{Task}
 use Rattle.vk_app.specs.declared.requests.Task.TheVariants as task
-use Rattle.vk_app.specs.Requests.{Request, project_of}
+use Rattle.vk_app.specs.Requests.{Request}
 
 -- what a path is asked for: for a plan, or for an ABI text
 pub data Purpose : Type 0 where

@@ -1,13 +1,11 @@
 -- How a report is read and judged, and how that ends.
-use Rattle.std.specs.Prelude.{◌≡◌, ◌⊎◌, ◌≤◌, ℕ, Bool, List, [], ◌∷◌, length, IfSome, Result, Ok, Err, codes}
+use Rattle.std.specs.Prelude.{◌≡◌, ◌⊎◌, ℕ, Bool, List, [], ◌∷◌, Result, Ok, Err, codes}
 use Rattle.vk_spec.specs.Paths.{Path}
 use Rattle.vk_spec.specs.Files.{Files}
 use Rattle.vk_spec.specs.Settings.{Setting}
 use Rattle.vk_spec.specs.Standing.{Disk}
 use Rattle.vk_spec.specs.States.{State, Looks}
-use Rattle.vk_spec.specs.Earlies.{Early}
 use Rattle.vk_resolution.specs.Givens.{Pages}
-use Rattle.vk_resolution.specs.Outcomes.{Outcome}
 use Rattle.vk_base.specs.declared.stops.Stop.{Stop}
 use Rattle.vk_base.specs.declared.stops.Stop.TheVariants as stop
 use Rattle.vk_tree.specs.declared.trees.ReadFault.{ReadFault}
@@ -22,7 +20,7 @@ use Rattle.vk_check.specs.Checked.{IsChecked}
 use Rattle.vk_check.specs.declared.verdicts.Verdict.{Verdict}
 use Rattle.vk_app.specs.Resolutions.{Resolution, too_many, Settles}
 use Rattle.vk_app.specs.Shown.{Shown, told, printed, memory_line, tree_line}
-use Rattle.vk_app.specs.Checks.{report_in, no_report, verdict_shown, ShowsVerdict, ShowsAgainst}
+use Rattle.vk_app.specs.Checks.{report_in, no_report, verdict_shown, ShowsAgainst}
 use Rattle.vk_app.specs.Ends.{shown_of}
 
 -- what reading the report says of what stands there

@@ -2,7 +2,7 @@
 use Rattle.std.specs.Prelude.{◌++◌, ℕ, List, length, Ok, codes, decimal}
 use Rattle.hex.specs.Hex.{encode_lower}
 use Rattle.sha2.specs.Sha256.{sha256}
-use Rattle.vk_resolution.specs.Outcomes.{Outcome, planned, refused}
+use Rattle.vk_resolution.specs.Outcomes.{planned, refused}
 use Rattle.vk_resolution.specs.Planning.{Item}
 use Rattle.vk_resolution.specs.Reasons.{Reason}
 use Rattle.vk_report.specs.Reports.{whole_report}

@@ -1,7 +1,4 @@
 use Rattle.std.proofs.Common.{refl}
-use Rattle.vk_model.specs.EarlyViews.{early_view}
-use Rattle.vk_app.specs.declared.requests.Task.TheVariants as task
-use Rattle.vk_app.specs.Answers.{ShowsEarly}
 use Rattle.vk_app.proofs.DoneLemmas.{ends_early}
 use Rattle.vk_app.proofs.tasks.done_refused.Goals as goal
 
