@@ -73,18 +73,33 @@ fn input_of(gathering: Gathering) -> Option<AbiInput>
         drop(gathering);
         return None;
     }
-    let (builder, native, port) = (gathering.builder?, gathering.native?, gathering.port?);
-    let (triplet, triplet_digest) = gathering.triplet?;
+    let Gathering {
+        builder,
+        native,
+        port,
+        triplet,
+        version,
+        features,
+        files,
+        deps,
+        ..
+    } = gathering;
+    let (Some(builder), Some(port), Some(version)) = (builder, port, version) else {
+        return None;
+    };
+    let (Some(native), Some((triplet, triplet_digest))) = (native, triplet) else {
+        return None;
+    };
     Some(AbiInput {
         builder,
         port,
-        version: gathering.version?,
-        features: gathering.features,
+        version,
+        features,
         triplet,
         triplet_digest,
         native,
-        files: gathering.files,
-        deps: gathering.deps,
+        files,
+        deps,
     })
 }
 

@@ -1,1 +1,2 @@
 pub mod ResolveLemmas
+pub mod PlanSentenceLemmas

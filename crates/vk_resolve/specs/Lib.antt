@@ -1,4 +1,5 @@
 -- what is promised
 pub mod Resolved
 -- what functions, laws and examples say besides
+pub mod PlanSentences
 pub mod Decided

@@ -4,6 +4,7 @@
 #![tactic(auto)]
 
 mod decisions;
+pub mod laws;
 mod resolving;
 
 pub use resolving::resolve;
