@@ -52,7 +52,7 @@ dirty_told (Some pages) clean reasons (Ok faults) told = λ s is clears. told s 
 pub clean_of : (o : Option Pages) (a : PageAsker) (s : Setting) (facts : List Fact) (b : Bool) → b ≡ a.clean → setting_view a.setting.now ≡ s → IfSome o (λ pages. Tracks a pages facts)
     → IfSome o (λ pages. b ≡ true → HasNoTrouble (inputs_of s pages) facts)
 clean_of None a s facts b is same tracks = tt
-clean_of (Some pages) a s facts b is same tracks = λ e. subst (λ t. HasNoTrouble (inputs_of t pages) facts) same (tracks.clean (sym is ∙ e))
+clean_of (Some pages) a s facts b is same tracks = λ e. subst (λ t. HasNoTrouble (inputs_of t pages) facts) same (tracks.clean.0 (sym is ∙ e))
 
 -- ---- the closure
 

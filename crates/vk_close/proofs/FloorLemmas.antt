@@ -19,7 +19,7 @@ use Rattle.vk_model.specs.Views.{override_view}
 use Rattle.vk_close.specs.declared.known.Known.{Known}
 use Rattle.vk_close.specs.declared.page_askers.PageAsker.{PageAsker}
 use Rattle.vk_close.specs.Known.{given_in, base_by, IsKnown, AreKnown}
-use Rattle.vk_close.specs.Kept.{IsKept}
+use Rattle.vk_close.specs.Kept.{IsKept, Tells}
 use Rattle.vk_close.specs.Floors.{not_below, found_by, visited_by, is_clear, is_base}
 
 listed : (o : Option (Row Condition)) → is_some (option_map (λ r. r.version) o) ≡ is_some o
@@ -44,6 +44,19 @@ clear_page p page a r e = by (row_in page.rows a) r e
   where
     by : (o : Option (Row Condition)) (r : Result Given Wrong) → is_clear (given_in r) (found_by (given_in r) (option_map (λ r. r.version) o)) ≡ true → floor_troubles p a o r ≡ []
     by (Some row) r e = refl
+    by None (Ok (overlay v)) e = refl
+    by None (Ok (override b)) e = (cc)
+    by None (Ok (baseline b)) e = (cc)
+    by None (Err wrong) e = refl
+
+clear_where : (p : List ℕ) (page : Page Condition) (a : Ask) (r : Result Given Wrong) → floor_troubles p a (row_in page.rows a) r ≡ [] → is_clear (given_in r) (found_by (given_in r) (version_in page a)) ≡ true
+clear_where p page a r e = by (row_in page.rows a) r e
+  where
+    by : (o : Option (Row Condition)) (r : Result Given Wrong) → floor_troubles p a o r ≡ [] → is_clear (given_in r) (found_by (given_in r) (option_map (λ r. r.version) o)) ≡ true
+    by (Some row) (Ok (overlay v)) e = refl
+    by (Some row) (Ok (override b)) e = refl
+    by (Some row) (Ok (baseline b)) e = refl
+    by (Some row) (Err wrong) e = refl
     by None (Ok (overlay v)) e = refl
     by None (Ok (override b)) e = (cc)
     by None (Ok (baseline b)) e = (cc)
@@ -94,12 +107,12 @@ module _ (a : PageAsker) (s : Setting) (port : List ℕ) (ask : Ask) (k : Known)
       ∙ visited_page s pages (pages port) ask (pages port).given
 
   pub clear_here : (o : Option Pages) (b : Bool) → b ≡ is_clear (option_map given_view k.given) found → IfSome o (λ pages. IsKept a pages)
-      → IfSome o (λ pages. found ≡ found_by (option_map given_view k.given) (version_in (pages port) ask)) → IfSome o (λ pages. b ≡ true → floor_troubles port ask (row_in (pages port).rows ask) (pages port).given ≡ [])
+      → IfSome o (λ pages. found ≡ found_by (option_map given_view k.given) (version_in (pages port) ask)) → IfSome o (λ pages. Tells b (floor_troubles port ask (row_in (pages port).rows ask) (pages port).given ≡ []))
   clear_here None b is kept told = tt
-  clear_here (Some pages) b is kept told = λ clear.
+  clear_here (Some pages) b is kept told =
       let known : IsKnown (map override_view a.overrides) (pages port) port k = here (map override_view a.overrides) pages a.ports.entries port k kept.known e in
-      clear_page port (pages port) ask (pages port).given
-      (sym (is ∙ ap (is_clear (option_map given_view k.given)) told ∙ ap (λ g. is_clear g (found_by g (version_in (pages port) ask))) known.given) ∙ clear)
+      let same = is ∙ ap (is_clear (option_map given_view k.given)) told ∙ ap (λ g. is_clear g (found_by g (version_in (pages port) ask))) known.given in
+      ((λ clear. clear_page port (pages port) ask (pages port).given (sym same ∙ clear)), (λ none. same ∙ clear_where port (pages port) ask (pages port).given none))
 
 base_page : (page : Page Condition) (a : Ask) (r : Result Given Wrong) → is_base (given_in r) a ≡ true → base_by page r ≡ found_by (given_in r) (version_in page a)
 base_page page a (Ok (overlay v)) e = (cc)

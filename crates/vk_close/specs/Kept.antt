@@ -1,5 +1,5 @@
 -- What an asker keeps.
-use Rattle.std.specs.Prelude.{◌≡◌, true, List, [], map}
+use Rattle.std.specs.Prelude.{◌≡◌, Bool, true, List, [], map}
 use Rattle.std.specs.List.{Contains}
 use Rattle.vk_resolution.specs.Givens.{Pages}
 use Rattle.vk_resolution.specs.Asking.{Fact}
@@ -21,7 +21,11 @@ pub record IsKept (a : PageAsker) (pages : Pages) : Type 0 where
 abbrev pub HasNoTrouble : Inputs → List Fact → Type 0
 HasNoTrouble inputs facts = (x : Fact) → Contains facts x → troubles_of inputs x ≡ []
 
--- and where it is clean, nothing is wrong with any of the facts that were asked about
+-- a flag is set exactly where this holds
+abbrev pub Tells : Bool → Type 0 → Type 0
+Tells flag P = (flag ≡ true → P) × (P → flag ≡ true)
+
+-- and it is clean exactly where nothing is wrong with any of the facts that were asked about
 pub record Tracks (a : PageAsker) (pages : Pages) (taken : List Fact) : Type 0 where
   pub kept : IsKept a pages
-  pub clean : a.clean ≡ true → HasNoTrouble (inputs_of (setting_view a.setting.now) pages) taken
+  pub clean : Tells a.clean (HasNoTrouble (inputs_of (setting_view a.setting.now) pages) taken)

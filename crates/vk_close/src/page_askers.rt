@@ -18,7 +18,7 @@ ghost use Rattle.vk_model.specs.Views.{override_view, manifest_view};
 ghost use Rattle.vk_model.specs.SettingViews.{setting_view, instance_view};
 ghost use Rattle.vk_model.specs.FactViews.{fact_view, who_view};
 ghost use Rattle.vk_model.specs.WrongViews.{given_view};
-ghost use Rattle.vk_close.specs.Kept.{IsKept, Tracks};
+ghost use Rattle.vk_close.specs.Kept.{IsKept, Tells, Tracks};
 ghost use Rattle.vk_close.specs.Floors.{is_clear, visited_by};
 ghost use Rattle.vk_close.specs.Known.{given_in};
 ghost use Rattle.vk_close.specs.Steps.{asked_on, given_on};
@@ -91,7 +91,7 @@ impl<'a> PageAsker<'a> {
         })
     }
 
-    /// Whether nothing is wrong with any fact that was asked about.
+    /// Whether nothing is wrong with any fact that was asked about, where the pages are told.
     pub fn is_clean(&self) -> bool
         ensures { result ≡ self.now.clean }
     {
@@ -159,7 +159,7 @@ impl<'a> PageAsker<'a> {
             ++ given_on line port.now (given_in (pages port.now).given))
             (C.state cat.old)) }
         ensures clear { IfOk result (λ clear. OnPages (λ pages.
-            clear ≡ true → given_troubles port.now (pages port.now).given ≡ [])
+            Tells clear (given_troubles port.now (pages port.now).given ≡ []))
             (C.state cat.old)) }
     {
         let place = self.see_to(cat, port)?;
@@ -184,8 +184,8 @@ impl<'a> PageAsker<'a> {
             (inputs_of (setting_view self.old.setting.now) pages) port.now (ask_view ask.now))
             (C.state cat.old)) }
         ensures clear { IfOk result (λ seen. OnPages (λ pages.
-            seen.clear ≡ true → floor_troubles port.now (ask_view ask.now)
-            (row_in (pages port.now).rows (ask_view ask.now)) (pages port.now).given ≡ [])
+            Tells seen.clear (floor_troubles port.now (ask_view ask.now)
+            (row_in (pages port.now).rows (ask_view ask.now)) (pages port.now).given ≡ []))
             (C.state cat.old)) }
     {
         let place = self.see_to(cat, port)?;
@@ -254,9 +254,9 @@ impl<'a> PageAsker<'a> {
             (asked_in (setting_view self.old.setting.now) (instance_view inst.now)
             (feature_view feature.now) (manifest_in (pages inst.now.port) (ask_view ask.now))))
             (C.state cat.old)) }
-        ensures clear { IfOk result (λ clear. OnPages (λ pages. clear ≡ true
-            → manifest_troubles inst.now.port (manifest_in (pages inst.now.port) (ask_view ask.now))
-            ≡ []) (C.state cat.old)) }
+        ensures clear { IfOk result (λ clear. OnPages (λ pages. Tells clear (manifest_troubles
+            inst.now.port (manifest_in (pages inst.now.port) (ask_view ask.now)) ≡ []))
+            (C.state cat.old)) }
     {
         self.see_to(cat, &inst.port)?;
         match cat.manifest(&inst.port, ask)? {
@@ -290,9 +290,9 @@ impl<'a> PageAsker<'a> {
             ++ alone_at (inputs_of (setting_view self.old.setting.now) pages)
             (need (who_view who.now) (feature_view feature.now)) line)
             (C.state cat.old)) }
-        ensures clear { IfOk result (λ clear. OnPages (λ pages. clear ≡ true
-            → troubles_of (inputs_of (setting_view self.old.setting.now) pages)
-            (need (who_view who.now) (feature_view feature.now)) ≡ []) (C.state cat.old)) }
+        ensures clear { IfOk result (λ clear. OnPages (λ pages. Tells clear
+            (troubles_of (inputs_of (setting_view self.old.setting.now) pages)
+            (need (who_view who.now) (feature_view feature.now)) ≡ [])) (C.state cat.old)) }
     {
         match who {
             Who::Root(_) => {
@@ -330,9 +330,9 @@ impl<'a> PageAsker<'a> {
         ensures joined { IfOk result (λ seen. OnPages (λ pages. seen.joined ≡ joins
             (inputs_of (setting_view self.old.setting.now) pages) (fact_view fact.now))
             (C.state cat.old)) }
-        ensures clear { IfOk result (λ seen. OnPages (λ pages. seen.clear ≡ true
-            → troubles_of (inputs_of (setting_view self.old.setting.now) pages)
-            (fact_view fact.now) ≡ []) (C.state cat.old)) }
+        ensures clear { IfOk result (λ seen. OnPages (λ pages. Tells seen.clear
+            (troubles_of (inputs_of (setting_view self.old.setting.now) pages)
+            (fact_view fact.now) ≡ [])) (C.state cat.old)) }
     {
         match fact {
             Fact::Need { who, feature } => {
