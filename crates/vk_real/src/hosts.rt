@@ -1,6 +1,6 @@
 //! What the host has at a path.
 
-use std::fs::{self, DirEntry, Metadata};
+use std::fs::{self, DirEntry, Metadata, OpenFile};
 use std::io::{self, ErrorKind};
 use std::rt::Files;
 use vk_base::{Text, TreePath};
@@ -15,15 +15,23 @@ pub(crate) struct Host<R> {
 /// What a call comes to: a value or a fault, where the host has no error.
 pub(crate) type Came<T, F> = io::Result<Result<T, F>>;
 
+/// A file that is open, and its size when it was opened.
+#[derive(Drop)]
+pub(crate) struct Opened<F> {
+    pub(crate) file: F,
+    pub(crate) size: u64,
+}
+
 /// What stands at a path.
 #[derive(Clone, Copy)]
 pub(crate) enum Stand {
     Absent,
+    /// A file, or a link to one.
     File,
     Folder,
     /// A link to a folder.
     Linked,
-    /// A device, a pipe, or a link that leads to no folder.
+    /// A device, a pipe, or a link that leads to neither a file nor a folder.
     Other,
 }
 
@@ -38,6 +46,18 @@ pub(crate) fn if_there<T: Drop>(found: io::Result<T>) -> io::Result<Option<T>> {
     }
 }
 
+// What was opened, if it is a file.
+fn if_file<F: OpenFile + Drop>(file: F) -> io::Result<Option<Opened<F>>> {
+    let found = file.metadata()?;
+    if !found.is_file() {
+        return Ok(None);
+    }
+    Ok(Some(Opened {
+        size: found.len(),
+        file,
+    }))
+}
+
 impl<R: Files + AllocGlobal> Host<R> {
     /// The text of a path, where out of memory is the host's error of that kind.
     pub(crate) fn text(&self, path: &TreePath) -> io::Result<Text> {
@@ -45,9 +65,27 @@ impl<R: Files + AllocGlobal> Host<R> {
             .map_err(|_| ErrorKind::OutOfMemory.into())
     }
 
-    /// The file at a path. A folder counts as none, and so does a link, which isn't followed.
+    /// The file at a path, or the one that a link there leads to. A folder counts as none.
     pub(crate) fn file(&self, path: &str) -> io::Result<Option<Metadata>> {
-        Ok(if_there(fs::symlink_metadata(&self.rt, path))?.filter(|found| found.is_file()))
+        Ok(if_there(fs::metadata(&self.rt, path))?.filter(|found| found.is_file()))
+    }
+
+    /// The file at a path, opened. It is asked what it is after that, so that its path is looked up
+    /// once.
+    pub(crate) fn open(&self, path: &str) -> io::Result<Option<Opened<R::File>>> {
+        match if_there(fs::open(&self.rt, path)) {
+            Ok(Some(file)) => if_file(file),
+            Ok(None) => Ok(None),
+            Err(e) => self.unopened(path, e),
+        }
+    }
+
+    // What an open that failed tells: what is no file counts as none.
+    fn unopened(&self, path: &str, e: io::Error) -> io::Result<Option<Opened<R::File>>> {
+        match self.file(path) {
+            Ok(None) => Ok(None),
+            Ok(Some(_)) | Err(_) => Err(e),
+        }
     }
 
     /// What stands at a path, where a link counts by what it is.
@@ -56,10 +94,17 @@ impl<R: Files + AllocGlobal> Host<R> {
             None => Ok(Stand::Absent),
             Some(found) if found.is_file() => Ok(Stand::File),
             Some(found) if found.is_dir() => Ok(Stand::Folder),
-            Some(_) => match if_there(fs::metadata(&self.rt, path))? {
-                Some(found) if found.is_dir() => Ok(Stand::Linked),
-                _ => Ok(Stand::Other),
-            },
+            Some(found) if found.is_symlink() => self.led_to(path),
+            Some(_) => Ok(Stand::Other),
+        }
+    }
+
+    // What a link leads to.
+    fn led_to(&self, path: &str) -> io::Result<Stand> {
+        match if_there(fs::metadata(&self.rt, path))? {
+            Some(found) if found.is_file() => Ok(Stand::File),
+            Some(found) if found.is_dir() => Ok(Stand::Linked),
+            Some(_) | None => Ok(Stand::Other),
         }
     }
 

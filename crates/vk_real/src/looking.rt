@@ -2,7 +2,7 @@
 ghost use Rattle.std.specs.Prelude.{◌≤◌, IfOk, OnOk, length};
 ghost use Rattle.vk_real.specs.Listings.{AreParts, IsListing};
 
-use crate::hosts::{Came, Host, Stand, if_there};
+use crate::hosts::{Came, Host, Opened, Stand, if_there};
 use std::alloc::Global;
 use std::fs::{self, DirEntry};
 use std::io::{self, ErrorKind, Read, Seek, SeekFrom};
@@ -73,14 +73,13 @@ impl<R: Files + AllocGlobal> Host<R> {
         ensures { IfOk result (λ read. IfOk read (λ bytes. length bytes ≤ limit)) }
     {
         let path = self.text(path)?;
-        let Some(found) = self.file(path.as_str())? else {
+        let Some(Opened { file, size }) = self.open(path.as_str())? else {
             return Ok(Err(ReadFault::Missing));
         };
-        if found.len() > limit {
+        if size > limit {
             return Ok(Err(ReadFault::TooLarge));
         }
-        let file = fs::open(&self.rt, path.as_str())?;
-        let bytes = read_bytes(self.rt.alloc(), file, found.len(), limit.saturating_add(1))?;
+        let bytes = read_bytes(self.rt.alloc(), file, size, limit.saturating_add(1))?;
         if bytes.len() as u64 > limit {
             return Ok(Err(ReadFault::TooLarge));
         }
@@ -92,14 +91,13 @@ impl<R: Files + AllocGlobal> Host<R> {
         ensures { IfOk result (λ read. IfOk read (λ bytes. length bytes ≤ most)) }
     {
         let path = self.text(path)?;
-        let Some(found) = self.file(path.as_str())? else {
+        let Some(Opened { mut file, size }) = self.open(path.as_str())? else {
             return Ok(Err(ReadFault::Missing));
         };
-        let mut file = fs::open(&self.rt, path.as_str())?;
         if at > 0 && !goes_to(&mut file, at)? {
             return Ok(Ok(List::new(self.rt.alloc())));
         }
-        let left = found.len().saturating_sub(at).min(u64::from(most));
+        let left = size.saturating_sub(at).min(u64::from(most));
         let mut bytes = read_bytes(self.rt.alloc(), file, left, u64::from(most))?;
         bytes.truncate(most as usize);
         Ok(Ok(List::from_vec(bytes)))
