@@ -1,3 +1,4 @@
+mod KeyLemmas
 pub mod Saying
 pub mod Schemes
 pub mod SameLemmas

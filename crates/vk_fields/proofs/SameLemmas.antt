@@ -12,7 +12,7 @@ use Rattle.vk_version.specs.Schemes.{Scheme, relaxed, semver, date, string}
 use Rattle.vk_fields.specs.Texts.{plain_at, written_at}
 use Rattle.vk_fields.specs.Versions.{key_of, scheme_in, scheme_needed, port_version_at}
 use Rattle.vk_fields.specs.Versions.{version_text_at, version_under, version_if, version_at}
-use Rattle.vk_fields.specs.Versions.{version_needed_at, ask_under, with_port_beside}
+use Rattle.vk_fields.specs.Versions.{version_needed_at, ask_under}
 use Rattle.vk_fields.specs.Versions.{written_ask_under}
 
 module _ (d e : Data) (same : (scheme : Scheme) → get (key_of scheme) d ≡ get (key_of scheme) e) where

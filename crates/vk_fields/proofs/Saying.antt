@@ -1,5 +1,5 @@
 -- A fault that is told by its word.
-use Rattle.std.proofs.Common.{◌≡◌, refl, ap, ◌∙◌, sym}
+use Rattle.std.proofs.Common.{◌≡◌, refl}
 use Rattle.std.specs.Prelude.{Option, Some, None, option_map, Result, Ok, Err}
 use Rattle.vk_spec.specs.Reading.{Fails, Gives}
 use Rattle.vk_base.specs.Stops.{fault_in}

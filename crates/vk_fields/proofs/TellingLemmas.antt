@@ -18,11 +18,10 @@ use Rattle.vk_version.specs.Readings.{reads_ask, reads_version}
 use Rattle.vk_expr.specs.declared.faults.ExprFault.{ExprFault}
 use Rattle.vk_expr.specs.declared.faults.ExprFault.TheVariants as expression
 use Rattle.vk_expr.specs.Reading.{reading_of}
-use Rattle.vk_json.specs.declared.faults.FileFault.{FileFault}
 use Rattle.vk_json.specs.declared.faults.Why.{Why}
 use Rattle.vk_json.specs.declared.faults.Why.TheVariants as why
 use Rattle.vk_json.specs.Places.{here, at_member}
-use Rattle.vk_json.specs.Readings.{text_at, number_at, wanted}
+use Rattle.vk_json.specs.Readings.{text_at, number_at}
 use Rattle.vk_json.proofs.TellingLemmas.{Says, Reads, Anything, says_then, or_says, told_here, told_at, text_says, number_says, wanted_says, optional_or_says, optional_there}
 use Rattle.vk_fields.specs.Wording.{name_word, path_word, version_word, expression_word}
 use Rattle.vk_fields.specs.Saying.{said_here}
@@ -101,22 +100,25 @@ module _ (d : Data) where
   found_says (Some found) next (Some v) e there = told_at (key_of next) d v why.TwoVersions e (λ same. (cc))
   found_says (Some found) next None e there = let no : false ≡ true = there in (cc)
 
-  next_by : (found : Option Scheme) (next : Scheme) (b : Bool) → is_some (get (key_of next) d) ≡ b → Says Anything d (next_scheme found next d)
-  next_by found next true there = rw there (found_says found next (get (key_of next) d) refl there)
-  next_by found next false there = rw there tt
+  abbrev there : Scheme → Bool
+  there scheme = is_some (get (key_of scheme) d)
 
-  next_says : (found : Option Scheme) (next : Scheme) → Says Anything d (next_scheme found next d)
-  next_says found next = next_by found next (is_some (get (key_of next) d)) refl
+  next_by : (found : Option Scheme) (next : Scheme) (b : Bool) → there next ≡ b → Says Anything d (next_scheme there found next)
+  next_by found next true is = rw is (found_says found next (get (key_of next) d) refl is)
+  next_by found next false is = rw is tt
 
-  by_says : Says Anything d (scheme_by d)
+  next_says : (found : Option Scheme) (next : Scheme) → Says Anything d (next_scheme there found next)
+  next_says found next = next_by found next (there next) refl
+
+  by_says : Says Anything d (scheme_by there)
   unfolding scheme_by
   by_says =
-      says_then Anything Anything d (next_scheme None relaxed d) (λ first. next_scheme first semver d >>= λ second. next_scheme second date d >>= λ third. next_scheme third string d) (next_says None relaxed) (λ first any.
-      says_then Anything Anything d (next_scheme first semver d) (λ second. next_scheme second date d >>= λ third. next_scheme third string d) (next_says first semver) (λ second any.
-      says_then Anything Anything d (next_scheme second date d) (λ third. next_scheme third string d) (next_says second date) (λ third any. next_says third string)))
+      says_then Anything Anything d (next_scheme there None relaxed) (λ first. next_scheme there first semver >>= λ second. next_scheme there second date >>= λ third. next_scheme there third string) (next_says None relaxed) (λ first any.
+      says_then Anything Anything d (next_scheme there first semver) (λ second. next_scheme there second date >>= λ third. next_scheme there third string) (next_says first semver) (λ second any.
+      says_then Anything Anything d (next_scheme there second date) (λ third. next_scheme there third string) (next_says second date) (λ third any. next_says third string)))
 
   pub scheme_says : Says Anything d (scheme_in d)
-  scheme_says = subst (λ r. Says Anything d r) (by_is_in d) by_says
+  scheme_says = subst (λ r. Says Anything d r) (by_is_in there d (λ scheme. refl)) by_says
 
   port_says : Says Anything d (port_version_at d)
   port_says = optional_or_says Anything number_at number_says (codes "port-version") d 0 tt

@@ -1,5 +1,5 @@
 -- What a text reads as, told of the value that is the text.
-use Rattle.std.specs.Prelude.{◌≡◌, Option, option_map, Result, Ok, Err}
+use Rattle.std.specs.Prelude.{◌≡◌, option_map, Result, Ok, Err}
 use Rattle.vk_base.specs.Stops.{fault_in}
 use Rattle.vk_base.specs.declared.stops.Unread.{Unread}
 use Rattle.vk_json.specs.declared.faults.FileFault.{FileFault}

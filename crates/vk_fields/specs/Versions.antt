@@ -1,5 +1,5 @@
 -- A version under one of its four keys, with the port-version beside it.
-use Rattle.std.specs.Prelude.{ℕ, List, [], ◌∷◌, Option, Some, None, Result, Ok, Err}
+use Rattle.std.specs.Prelude.{ℕ, Bool, false, List, [], ◌∷◌, Option, Some, None, Result, Ok, Err}
 use Rattle.std.specs.Prelude.{codes, if◌then◌else◌}
 use Rattle.std.specs.List.{filter}
 use Rattle.std.specs.Option.{is_some}
@@ -13,6 +13,7 @@ use Rattle.vk_json.specs.declared.faults.FileFault.{FileFault}
 use Rattle.vk_json.specs.declared.faults.Why.TheVariants as why
 use Rattle.vk_json.specs.Places.{here, at_member}
 use Rattle.vk_json.specs.Readings.{Reading, number_at, wanted, optional, optional_or}
+use Rattle.vk_fields.specs.declared.versions.VersionKeys.{VersionKeys}
 use Rattle.vk_fields.specs.Wording.{version_word}
 use Rattle.vk_fields.specs.Texts.{WrittenAsk, by_rule, plain_at, written_at}
 
@@ -42,17 +43,26 @@ abbrev pub after_found : Option Scheme → Scheme → Result (Option Scheme) Fil
 after_found None next = Ok (Some next)
 after_found (Some found) next = Err (at_member (key_of next) why.TwoVersions)
 
--- the same key by key: the scheme found so far, and the next one
-abbrev pub next_scheme : Option Scheme → Scheme → Reading (Option Scheme)
-next_scheme found next d =
-    if is_some (get (key_of next) d) then after_found found next else Ok found
+-- which of the four keys are there
+abbrev pub has_key : VersionKeys → Scheme → Bool
+has_key keys relaxed = keys.relaxed
+has_key keys semver = keys.semver
+has_key keys date = keys.date
+has_key keys string = keys.text
 
-unfoldable pub scheme_by : Reading (Option Scheme)
-scheme_by d = do
-  first ← next_scheme None relaxed d
-  second ← next_scheme first semver d
-  third ← next_scheme second date d
-  next_scheme third string d
+abbrev pub no_keys : VersionKeys
+no_keys = record { relaxed = false; semver = false; date = false; text = false }
+
+-- the same scheme by scheme: the one found so far, and the next one
+abbrev pub next_scheme : (Scheme → Bool) → Option Scheme → Scheme → Result (Option Scheme) FileFault
+next_scheme there found next = if there next then after_found found next else Ok found
+
+unfoldable pub scheme_by : (Scheme → Bool) → Result (Option Scheme) FileFault
+scheme_by there = do
+  first ← next_scheme there None relaxed
+  second ← next_scheme there first semver
+  third ← next_scheme there second date
+  next_scheme there third string
 
 -- the scheme of the one version key that has to be there
 abbrev pub scheme_needed : Reading Scheme

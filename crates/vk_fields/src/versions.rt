@@ -1,15 +1,16 @@
 //! A version under one of its four keys, with the port-version beside it.
-ghost use Rattle.std.specs.Prelude.{◌≡◌, option_map, Result};
+ghost use Rattle.std.specs.Prelude.{◌≡◌, ◌||◌, option_map, Result, bytes_eq};
 ghost use Rattle.std.specs.Option.{is_some};
-ghost use Rattle.serde_json.specs.Find.{get};
-ghost use Rattle.serde_json.specs.View.{view};
+ghost use Rattle.serde_json.specs.Find.{get, get_member};
+ghost use Rattle.serde_json.specs.View.{view, members_view};
 ghost use Rattle.vk_spec.specs.Reading.{Gives};
 ghost use Rattle.vk_spec.specs.Versions as plain;
 ghost use Rattle.vk_base.specs.Stops.{fault_in};
 ghost use Rattle.vk_version.specs.AskViews.{ask_view};
+ghost use Rattle.vk_version.specs.Schemes as plain_scheme;
 ghost use Rattle.vk_version.specs.Views.{scheme_view};
 ghost use Rattle.vk_fields.specs.TextViews.{written_view};
-ghost use Rattle.vk_fields.specs.Versions.{key_of, next_scheme, scheme_by, scheme_in};
+ghost use Rattle.vk_fields.specs.Versions.{key_of, has_key, no_keys, next_scheme, scheme_by, scheme_in};
 ghost use Rattle.vk_fields.specs.Versions.{scheme_needed};
 ghost use Rattle.vk_fields.specs.Versions.{port_version_at, version_text_at, version_under};
 ghost use Rattle.vk_fields.specs.Versions.{version_if, version_at, version_needed_at, ask_under};
@@ -17,12 +18,11 @@ ghost use Rattle.vk_fields.specs.Versions.{with_port_beside, written_ask_under};
 
 use crate::texts::{PlainText, WrittenAsk, WrittenAskText};
 use crate::wording::said;
-use serde_json::Value;
+use serde_json::{Map, Value};
 use std::alloc::Global;
 use vk_base::Unread;
 use vk_json::{
-    FileFault, Reader, SmallNumber, Why, member, optional, optional_or, text, wanted, wrong,
-    wrong_member,
+    FileFault, Reader, SmallNumber, Why, optional, optional_or, text, wanted, wrong, wrong_member,
 };
 use vk_version::{Ask, Scheme, Version, read};
 
@@ -38,23 +38,89 @@ pub fn key(scheme: Scheme) -> &'static str
     }
 }
 
-fn is_there(value: &Value, scheme: Scheme) -> bool
-    ensures { result ≡ is_some (get (key_of (scheme_view scheme)) (view value.now)) }
+// Which of the four keys an object has.
+#[derive(Clone, Copy)]
+struct VersionKeys {
+    relaxed: bool,
+    semver: bool,
+    date: bool,
+    text: bool,
+}
+
+impl VersionKeys {
+    // None of them.
+    fn none() -> VersionKeys
+        ensures { result ≡ no_keys }
+    {
+        VersionKeys {
+            relaxed: false,
+            semver: false,
+            date: false,
+            text: false,
+        }
+    }
+
+    // Whether the key of a scheme is there.
+    fn has(&self, scheme: Scheme) -> bool
+        ensures { result ≡ has_key self.now (scheme_view scheme) }
+    {
+        match scheme {
+            Scheme::Relaxed => self.relaxed,
+            Scheme::Semver => self.semver,
+            Scheme::Date => self.date,
+            Scheme::Text => self.text,
+        }
+    }
+
+    // Notes a key that is there.
+    fn note(&mut self, key: &str)
+        ensures { (scheme : plain_scheme.Scheme) → has_key self.new scheme
+            ≡ has_key self.old scheme || bytes_eq (key_of scheme) key.now }
+    {
+        match key {
+            "version" => self.relaxed = true,
+            "version-semver" => self.semver = true,
+            "version-date" => self.date = true,
+            "version-string" => self.text = true,
+            _ => {}
+        }
+    }
+}
+
+// Which of the four keys are among the members of an object, in one pass.
+fn keys_among(object: &Map<String, Value>) -> VersionKeys
+    ensures { (scheme : plain_scheme.Scheme) → has_key result scheme
+        ≡ is_some (get_member (key_of scheme) (members_view object.now.entries)) }
 {
-    member(value, key(scheme)).is_some()
+    let mut keys = VersionKeys::none();
+    for (key, _) in object.iter() {
+        keys.note(key.as_str());
+    }
+    keys
+}
+
+// Which of the four keys are there.
+fn keys_in(value: &Value) -> VersionKeys
+    ensures { (scheme : plain_scheme.Scheme) → has_key result scheme
+        ≡ is_some (get (key_of scheme) (view value.now)) }
+{
+    match value.as_object() {
+        Some(object) => keys_among(object),
+        None => VersionKeys::none(),
+    }
 }
 
 // The scheme found so far and the next one, which may be there too.
 fn next_scheme(
     alloc: Global,
-    value: &Value,
+    keys: VersionKeys,
     found: Option<Scheme>,
     next: Scheme,
 ) -> Result<Option<Scheme>, Unread<FileFault>>
     ensures { Gives (option_map scheme_view) fault_in result
-        (next_scheme (option_map scheme_view found) (scheme_view next) (view value.now)) }
+        (next_scheme (has_key keys) (option_map scheme_view found) (scheme_view next)) }
 {
-    if !is_there(value, next) {
+    if !keys.has(next) {
         return Ok(found);
     }
     if found.is_none() {
@@ -65,13 +131,13 @@ fn next_scheme(
 
 // The scheme of the one version key, if there is one.
 #[tactic(auto, unfolding(crate::specs::Versions::scheme_by))]
-fn scheme_of(alloc: Global, value: &Value) -> Result<Option<Scheme>, Unread<FileFault>>
-    ensures { Gives (option_map scheme_view) fault_in result (scheme_by (view value.now)) }
+fn scheme_of(alloc: Global, keys: VersionKeys) -> Result<Option<Scheme>, Unread<FileFault>>
+    ensures { Gives (option_map scheme_view) fault_in result (scheme_by (has_key keys)) }
 {
-    let first = next_scheme(alloc, value, None, Scheme::Relaxed)?;
-    let second = next_scheme(alloc, value, first, Scheme::Semver)?;
-    let third = next_scheme(alloc, value, second, Scheme::Date)?;
-    next_scheme(alloc, value, third, Scheme::Text)
+    let first = next_scheme(alloc, keys, None, Scheme::Relaxed)?;
+    let second = next_scheme(alloc, keys, first, Scheme::Semver)?;
+    let third = next_scheme(alloc, keys, second, Scheme::Date)?;
+    next_scheme(alloc, keys, third, Scheme::Text)
 }
 
 /// The scheme of the one version key, `None` where there is none. The fault is `TwoVersions` at a
@@ -80,7 +146,7 @@ fn scheme_of(alloc: Global, value: &Value) -> Result<Option<Scheme>, Unread<File
 pub fn scheme(alloc: Global, value: &Value) -> Result<Option<Scheme>, Unread<FileFault>>
     ensures { Gives (option_map scheme_view) fault_in result (scheme_in (view value.now)) }
 {
-    scheme_of(alloc, value)
+    scheme_of(alloc, keys_in(value))
 }
 
 /// The scheme of the one version key, which has to be there. The fault is `NoVersion` where there

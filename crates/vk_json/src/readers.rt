@@ -145,7 +145,7 @@ fn read_items<R: Reader>(
     ensures { Gives (map R.plain) fault_in result
         (read_each (item_at (R.reads reader.now)) 0 (map view values.now)) }
 {
-    let mut read = List::new(alloc);
+    let mut read = List::from_vec(Vec::with_capacity(alloc, values.len())?);
     for (n, value) in values.iter().enumerate() {
         let item = read_item(alloc, n, value, reader)?;
         read.push(item)?;
@@ -209,7 +209,7 @@ fn read_members<R: MemberReader>(
         (members_by (R.reads reader.now) (members_view object.now.entries)) }
     ensures order { IfOk result (λ read. NamesAscend (members_view object.now.entries)) }
 {
-    let mut read = List::new(alloc);
+    let mut read = List::from_vec(Vec::with_capacity(alloc, object.len())?);
     for (key, value) in object.iter() {
         let member = read_member(alloc, key.as_str(), value, reader)?;
         read.push(member)?;

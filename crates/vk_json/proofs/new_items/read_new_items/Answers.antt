@@ -10,7 +10,7 @@ use Rattle.vk_json.proofs.new_items.read_new_items.Goals as goal
 
 pub returns-in_err-item-clause-read : goal.returns-in_err-item-clause-read
 returns-in_err-item-clause-read g c =
-    let p = err_from_is_err_and c.from_residual.result c.from_residual.ensures.1 in
+    let p = err_from_is_err_and c.from_residual-in_err-item.result c.from_residual-in_err-item.ensures.1 in
     let f = new_item_at g.R.NewItemReader.key_of (g.R.NewItemReader.reads c.args.reader.now) in
     rw (p.1, p.2)
     (after_ends view g.R.NewItemReader.plain f (fault_in c.in_err-item.field-0.0) c.loop-n.read

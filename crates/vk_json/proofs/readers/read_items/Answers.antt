@@ -9,7 +9,7 @@ use Rattle.vk_json.proofs.readers.read_items.Goals as goal
 
 pub returns-in_err-item : goal.returns-in_err-item
 returns-in_err-item g c =
-    let p = err_from_is_err_and c.from_residual.result c.from_residual.ensures.1 in
+    let p = err_from_is_err_and c.from_residual-in_err-item.result c.from_residual-in_err-item.ensures.1 in
     let f = item_at (g.R.Reader.reads c.args.reader.now) in
     rw (p.1, p.2)
     (ends_by view g.R.Reader.plain f (fault_in c.in_err-item.field-0.0) c.loop-n.read c.loop-n.n c.args.values.now c.index-values-n.result (read_each f 0 (map view c.args.values.now)) c.loop-n-test.true c.index-values-n.is c.in_err-item.ensures c.loop-n.invariant)

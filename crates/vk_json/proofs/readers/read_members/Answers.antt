@@ -11,7 +11,7 @@ use Rattle.vk_json.proofs.readers.read_members.Goals as goal
 
 pub returns-in_err-member-clause-read : goal.returns-in_err-member-clause-read
 returns-in_err-member-clause-read g c =
-    let p = err_from_is_err_and c.from_residual.result c.from_residual.ensures.1 in
+    let p = err_from_is_err_and c.from_residual-in_err-member.result c.from_residual-in_err-member.ensures.1 in
     let f = member_at (g.R.MemberReader.reads c.args.reader.now) in
     let total = read_each (λ _. f) 0 (pairs_of (members_view c.args.object.now.entries)) in
     rw (p.1, p.2)
