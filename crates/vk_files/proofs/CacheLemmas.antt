@@ -1,36 +1,26 @@
 -- What is kept in a cache: looking a path up, and keeping one more.
-use Rattle.std.proofs.Common.{◌≡◌, true, false, List, [], ◌∷◌, ◌++◌, refl, ap}
-use Rattle.std.specs.Prelude.{None, IsSome, option_map}
+use Rattle.std.proofs.Common.{◌≡◌, true, false, List, [], ◌∷◌, refl, ap}
+use Rattle.std.specs.Prelude.{None}
 use Rattle.std.specs.Option.{is_some}
 use Rattle.std.specs.Map.{lookup, keys_of}
 use Rattle.std.proofs.lemmas.Slice.Eq.{slice_eq-Decides, bytes_eq-Decides}
 use Rattle.vk_spec.specs.Paths.{Path}
-use Rattle.vk_files.specs.Kept.{Seen, Kept, paths_of}
+use Rattle.vk_files.specs.Kept.{Kept, paths_of}
 use Rattle.vk_files.specs.Views.{same_path, seen_view, kept_at}
 use Rattle.vk_files.specs.declared.found.Found.{Found}
-use Rattle.vk_files.proofs.NotedLemmas.{noted, found_noted, none_noted, some_noted, last_noted}
+use Rattle.vk_files.proofs.NotedLemmas.{noted, none_noted}
 
 abbrev pub entries_kept : List (Path × Found) → Kept
 entries_kept es = noted seen_view es
 
-pub kept_found : (path : Path) (es : List (Path × Found)) → kept_at path (entries_kept es) ≡ option_map seen_view (lookup (same_path path) es)
-kept_found path es = found_noted seen_view (same_path path) es
-
 pub none_kept : (path : Path) (es : List (Path × Found)) → is_some (lookup (same_path path) es) ≡ false → kept_at path (entries_kept es) ≡ None
 none_kept path es = none_noted seen_view (same_path path) es
-
-pub some_kept : (path : Path) (es : List (Path × Found)) → is_some (lookup (same_path path) es) ≡ true → IsSome (kept_at path (entries_kept es))
-some_kept path es = some_noted seen_view (same_path path) es
 
 pub path_is : (x y : Path) → same_path x y ≡ true → x ≡ y
 path_is x y e = (slice_eq-Decides bytes_eq-Decides x y _ refl).0 e
 
 pub same_self : (path : Path) → same_path path path ≡ true
 same_self path = (slice_eq-Decides bytes_eq-Decides path path _ refl).1 refl
-
--- what was kept last is found
-pub last_kept : (path : Path) (seen : Seen) (kept : Kept) → IsSome (kept_at path (kept ++ (path, seen) ∷ []))
-last_kept path seen kept = last_noted same_path path seen kept (same_self path)
 
 -- the paths of what is kept are the keys
 pub paths_kept : (es : List (Path × Found)) → paths_of (entries_kept es) ≡ keys_of es

@@ -1,12 +1,14 @@
--- Notes that are kept under keys, as they are seen: looking one up, and keeping one more.
-use Rattle.std.proofs.Common.{◌≡◌, Bool, true, false, cond, List, [], ◌∷◌, ◌++◌, map, refl, ap, sym, subst, ◌∙◌, true≢false}
-use Rattle.std.specs.Prelude.{Option, Some, None, IsSome, option_map, Result, Ok, Err, IsOk, OnOk}
+-- Notes that are kept under keys, as they are seen: looking one up, where it stands, and keeping one more.
+use Rattle.std.proofs.Common.{◌≡◌, Bool, true, false, cond, ℕ, List, [], ◌∷◌, ◌++◌, ◌<◌, length, map, refl, ap, sym, ◌∙◌, true≢false, suc, arith}
+use Rattle.std.specs.Prelude.{Option, Some, None, option_map, slice_get, Result, Ok, Err, IsOk, OnOk}
 use Rattle.std.specs.Option.{is_some}
 use Rattle.std.specs.Map.{lookup}
-use Rattle.std.proofs.lemmas.List.{map-append}
+use Rattle.std.proofs.lemmas.List.{length-append, map-append}
 use Rattle.std.proofs.lemmas.Map.Made.{lookup-map_values}
+use Rattle.std.proofs.lemmas.Option.{none-some, slice_get-map}
 use Rattle.indexmap.specs.IndexMap.{IndexMap, insert_entry}
 use Rattle.indexmap.proofs.CallerLemmas.{insert_entry-new}
+use Rattle.vk_files.specs.Notes.{IsNoteAt}
 
 where_ok : {X E P : Type 0} (r : Result X E) → IsOk r → OnOk r P → P
 where_ok (Ok x) ok h = h
@@ -26,19 +28,28 @@ module _ {K V W : Type 0} (view : V → W) where
       by None e = refl
       by (Some v) e = absurd (true≢false e)
 
-  pub some_noted : (test : K → Bool) (es : List (K × V)) → is_some (lookup test es) ≡ true → IsSome (lookup test (noted es))
-  some_noted test es some = subst IsSome (sym (found_noted test es)) (by (lookup test es) some)
-    where
-      by : (o : Option V) → is_some o ≡ true → IsSome (option_map view o)
-      by None e = absurd (true≢false (sym e))
-      by (Some v) e = (cc)
-
   pub nothing_noted : (test : K → Bool) (es : List (K × V)) → lookup test (noted es) ≡ None → lookup test es ≡ None
   nothing_noted test es none = by (lookup test es) (sym (found_noted test es) ∙ none)
     where
       by : (o : Option V) → option_map view o ≡ None → o ≡ None
       by None e = refl
       by (Some v) e = (cc)
+
+  pub length_noted : (es : List (K × V)) → length (noted es) ≡ length es
+  length_noted [] = refl
+  length_noted (e ∷ es) = ap suc (length_noted es)
+
+  -- a note stands where the entry stands
+  pub placed_note : (test : K → Bool) (es : List (K × V)) (place : ℕ) → place < length es → slice_get (map (λ e. e.1) es) place ≡ lookup test es → IsNoteAt test (noted es) place
+  placed_note test es place within value = record {
+    within = rw (length_noted es) within;
+    found = found_noted test es ∙ ap (option_map view) (sym value ∙ slice_get-map (λ (e : K × V). e.1) es place) ∙ by (slice_get es place)
+        ∙ ap (λ (o : Option (K × W)). option_map (λ (e : K × W). e.1) o) (sym (slice_get-map (λ e. (e.0, view e.1)) es place));
+  }
+    where
+      by : (o : Option (K × V)) → option_map view (option_map (λ (e : K × V). e.1) o) ≡ option_map (λ (e : K × W). e.1) (option_map (λ (e : K × V). (e.0, view e.1)) o)
+      by None = refl
+      by (Some e) = refl
 
   pub more_noted : (es : List (K × V)) (k : K) (v : V) → noted (es ++ (k, v) ∷ []) ≡ noted es ++ (k, view v) ∷ []
   more_noted es k v = map-append (λ e. (e.0, view e.1)) es ((k, v) ∷ [])
@@ -49,11 +60,14 @@ module _ {K V W : Type 0} (view : V → W) where
   kept_last eq m k v after r ok put none =
       ap noted (where_ok r ok put ∙ insert_entry-new eq m k v (nothing_noted (eq k) m.entries none)) ∙ more_noted m.entries k v
 
-last_at : {V : Type 0} (b : Bool) (first : V) (later : Option V) → IsSome later → IsSome (cond b (Some first) later)
-last_at true first later some = (cc)
-last_at false first later some = some
+behind : {V : Type 0} (b : Bool) (first : V) (before after found : Option V) → cond b (Some first) before ≡ None → (before ≡ None → after ≡ found) → cond b (Some first) after ≡ found
+behind true first before after found none then = absurd (none-some first (sym none))
+behind false first before after found none then = then none
 
--- what was kept last is found
-pub last_noted : {K V : Type 0} (eq : K → K → Bool) (k : K) (v : V) (notes : List (K × V)) → eq k k ≡ true → IsSome (lookup (eq k) (notes ++ (k, v) ∷ []))
-last_noted eq k v [] same = subst (λ b. IsSome (cond b (Some v) None)) (sym same) (cc)
-last_noted eq k v (e ∷ notes) same = last_at (eq k e.0) e.1 (lookup (eq k) (notes ++ (k, v) ∷ [])) (last_noted eq k v notes same)
+-- a key that has no note gets one, which stands behind the others
+pub last_note : {K V : Type 0} (eq : K → K → Bool) (k : K) (v : V) (notes : List (K × V)) → eq k k ≡ true → lookup (eq k) notes ≡ None → IsNoteAt (eq k) (notes ++ (k, v) ∷ []) (length notes)
+last_note {K = K} {V = V} eq k v notes same none = record { within = omega (arith, length-append notes ((k, v) ∷ [])); found = by notes none }
+  where
+    by : (notes : List (K × V)) → lookup (eq k) notes ≡ None → lookup (eq k) (notes ++ (k, v) ∷ []) ≡ option_map (λ e. e.1) (slice_get (notes ++ (k, v) ∷ []) (length notes))
+    by [] none = ap (λ b. cond b (Some v) None) same
+    by (e ∷ notes) none = behind (eq k e.0) e.1 (lookup (eq k) notes) (lookup (eq k) (notes ++ (k, v) ∷ [])) _ none (by notes)

@@ -1,7 +1,6 @@
 //! What was read of a tree, by path.
-ghost use Rattle.std.specs.Prelude.{◌≡◌, ◌<◌, ◌++◌, ◌∷◌, [], ℕ, List, Option, None, IsSome, OnOk};
-ghost use Rattle.std.specs.Prelude.{IfOk, IfErr, length, option_map};
-ghost use Rattle.std.specs.Option.{option_copied};
+ghost use Rattle.std.specs.Prelude.{◌≡◌, ◌<◌, ◌++◌, ◌∷◌, [], ℕ, List, Some, None, IfOk, IfErr};
+ghost use Rattle.std.specs.Prelude.{length, option_map, slice_get};
 ghost use Rattle.indexmap.specs.IndexMap.{spare};
 ghost use Rattle.vk_spec.specs.Lists.{NoRepeats};
 ghost use Rattle.vk_spec.specs.Paths.{Path};
@@ -9,7 +8,8 @@ ghost use Rattle.vk_spec.specs.Standing.{Disk};
 ghost use Rattle.vk_spec.specs.Calls.{Says, NoLonger, read_of, noted};
 ghost use Rattle.vk_tree.specs.Answers.{read_answer, read_failed};
 ghost use Rattle.vk_files.specs.Kept.{ReadOnce, most_bytes, paths_of, seen_in};
-ghost use Rattle.vk_files.specs.Views.{held, kept_of, kept_at, seen_view};
+ghost use Rattle.vk_files.specs.Notes.{IsNoteAt};
+ghost use Rattle.vk_files.specs.Views.{held, kept_of, kept_at, same_path, seen_view};
 ghost use Rattle.vk_files.specs.Within.{LooksWithin};
 ghost use Rattle.vk_base.specs.Stops.{has_failed, stop_fault_in};
 ghost use Rattle.vk_files.specs.StopViews.{noted_by};
@@ -93,43 +93,46 @@ impl FileCache {
 
     // Asks the tree for a path that it wasn't asked for yet. The room for what stands there is
     // taken first, so that nothing that was read is forgotten.
-    #[tactic(auto, using(crate::proofs::OnceLemmas::still_read, crate::proofs::OnceLemmas::found_read, crate::proofs::OnceLemmas::nothing_found, crate::proofs::OnceLemmas::seen_told, crate::proofs::CacheLemmas::last_kept, crate::proofs::WithinLemmas::none_since, crate::proofs::WithinLemmas::one_since))]
-    fn ask<T: Tree, F>(&mut self, tree: &mut T, path: &TreePath) -> Result<(), Stop<F>>
+    #[tactic(auto, using(crate::proofs::OnceLemmas::still_read, crate::proofs::OnceLemmas::found_read, crate::proofs::OnceLemmas::nothing_found, crate::proofs::OnceLemmas::seen_told, crate::proofs::WithinLemmas::none_since, crate::proofs::WithinLemmas::one_since))]
+    fn ask<T: Tree, F>(&mut self, tree: &mut T, path: &TreePath) -> Result<usize, Stop<F>>
         requires { kept_at path.now (kept_of self.old) ≡ None }
         ensures once { ReadOnce (has_failed result) (held self.old (T.state tree.old))
             (held self.new (T.state tree.new)) }
         ensures within { LooksWithin (path.now ∷ []) (kept_of self.old) (kept_of self.new) }
-        ensures there { OnOk result (IsSome (kept_at path.now (kept_of self.new))) }
+        ensures there { IfOk result (IsNoteAt (same_path path.now) (kept_of self.new)) }
         ensures no_fault { IfErr result (λ e. stop_fault_in e ≡ None) }
     {
         let key = path.clone()?;
         self.found.reserve(1)?;
         let found = found_in(tree.read(path, MOST_BYTES))?;
+        let place = self.found.len();
         self.keep(key, found);
-        Ok(())
+        Ok(place)
     }
 
-    /// Looks at a path, for which the tree is asked unless it was before. It finds no fault, of
-    /// whatever type the caller's faults are.
+    /// Looks at a path, for which the tree is asked unless it was before, and tells the place of
+    /// what stands there, counted from 0. It finds no fault, of whatever type the caller's faults
+    /// are.
     #[tactic(auto, using(crate::proofs::WithinLemmas::nothing_since))]
-    pub fn look<T: Tree, F>(&mut self, tree: &mut T, path: &TreePath) -> Result<(), Stop<F>>
+    pub fn look<T: Tree, F>(&mut self, tree: &mut T, path: &TreePath) -> Result<usize, Stop<F>>
         ensures once { ReadOnce (has_failed result) (held self.old (T.state tree.old))
             (held self.new (T.state tree.new)) }
         ensures within { LooksWithin (path.now ∷ []) (kept_of self.old) (kept_of self.new) }
-        ensures there { OnOk result (IsSome (kept_at path.now (kept_of self.new))) }
+        ensures there { IfOk result (IsNoteAt (same_path path.now) (kept_of self.new)) }
         ensures no_fault { IfErr result (λ e. stop_fault_in e ≡ None) }
     {
-        if self.found.contains_key(path) {
-            return Ok(());
+        match self.found.get_index_of(path) {
+            Some(place) => Ok(place),
+            None => self.ask(tree, path),
         }
-        self.ask(tree, path)
     }
 
-    /// What stands at a path; `None` exactly where it wasn't looked at.
-    pub fn get(&self, path: &TreePath) -> Option<&Found>
-        ensures { option_map seen_view (option_copied result) ≡ kept_at path.now
-            (kept_of self.now) }
+    /// What stands at the path with this place.
+    pub fn at(&self, place: usize) -> &Found
+        requires { place < length (kept_of self.now) }
+        ensures { option_map (λ e. e.1) (slice_get (kept_of self.now) place)
+            ≡ Some (seen_view result.now) }
     {
-        self.found.get(path)
+        self.found.get_index(place).unwrap().1
     }
 }

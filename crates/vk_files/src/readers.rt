@@ -118,8 +118,8 @@ pub fn read_file<T: Tree, R: FileReader>(
         (held files.old (T.state tree.old)) (held files.new (T.state tree.new)) }
     ensures within { LooksWithin (path.now ∷ []) (kept_of files.old) (kept_of files.new) }
 {
-    files.look::<T, BadFile>(tree, path)?;
-    told::<R>(path, read_found(alloc, files.get(path).unwrap(), reader))
+    let place = files.look::<T, BadFile>(tree, path)?;
+    told::<R>(path, read_found(alloc, files.at(place), reader))
 }
 
 fn standing_of(found: &Found) -> Standing
@@ -142,6 +142,6 @@ pub fn file_standing<T: Tree>(
         (held files.old (T.state tree.old)) (held files.new (T.state tree.new)) }
     ensures within { LooksWithin (path.now ∷ []) (kept_of files.old) (kept_of files.new) }
 {
-    files.look::<T, BadFile>(tree, path)?;
-    Ok(standing_of(files.get(path).unwrap()))
+    let place = files.look::<T, BadFile>(tree, path)?;
+    Ok(standing_of(files.at(place)))
 }

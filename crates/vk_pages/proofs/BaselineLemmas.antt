@@ -32,8 +32,8 @@ right_one : (start : Start) (f : Files) (served : Served) (place : ℕ) (read : 
 right_one start f served place read is right = rw is right
 
 -- the baseline of a registry was read, and is noted
-pub noted_one : (start : Start) (served : Served) (place : ℕ) (read : Result Baseline BadFile) (notes more : BaselineNotes) (a b : Held) → served_at start place ≡ Ok served → more ≡ notes ++ (place, read_view read) ∷ []
-    → ReadsAs {F = Wrong} wrong_view read_view (Ok read) (λ f. Ok (baseline_file served f)) a b → ReadsNoting {F = Wrong} wrong_view (λ done. tt {0}) (Ok (tt {0})) nothing_said (AreBaselines start notes) (AreBaselines start more) a b
+pub noted_one : {found : ℕ} (start : Start) (served : Served) (place : ℕ) (read : Result Baseline BadFile) (notes more : BaselineNotes) (a b : Held) → served_at start place ≡ Ok served → more ≡ notes ++ (place, read_view read) ∷ []
+    → ReadsAs {F = Wrong} wrong_view read_view (Ok read) (λ f. Ok (baseline_file served f)) a b → ReadsNoting {F = Wrong} wrong_view (λ (done : ℕ). tt {0}) (Ok found) nothing_said (AreBaselines start notes) (AreBaselines start more) a b
 noted_one start served place read notes more a b is all one = record {
   once = one.once;
   content = rw all (of_both a.tree.told one.content one.content (λ t gives _ old before.
@@ -45,7 +45,7 @@ noted_one start served place read notes more a b is all one = record {
 
 -- it wasn't read
 pub noted_none : (Known : Files → Type 0) (s : Stop Wrong) (served : Served) (a b : Held)
-    → ReadsAs {X = Result Baseline BadFile} wrong_view read_view (Err s) (λ f. Ok (baseline_file served f)) a b → ReadsNoting {X = Unit {0}} wrong_view (λ done. tt {0}) (Err s) nothing_said Known Known a b
+    → ReadsAs {X = Result Baseline BadFile} wrong_view read_view (Err s) (λ f. Ok (baseline_file served f)) a b → ReadsNoting {X = ℕ} wrong_view (λ done. tt {0}) (Err s) nothing_said Known Known a b
 noted_none Known s served a b one = record {
   once = one.once;
   content = of_both a.tree.told one.content one.content (λ t fails _ old known. (known, never (fault_seen wrong_view s) (baseline_file served t.files) (tt {0}) (fails old)));
@@ -61,9 +61,9 @@ note_right start f served place read notes is known found =
     same x y e = grind (arith, nat_tests)
 
 -- what a note gives is what the file gives
-pub note_gives : (start : Start) (served : Served) (place : ℕ) (port : List ℕ) (read : Result (List Entry) Bad) (notes before : BaselineNotes) (answer : Result Given (Stop Wrong)) (a b : Held) → served_at start place ≡ Ok served
+pub note_gives : {found : ℕ} (start : Start) (served : Served) (place : ℕ) (port : List ℕ) (read : Result (List Entry) Bad) (notes before : BaselineNotes) (answer : Result Given (Stop Wrong)) (a b : Held) → served_at start place ≡ Ok served
     → note_at place notes ≡ Some read → has_failed answer ≡ false → Gives given_view (fault_seen wrong_view) answer (baseline_given port read)
-    → ReadsNoting {F = Wrong} wrong_view (λ done. tt {0}) (Ok (tt {0})) nothing_said (AreBaselines start before) (AreBaselines start notes) a b
+    → ReadsNoting {F = Wrong} wrong_view (λ (done : ℕ). tt {0}) (Ok found) nothing_said (AreBaselines start before) (AreBaselines start notes) a b
     → ReadsNoting wrong_view given_view answer (baseline_for served port) (AreBaselines start before) (AreBaselines start notes) a b
 note_gives start served place port read notes before answer a b is found calm gives looked =
     noting_then (λ done f. baseline_for served port f) looked

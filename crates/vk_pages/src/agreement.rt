@@ -77,7 +77,7 @@ fn name_text(manifest: &Manifest) -> &str
     }
 }
 
-/// That the manifest at a path is the port's. `Refused` says that it disagrees in its name.
+/// That the manifest at a path is the port's. `Fault` says that it disagrees in its name.
 pub fn named(
     alloc: Global,
     path: &TreePath,
@@ -102,7 +102,7 @@ fn no_version(alloc: Global, path: &TreePath) -> Result<Wrong, Memory>
     })
 }
 
-/// The version of the manifest at a path. `Refused` says that it has none.
+/// The version of the manifest at a path. `Fault` says that it has none.
 pub fn stated_version<'a>(
     alloc: Global,
     path: &TreePath,
@@ -152,9 +152,9 @@ fn version_agrees(
     same_port(alloc, path, said.port(), found.port())
 }
 
-/// That the manifest at a path is the port's, at the version. `Refused` says that it has no
+/// That the manifest at a path is the port's, at the version. `Fault` says that it has no
 /// version, or in which field it disagrees: the first of name, class, text and port-version. The
-/// tree isn't asked, so `TreeFailed` never comes.
+/// tree isn't asked, so `Failed` never comes.
 #[tactic(auto, unfolding(crate::specs::Agreement::agreeing))]
 pub fn agree(
     alloc: Global,

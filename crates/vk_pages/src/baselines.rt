@@ -1,11 +1,11 @@
 //! The baselines that were read, so that each file is read and parsed once.
-ghost use Rattle.std.specs.Prelude.{◌≡◌, ◌<◌, ◌++◌, ◌∷◌, [], List, Result, Ok, None, IsSome, OnOk};
-ghost use Rattle.std.specs.Prelude.{false, option_map};
-ghost use Rattle.std.specs.Option.{option_copied};
+ghost use Rattle.std.specs.Prelude.{◌≡◌, ◌<◌, ◌++◌, ◌∷◌, [], List, Result, Ok, Some, None, IfOk};
+ghost use Rattle.std.specs.Prelude.{false, length, nat_eq, option_map, slice_get};
 ghost use Rattle.indexmap.specs.IndexMap.{spare};
 ghost use Rattle.vk_spec.specs.Reading.{Gives, Fails};
 ghost use Rattle.vk_registry.specs.Baselines.{Entry};
 ghost use Rattle.vk_catalogue.specs.Views.{wrong_view, given_view};
+ghost use Rattle.vk_files.specs.Notes.{IsNoteAt};
 ghost use Rattle.vk_files.specs.Views.{held, kept_of};
 ghost use Rattle.vk_files.specs.Within.{LooksWithin};
 ghost use Rattle.vk_base.specs.Stops.{is_failure, has_failed};
@@ -115,60 +115,64 @@ impl Baselines {
         let _ = self.read.insert(place, read);
     }
 
-    // Reads the baseline of a registry that wasn't looked at yet. The room for it is taken first,
-    // so that nothing that was read is forgotten.
+    // Reads the baseline of a registry that wasn't looked at yet, and tells its place among those
+    // that were read. The room for it is taken first, so that nothing that was read is forgotten.
     fn note<T: Tree>(
         &mut self,
         alloc: Global,
         files: &mut FileCache,
         tree: &mut T,
         served: &Served,
-    ) -> Result<(), Stop<Wrong>>
+    ) -> Result<usize, Stop<Wrong>>
         requires { note_at served.now.place (notes_of self.old) ≡ None }
         ensures noted { (start : plain.Start) → served_at start served.now.place ≡ Ok
             (served_view served.now) → ReadsNoting wrong_view (λ done. tt) result nothing_said
             (AreBaselines start (notes_of self.old)) (AreBaselines start (notes_of self.new))
             (held files.old (T.state tree.old)) (held files.new (T.state tree.new)) }
-        ensures there { OnOk result (IsSome (note_at served.now.place (notes_of self.new))) }
+        ensures there { IfOk result (IsNoteAt (nat_eq served.now.place) (notes_of self.new)) }
         ensures asked { LooksWithin (baseline_path served.now.folder ∷ [])
             (kept_of files.old) (kept_of files.new) }
     {
         self.read.reserve(1)?;
         let read = read_baseline(alloc, files, tree, served)?;
+        let place = self.read.len();
         self.keep(served.place, read);
-        Ok(())
+        Ok(place)
     }
 
-    // Reads the baseline of a registry, unless it was read before.
+    // Reads the baseline of a registry, unless it was read before, and tells its place among those
+    // that were read, counted from 0.
     fn look<T: Tree>(
         &mut self,
         alloc: Global,
         files: &mut FileCache,
         tree: &mut T,
         served: &Served,
-    ) -> Result<(), Stop<Wrong>>
+    ) -> Result<usize, Stop<Wrong>>
         ensures noted { (start : plain.Start) → served_at start served.now.place ≡ Ok
             (served_view served.now) → ReadsNoting wrong_view (λ done. tt) result nothing_said
             (AreBaselines start (notes_of self.old)) (AreBaselines start (notes_of self.new))
             (held files.old (T.state tree.old)) (held files.new (T.state tree.new)) }
-        ensures there { OnOk result (IsSome (note_at served.now.place (notes_of self.new))) }
+        ensures there { IfOk result (IsNoteAt (nat_eq served.now.place) (notes_of self.new)) }
         ensures asked { LooksWithin (baseline_path served.now.folder ∷ [])
             (kept_of files.old) (kept_of files.new) }
     {
-        if self.read.contains_key(&served.place) {
-            return Ok(());
+        match self.read.get_index_of(&served.place) {
+            Some(place) => Ok(place),
+            None => self.note(alloc, files, tree, served),
         }
-        self.note(alloc, files, tree, served)
     }
 
-    // What was read of a registry; `None` exactly where it wasn't looked at.
-    fn get(&self, place: usize) -> Option<&Result<Baseline, BadFile>>
-        ensures { option_map read_view (option_copied result) ≡ note_at place (notes_of self.now) }
+    // What was read of the registry with this place among those that were read.
+    fn at(&self, place: usize) -> &Result<Baseline, BadFile>
+        requires { place < length (notes_of self.now) }
+        ensures { option_map (λ e. e.1) (slice_get (notes_of self.now) place)
+            ≡ Some (read_view result.now) }
     {
-        self.read.get(&place)
+        self.read.get_index(place).unwrap().1
     }
 
-    /// What a registry's baseline has for a port. `Refused` says that it has nothing, or what is
+    /// What a registry's baseline has for a port. `Fault` says that it has nothing, or what is
     /// wrong with its file, which is the only one that is looked at.
     pub fn given<T: Tree>(
         &mut self,
@@ -186,7 +190,7 @@ impl Baselines {
         ensures asked { LooksWithin (baseline_path served.now.folder ∷ [])
             (kept_of files.old) (kept_of files.new) }
     {
-        self.look(alloc, files, tree, served)?;
-        given_in(self.get(served.place).unwrap(), port)
+        let place = self.look(alloc, files, tree, served)?;
+        given_in(self.at(place), port)
     }
 }

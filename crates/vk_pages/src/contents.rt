@@ -79,7 +79,7 @@ fn at_wrong(stop: Stop<BadFile>) -> Stop<Wrong>
     }
 }
 
-/// What the file at a path means to a reader. `Refused` has what is wrong with the file. No other
+/// What the file at a path means to a reader. `Fault` has what is wrong with the file. No other
 /// path is looked at.
 pub fn content<T: Tree, R: FileReader>(
     alloc: Global,

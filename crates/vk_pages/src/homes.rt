@@ -62,7 +62,7 @@ pub enum Home {
 }
 
 /// Where the versions of a port are: in the first overlay that has it, or else in the registry that
-/// serves it, where an override counts before the baseline. `Refused` has the first thing that is
+/// serves it, where an override counts before the baseline. `Fault` has the first thing that is
 /// wrong. A file that was read before isn't read again, and no path is looked at but those that are
 /// needed for the answer.
 pub fn home_of<T: Tree>(

@@ -214,7 +214,7 @@ fn folder_home<T: Tree>(
     })
 }
 
-/// The home of a port that an overlay has. `Refused` has what is wrong with its manifest, which is
+/// The home of a port that an overlay has. `Fault` has what is wrong with its manifest, which is
 /// the only file that is looked at.
 pub fn home_in<T: Tree>(
     alloc: Global,

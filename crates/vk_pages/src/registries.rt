@@ -147,7 +147,7 @@ fn served_home<T: Tree>(
     })
 }
 
-/// The home of a port in the registry that serves it. `Refused` says that none does, that its
+/// The home of a port in the registry that serves it. `Fault` says that none does, that its
 /// baseline has nothing for the port, or which of the two files is wrong. The baseline file isn't
 /// looked at where the root manifest sets a version, nor the versions file where nothing is given.
 pub fn registry_home<T: Tree>(

@@ -62,7 +62,7 @@ fn served_by<'a>(
     }
 }
 
-/// The registry that serves a port. `Refused` says that none does.
+/// The registry that serves a port. `Fault` says that none does.
 pub fn served_for<'a>(
     alloc: Global,
     layout: &'a Layout,

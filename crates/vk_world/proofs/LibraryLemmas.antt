@@ -74,13 +74,13 @@ given_says start files port found (Err stop) before after is told ok err right =
 start_stays : (before after : Library) → Stays before after → start_of after ≡ start_of before
 start_stays before after s = ap layout_view s.layout
 
-pub given_learned : {lib mid : Library} (port : List ℕ) {answer : Result (Result declared.Given Wrong) Outage} {a b : Held} (known : KnownVersions) (found : FoundHome)
-    → Learns {X = Unit {0}} (Ok tt) SaysNothing (λ f. home_paths (start_of lib) f port) (IsRight lib) (IsRight mid) a b → Stays lib mid → home_noted port mid.homes ≡ Some found
+pub given_learned : {lib mid : Library} {place : ℕ} (port : List ℕ) {answer : Result (Result declared.Given Wrong) Outage} {a b : Held} (known : KnownVersions) (found : FoundHome)
+    → Learns (Ok place) SaysNothing (λ f. home_paths (start_of lib) f port) (IsRight lib) (IsRight mid) a b → Stays lib mid → home_noted port mid.homes ≡ Some found
     → IfOk answer (λ given. given_said given ≡ given_in found) → OnOk answer (folders_in known ≡ folders_given port found (folders_in mid.known)) → OnErr answer (folders_in known ≡ folders_in mid.known) → was_out answer ≡ false
     → Learns answer (SaysGivenOf (start_of lib) port) (λ f. home_paths (start_of lib) f port) (IsRight lib) (IsRight (record mid { known = known })) a b
-given_learned {lib = lib} {mid = mid} port {answer = answer} {a = a} {b = b} known found looked stays noted told ok err calm =
+given_learned {lib = lib} {mid = mid} {place = place} port {answer = answer} {a = a} {b = b} known found looked stays noted told ok err calm =
     subst (λ start. Learns answer (SaysGivenOf start port) (λ f. home_paths (start_of lib) f port) (IsRight lib) (IsRight (record mid { known = known })) a b) (start_stays lib mid stays)
-    (learns_then looked (learns_pure answer (SaysGivenOf (start_of mid) port) (λ f. IsRight mid f × SaysNothing {X = Unit {0}} f tt) (IsRight (record mid { known = known })) b calm
+    (learns_then looked (learns_pure answer (SaysGivenOf (start_of mid) port) (λ f. IsRight mid f × SaysNothing f place) (IsRight (record mid { known = known })) b calm
     (λ f both.
     let right = both.0 in
     let says = given_says (start_of mid) f port found answer (folders_in mid.known) (folders_in known) (home_is (start_of mid) mid.homes f port found right.homes noted) told ok err right.folders in
@@ -103,13 +103,13 @@ version_says start files port found ask (Ok v) before after is told ok err right
 )
 version_says start files port found ask (Err stop) before after is told ok err right = (subst (AreRight (IsFolderOf start files)) (sym err) right, tt)
 
-pub version_learned : {lib mid : Library} (port : List ℕ) {answer : Result (Option Version) Outage} {a b : Held} (ask : Ask) (known : KnownVersions) (found : FoundHome)
-    → Learns {X = Unit {0}} (Ok tt) SaysNothing (λ f. home_paths (start_of lib) f port) (IsRight lib) (IsRight mid) a b → Stays lib mid → home_noted port mid.homes ≡ Some found
+pub version_learned : {lib mid : Library} {place : ℕ} (port : List ℕ) {answer : Result (Option Version) Outage} {a b : Held} (ask : Ask) (known : KnownVersions) (found : FoundHome)
+    → Learns (Ok place) SaysNothing (λ f. home_paths (start_of lib) f port) (IsRight lib) (IsRight mid) a b → Stays lib mid → home_noted port mid.homes ≡ Some found
     → IfOk answer (λ v. v ≡ option_map (λ (l : versions.Version × Path). l.0) (listed_in found ask)) → OnOk answer (folders_in known ≡ folders_listed port (listed_in found ask) (folders_in mid.known)) → OnErr answer (folders_in known ≡ folders_in mid.known) → was_out answer ≡ false
     → Learns answer (SaysVersionOf (start_of lib) port ask) (λ f. home_paths (start_of lib) f port) (IsRight lib) (IsRight (record mid { known = known })) a b
-version_learned {lib = lib} {mid = mid} port {answer = answer} {a = a} {b = b} ask known found looked stays noted told ok err calm =
+version_learned {lib = lib} {mid = mid} {place = place} port {answer = answer} {a = a} {b = b} ask known found looked stays noted told ok err calm =
     subst (λ start. Learns answer (SaysVersionOf start port ask) (λ f. home_paths (start_of lib) f port) (IsRight lib) (IsRight (record mid { known = known })) a b) (start_stays lib mid stays)
-    (learns_then looked (learns_pure answer (SaysVersionOf (start_of mid) port ask) (λ f. IsRight mid f × SaysNothing {X = Unit {0}} f tt) (IsRight (record mid { known = known })) b calm
+    (learns_then looked (learns_pure answer (SaysVersionOf (start_of mid) port ask) (λ f. IsRight mid f × SaysNothing f place) (IsRight (record mid { known = known })) b calm
     (λ f both.
     let right = both.0 in
     let says = version_says (start_of mid) f port found ask answer (folders_in mid.known) (folders_in known) (home_is (start_of mid) mid.homes f port found right.homes noted) told ok err right.folders in
@@ -139,14 +139,14 @@ rows_within : (start : Start) (files : Files) (port : List ℕ) (found : FoundHo
 rows_within start files port found is path has =
     Contains-append_right (home_paths start files port) (manifest_paths (home_of start port files)) path (subst (λ h. Contains (manifest_paths h) path) is has)
 
-pub manifest_learned : {Z : Type 0} {lib mid : Library} (port : List ℕ) {answer : Result (Result (Rc Manifest Z) Wrong) Outage} {a b c : Held} (ask : Ask) (files : FileCache) (found : FoundHome)
-    → Learns {X = Unit {0}} (Ok tt) SaysNothing (λ f. home_paths (start_of lib) f port) (IsRight lib) (IsRight mid) a b → Stays lib mid → home_noted port mid.homes ≡ Some found
+pub manifest_learned : {Z : Type 0} {lib mid : Library} {place : ℕ} (port : List ℕ) {answer : Result (Result (Rc Manifest Z) Wrong) Outage} {a b c : Held} (ask : Ask) (files : FileCache) (found : FoundHome)
+    → Learns (Ok place) SaysNothing (λ f. home_paths (start_of lib) f port) (IsRight lib) (IsRight mid) a b → Stays lib mid → home_noted port mid.homes ≡ Some found
     → Learns answer (IsManifestFor port found ask) (λ f. manifest_paths found) NothingKnown NothingKnown b c
     → Learns answer (SaysManifestOf (start_of lib) port ask) (λ f. page_paths (start_of lib) f port) (IsRight lib) (IsRight (record mid { files = files })) a c
-manifest_learned {lib = lib} {mid = mid} port {answer = answer} {a = a} {c = c} ask files found looked stays noted read =
+manifest_learned {lib = lib} {mid = mid} {place = place} port {answer = answer} {a = a} {c = c} ask files found looked stays noted read =
     subst (λ start. Learns answer (SaysManifestOf start port ask) (λ f. page_paths (start_of lib) f port) (IsRight lib) (IsRight (record mid { files = files })) a c) (start_stays lib mid stays)
     (learns_then (of_home (start_of lib) port looked) (learns_within (λ f. page_paths (start_of lib) f port) (λ f both. rows_within (start_of lib) f port found (subst (λ start. found ≡ home_of start port f) (start_stays lib mid stays) (home_is (start_of mid) mid.homes f port found both.0.homes noted)))
-    (learns_so answer (SaysManifestOf (start_of mid) port ask) (λ f. IsRight mid f × SaysNothing {X = Unit {0}} f tt) (IsRight (record mid { files = files })) refl (λ f both. tt)
+    (learns_so answer (SaysManifestOf (start_of mid) port ask) (λ f. IsRight mid f × SaysNothing f place) (IsRight (record mid { files = files })) refl (λ f both. tt)
     (λ f both after says.
     let right = both.0 in
     (record { homes = right.homes; manifests = right.manifests; folders = right.folders }, manifest_says (start_of mid) f port found ask answer (home_is (start_of mid) mid.homes f port found right.homes noted) says)) read)))

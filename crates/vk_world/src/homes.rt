@@ -1,10 +1,10 @@
 //! The homes of ports that were found.
-ghost use Rattle.std.specs.Prelude.{◌≡◌, ◌<◌, ◌++◌, ◌∷◌, [], ℕ, List, None, IsSome, OnOk};
-ghost use Rattle.std.specs.Prelude.{option_map};
-ghost use Rattle.std.specs.Option.{option_copied};
+ghost use Rattle.std.specs.Prelude.{◌≡◌, ◌<◌, ◌++◌, ◌∷◌, [], ℕ, List, Some, None, IfOk, bytes_eq};
+ghost use Rattle.std.specs.Prelude.{length, option_map, slice_get};
 ghost use Rattle.indexmap.specs.IndexMap.{spare};
 ghost use Rattle.vk_spec.specs.Files.{Files};
 ghost use Rattle.vk_opening.specs.Starts.{Start};
+ghost use Rattle.vk_files.specs.Notes.{IsNoteAt};
 ghost use Rattle.vk_files.specs.Views.{held};
 ghost use Rattle.vk_pages.specs.Homes.{home_of};
 ghost use Rattle.vk_pages.specs.Asked.{home_paths};
@@ -80,23 +80,25 @@ impl Homes {
         files: &mut FileCache,
         tree: &mut T,
         port: &PortName,
-    ) -> Result<(), Outage>
+    ) -> Result<usize, Outage>
         requires { home_noted port.now self.old ≡ None }
         ensures learns { Learns result SaysNothing
             (λ f. home_paths (layout_view layout.now) f port.now)
             (AreHomes (layout_view layout.now) self.old)
             (AreHomes (layout_view layout.now) self.new) (held files.old (T.state tree.old))
             (held files.new (T.state tree.new)) }
-        ensures there { OnOk result (IsSome (home_noted port.now self.new)) }
+        ensures there { IfOk result (IsNoteAt (bytes_eq port.now) (homes_in self.new)) }
     {
         let key = port.clone()?;
         self.found.reserve(1)?;
         let found = find_home(alloc, layout, files, &mut self.baselines, tree, port)?;
+        let place = self.found.len();
         self.keep(key, found);
-        Ok(())
+        Ok(place)
     }
 
-    /// Looks for the home of a port, for which files are read unless it was found before.
+    /// Looks for the home of a port, for which files are read unless it was found before, and
+    /// tells the place of what was found, counted from 0.
     pub fn look<T: Tree>(
         &mut self,
         alloc: Global,
@@ -104,24 +106,26 @@ impl Homes {
         files: &mut FileCache,
         tree: &mut T,
         port: &PortName,
-    ) -> Result<(), Outage>
+    ) -> Result<usize, Outage>
         ensures learns { Learns result SaysNothing
             (λ f. home_paths (layout_view layout.now) f port.now)
             (AreHomes (layout_view layout.now) self.old)
             (AreHomes (layout_view layout.now) self.new) (held files.old (T.state tree.old))
             (held files.new (T.state tree.new)) }
-        ensures there { OnOk result (IsSome (home_noted port.now self.new)) }
+        ensures there { IfOk result (IsNoteAt (bytes_eq port.now) (homes_in self.new)) }
     {
-        if self.found.contains_key(port) {
-            return Ok(());
+        match self.found.get_index_of(port) {
+            Some(place) => Ok(place),
+            None => self.ask(alloc, layout, files, tree, port),
         }
-        self.ask(alloc, layout, files, tree, port)
     }
 
-    /// What was found for a port; `None` exactly where it wasn't looked for.
-    pub fn get(&self, port: &PortName) -> Option<&Result<Home, Wrong>>
-        ensures { option_map found_home (option_copied result) ≡ home_noted port.now self.now }
+    /// What was found for the port with this place.
+    pub fn at(&self, place: usize) -> &Result<Home, Wrong>
+        requires { place < length (homes_in self.now) }
+        ensures { option_map (λ e. e.1) (slice_get (homes_in self.now) place)
+            ≡ Some (found_home result.now) }
     {
-        self.found.get(port)
+        self.found.get_index(place).unwrap().1
     }
 }

@@ -1,14 +1,15 @@
 //! What a world keeps, and what it learns.
-ghost use Rattle.std.specs.Prelude.{◌≡◌, [], IsSome, OnOk, length};
+ghost use Rattle.std.specs.Prelude.{◌≡◌, [], IfOk, bytes_eq, length};
 ghost use Rattle.vk_spec.specs.Files.{Files};
 ghost use Rattle.vk_version.specs.AskViews.{ask_view};
 ghost use Rattle.vk_catalogue.specs.Views.{given_answer, version_answer};
+ghost use Rattle.vk_files.specs.Notes.{IsNoteAt};
 ghost use Rattle.vk_files.specs.Views.{held, kept_of};
 ghost use Rattle.vk_opening.specs.Views.{start_view, opened_files};
 ghost use Rattle.vk_pages.specs.Asked.{home_paths, page_paths};
 ghost use Rattle.vk_world.specs.Learning.{Learns, SaysNothing};
 ghost use Rattle.vk_world.specs.KnownVersions.{folders_in, pairs_of};
-ghost use Rattle.vk_world.specs.HomeNotes.{home_noted};
+ghost use Rattle.vk_world.specs.HomeNotes.{homes_in};
 ghost use Rattle.vk_world.specs.Answered.{pairs_given, pairs_listed};
 ghost use Rattle.vk_world.specs.Libraries.{start_of, IsRight, Stays, SaysGivenOf, SaysVersionOf};
 ghost use Rattle.vk_world.specs.Libraries.{SaysManifestOf};
@@ -73,12 +74,17 @@ impl Library {
         }
     }
 
-    // Looks for the home of a port.
-    fn look<T: Tree>(&mut self, alloc: Global, tree: &mut T, port: &PortName) -> Result<(), Outage>
+    // Looks for the home of a port, and tells its place.
+    fn look<T: Tree>(
+        &mut self,
+        alloc: Global,
+        tree: &mut T,
+        port: &PortName,
+    ) -> Result<usize, Outage>
         ensures learns { Learns result SaysNothing (λ f. home_paths (start_of self.old) f port.now)
             (IsRight self.old) (IsRight self.new) (held self.old.files (T.state tree.old))
             (held self.new.files (T.state tree.new)) }
-        ensures there { OnOk result (IsSome (home_noted port.now self.new.homes)) }
+        ensures there { IfOk result (IsNoteAt (bytes_eq port.now) (homes_in self.new.homes)) }
         ensures stays { Stays self.old self.new }
         ensures known { self.new.known ≡ self.old.known }
     {
@@ -100,8 +106,8 @@ impl Library {
         ensures known { pairs_of (folders_in self.new.known) ≡ pairs_given port.now
             (given_answer result) (pairs_of (folders_in self.old.known)) }
     {
-        self.look(alloc, tree, port)?;
-        let found = self.homes.get(port).unwrap();
+        let place = self.look(alloc, tree, port)?;
+        let found = self.homes.at(place);
         answer_given(&mut self.known, port, found)
     }
 
@@ -121,8 +127,8 @@ impl Library {
         ensures known { pairs_of (folders_in self.new.known) ≡ pairs_listed port.now
             (version_answer result) (pairs_of (folders_in self.old.known)) }
     {
-        self.look(alloc, tree, port)?;
-        let found = self.homes.get(port).unwrap();
+        let place = self.look(alloc, tree, port)?;
+        let found = self.homes.at(place);
         answer_version(alloc, &mut self.known, port, found, ask)
     }
 
@@ -141,8 +147,8 @@ impl Library {
         ensures stays { Stays self.old self.new }
         ensures known { self.new.known ≡ self.old.known }
     {
-        self.look(alloc, tree, port)?;
-        let found = self.homes.get(port).unwrap();
+        let place = self.look(alloc, tree, port)?;
+        let found = self.homes.at(place);
         manifest_for(alloc, &mut self.files, tree, port, found, ask)
     }
 

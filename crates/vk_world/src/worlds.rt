@@ -65,7 +65,7 @@ impl<T: Tree> Model for World<T> {
 impl<T: Tree> World<T> {
     /// Opens a project: reads its root manifest, its configuration, its triplets and its overlays,
     /// each path once. `Refused` exactly where they have a fault, with the first in this order;
-    /// `TreeFailed` exactly where a call of the tree failed. The store isn't looked at yet.
+    /// `Failed` exactly where a call of the tree failed. The store isn't looked at yet.
     pub fn open(
         alloc: Global,
         tree: &mut T,

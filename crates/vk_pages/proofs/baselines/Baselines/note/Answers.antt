@@ -1,7 +1,7 @@
-use Rattle.std.proofs.Common.{sym, subst}
-use Rattle.std.specs.Prelude.{IsSome, nat_eq}
+use Rattle.std.proofs.Common.{◌∙◌, sym, ap, subst}
+use Rattle.std.specs.Prelude.{nat_eq}
 use Rattle.std.proofs.lemmas.Result.{err_from_is_err_and}
-use Rattle.vk_files.proofs.NotedLemmas.{noted, last_noted}
+use Rattle.vk_files.proofs.NotedLemmas.{noted, length_noted, last_note}
 use Rattle.vk_files.proofs.OnceLemmas.{nothing_read}
 use Rattle.vk_files.proofs.ReadMore.{noting_lacking}
 use Rattle.vk_pages.specs.BaselineNotes.{AreBaselines, note_at}
@@ -26,7 +26,9 @@ returns-clause-noted g c = λ start is.
 
 pub returns-clause-there : goal.returns-clause-there
 returns-clause-there g c =
-    subst (λ notes. IsSome (note_at c.args.served.now.place notes)) (sym c.keep.ensures) (last_noted nat_eq c.args.served.now.place (read_view c.in_ok-read.read) _ (same_place c.args.served.now.place))
+    let notes = noted read_view c.reserve.new.self.entries in
+    rw (c.keep.ensures, c.len-place.ensures.len ∙ sym (length_noted read_view c.reserve.new.self.entries))
+    (last_note nat_eq c.args.served.now.place (read_view c.in_ok-read.read) notes (same_place c.args.served.now.place) (ap (λ es. note_at c.args.served.now.place (noted read_view es)) c.reserve.ensures.entries ∙ c.requires))
 
 pub returns-in_err-reserve-clause-asked : goal.returns-in_err-reserve-clause-asked
 returns-in_err-reserve-clause-asked g c = nothing_since _ _

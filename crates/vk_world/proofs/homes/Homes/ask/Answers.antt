@@ -1,5 +1,5 @@
 use Rattle.std.proofs.Common.{◌≡◌, ◌∙◌, [], ◌∷◌, ◌++◌, refl, sym, ap, subst, rules}
-use Rattle.std.specs.Prelude.{Ok, Err, IsSome, bytes_eq}
+use Rattle.std.specs.Prelude.{Ok, Err, bytes_eq}
 use Rattle.std.specs.Map.{lookup}
 use Rattle.std.proofs.lemmas.Result.{err_from_is_err_and}
 use Rattle.std.proofs.lemmas.Slice.Eq.{bytes_eq-Decides}
@@ -14,7 +14,7 @@ use Rattle.vk_pages.specs.NoteViews.{notes_of}
 use Rattle.vk_world.specs.Learning.{SaysNothing}
 use Rattle.vk_world.specs.HomeNotes.{AreHomes, IsHomeOf, homes_in, found_home}
 use Rattle.vk_world.proofs.LearnLemmas.{learns_memory, learns_pure, learns_so}
-use Rattle.vk_files.proofs.NotedLemmas.{noted, last_noted}
+use Rattle.vk_files.proofs.NotedLemmas.{noted, length_noted, last_note}
 use Rattle.vk_world.proofs.homes.Homes.ask.Goals as goal
 
 pub returns-in_err-key-clause-learns : goal.returns-in_err-key-clause-learns
@@ -34,7 +34,7 @@ returns-clause-learns g c =
     let start = layout_view c.args.layout.now in
     let same : c.in_ok-key.key ≡ c.args.port.now = search rules in
     let kept = c.keep.ensures.homes ∙ ap (λ es. noted found_home es ++ (c.in_ok-key.key, found_home c.in_ok-found.found) ∷ []) c.reserve.ensures.entries in
-    learns_so (Ok tt) SaysNothing (AreHomes start c.args.self.now) (AreHomes start c.keep.new.self) refl (λ f right. right.baselines)
+    learns_so (Ok c.len-place.result) SaysNothing (AreHomes start c.args.self.now) (AreHomes start c.keep.new.self) refl (λ f right. right.baselines)
     (λ f before right says. (
       record {
         baselines = subst (λ b. AreBaselines start (notes_of b) f) (sym c.keep.ensures.baselines) right;
@@ -46,8 +46,9 @@ returns-clause-learns g c =
 pub returns-clause-there : goal.returns-clause-there
 returns-clause-there g c =
     let same : c.in_ok-key.key ≡ c.args.port.now = search rules in
-    subst (λ notes. IsSome (lookup (bytes_eq c.args.port.now) notes)) (sym c.keep.ensures.homes)
-    (rw same (last_noted bytes_eq c.args.port.now (found_home c.in_ok-found.found) _ ((bytes_eq-Decides c.args.port.now c.args.port.now).1 refl)))
+    let notes = noted found_home c.reserve.new.self.entries in
+    rw (c.keep.ensures.homes, c.len-place.ensures.len ∙ sym (length_noted found_home c.reserve.new.self.entries), same)
+    (last_note bytes_eq c.args.port.now (found_home c.in_ok-found.found) notes ((bytes_eq-Decides c.args.port.now c.args.port.now).1 refl) (ap (λ es. lookup (bytes_eq c.args.port.now) (noted found_home es)) c.reserve.ensures.entries ∙ c.requires))
 
 pub returns-in_err-found-clause-learns : goal.returns-in_err-found-clause-learns
 returns-in_err-found-clause-learns g c =
