@@ -5,7 +5,7 @@ use vk_base::List;
 /// Why a fact stands, by the lines of the reasons from which it follows, counted from 1.
 #[derive(Clone, Copy, Debug, PartialEq, Eq)]
 pub enum Cause {
-    /// The words or the root manifest ask for it.
+    /// A need of the root: `core`, a feature that the words name, or the default features.
     Root,
     /// The floor of a needed port's baseline.
     Baseline(u32),

@@ -17,6 +17,6 @@ pub struct Setting {
     pub defaults: bool,
     /// The instances whose default features are off.
     pub off: List<Instance>,
-    /// How many requirements may be made, 1 to 1,000,000.
+    /// How many requirements may be made, 1 to 2,000,000.
     pub max_facts: u32,
 }
