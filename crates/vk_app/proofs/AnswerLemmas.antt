@@ -49,10 +49,10 @@ pub opening_form : (project : Project) (files : Files) (opening : Opening) → o
 unfolding opened_of
 opening_form project files opening e =
     let root = bind_ok (early_at root_in (manifest_path project.folder) files) (λ r. after_root project r files) opening e in
-    let config = bind_ok (config_in project.folder root.0.document files) (λ c. after_config project root.0 c files) opening root.2 in
-    let triplets = bind_ok (triplets_of project config.0 files) (λ t. after_triplets project root.0 config.0 t files) opening config.2 in
-    let overlays = bind_ok (overlays_of project config.0 files) (λ o. after_overlays project root.0 config.0 triplets.0 o files) opening triplets.2 in
-    let same : opening_with project root.0 config.0 triplets.0 overlays.0 ≡ opening = (cc) in
+    let config = bind_ok (config_in project.folder root.0.configuration files) (λ c. after_config project root.0.manifest c files) opening root.2 in
+    let triplets = bind_ok (triplets_of project config.0 files) (λ t. after_triplets project root.0.manifest config.0 t files) opening config.2 in
+    let overlays = bind_ok (overlays_of project config.0 files) (λ o. after_overlays project root.0.manifest config.0 triplets.0 o files) opening triplets.2 in
+    let same : opening_with project root.0.manifest config.0 triplets.0 overlays.0 ≡ opening = (cc) in
     subst (HasForm project) same (record { base = setting_with project root.0.manifest triplets.0 []; settings = λ off. refl; most = refl })
 
 -- ---- the setting

@@ -1,6 +1,6 @@
 //! A configuration: in a file of its own, or in a root manifest.
 ghost use Rattle.std.specs.Prelude.{◌≡◌, List, Option, map, option_map};
-ghost use Rattle.serde_json.specs.View.{view};
+ghost use Rattle.vk_json.specs.Values.{view};
 ghost use Rattle.vk_spec.specs.Reading.{Gives};
 ghost use Rattle.vk_base.specs.Stops.{fault_in};
 ghost use Rattle.vk_config.specs.Configs as plain;
@@ -12,11 +12,10 @@ ghost use Rattle.vk_config.specs.Views.{source_view, registry_view, config_view}
 use crate::configs::Config;
 use crate::pattern_indexes::PatternIndex;
 use crate::registries::{Registry, RegistryObject, Source, SourceObject};
-use serde_json::Value;
 use std::alloc::Global;
 use vk_base::{List, TreePath, Unread};
 use vk_fields::PathText;
-use vk_json::{Doc, FileFault, ListOf, Reader, object, optional_or};
+use vk_json::{Doc, FileFault, ListOf, Reader, Scratch, Value, is_null, object, optional_or};
 
 // Reads a default registry, which may be null.
 #[derive(Drop)]
@@ -32,7 +31,7 @@ impl Reader for DefaultSource {
     ghost reads = { λ r. unless_null source_at };
 
     fn read(&self, alloc: Global, value: &Value) -> Result<Option<Source>, Unread<FileFault>> {
-        if value.is_null() {
+        if is_null(value) {
             return Ok(None);
         }
         Ok(Some(SourceObject.read(alloc, value)?))
@@ -109,6 +108,7 @@ impl Reader for ConfigObject {
 pub fn read_config(alloc: Global, bytes: &[u8]) -> Result<Config, Unread<FileFault>>
     ensures { Gives config_view fault_in result (config_of bytes.now) }
 {
-    let doc = Doc::read(alloc, bytes)?;
+    let mut scratch = Scratch::new(alloc);
+    let doc = Doc::read(alloc, bytes, &mut scratch)?;
     ConfigObject.read(alloc, doc.value())
 }

@@ -1,6 +1,6 @@
 //! The configuration in a root manifest.
 ghost use Rattle.std.specs.Prelude.{◌≡◌, option_map};
-ghost use Rattle.serde_json.specs.View.{view};
+ghost use Rattle.vk_json.specs.Values.{view};
 ghost use Rattle.vk_spec.specs.Reading.{Gives};
 ghost use Rattle.vk_base.specs.Stops.{fault_in};
 ghost use Rattle.vk_config.specs.Embedding.{has_both, either, only_one, embedded_at, embedded_of};
@@ -8,10 +8,9 @@ ghost use Rattle.vk_config.specs.Views.{config_view, embedded_view};
 
 use crate::config_files::ConfigObject;
 use crate::configs::{Config, Embedded};
-use serde_json::Value;
 use std::alloc::Global;
 use vk_base::Unread;
-use vk_json::{Doc, FileFault, member, optional};
+use vk_json::{Doc, FileFault, Scratch, Value, member, optional};
 
 fn has_both(value: &Value) -> bool
     ensures { result ≡ has_both (view value.now) }
@@ -59,6 +58,7 @@ pub fn embedded_in(alloc: Global, value: &Value) -> Result<Embedded, Unread<File
 pub fn embedded(alloc: Global, bytes: &[u8]) -> Result<Embedded, Unread<FileFault>>
     ensures { Gives embedded_view fault_in result (embedded_of bytes.now) }
 {
-    let doc = Doc::read(alloc, bytes)?;
+    let mut scratch = Scratch::new(alloc);
+    let doc = Doc::read(alloc, bytes, &mut scratch)?;
     embedded_in(alloc, doc.value())
 }

@@ -12,10 +12,9 @@ ghost use Rattle.vk_config.specs.Views.{pattern_view};
 ghost use Rattle.vk_json.specs.Places.{here};
 ghost use Rattle.std.specs.Prelude.{option_map};
 
-use serde_json::Value;
 use std::alloc::Global;
 use vk_base::{NameFault, PortName, Text, Unread};
-use vk_json::{FileFault, Reader, Why, text, wrong};
+use vk_json::{FileFault, Reader, Value, Why, text, wrong};
 
 /// Which ports a registry has.
 #[derive(Drop)]

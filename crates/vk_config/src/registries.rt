@@ -1,6 +1,6 @@
 //! Registries: where ports come from.
 ghost use Rattle.std.specs.Prelude.{◌≡◌, List, Ok, map, option_map};
-ghost use Rattle.serde_json.specs.View.{view};
+ghost use Rattle.vk_json.specs.Values.{view};
 ghost use Rattle.vk_spec.specs.Reading.{Gives};
 ghost use Rattle.vk_base.specs.Stops.{fault_in};
 ghost use Rattle.vk_config.specs.Configs as plain;
@@ -10,11 +10,12 @@ ghost use Rattle.vk_config.specs.Registries.{packages_by, registry_at};
 ghost use Rattle.vk_config.specs.Views.{kind_view, source_view, pattern_view, registry_view};
 
 use crate::patterns::{Pattern, PatternText};
-use serde_json::Value;
 use std::alloc::Global;
 use vk_base::{List, Text, TreePath, Unread};
 use vk_fields::PathText;
-use vk_json::{AnyText, FileFault, ListOf, Reader, Why, object, optional_or, text, wanted, wrong};
+use vk_json::{
+    AnyText, FileFault, ListOf, Reader, Value, Why, object, optional_or, text, wanted, wrong,
+};
 
 /// Where a registry has its ports from.
 #[derive(Drop)]

@@ -1,7 +1,7 @@
 //! Texts that have a rule of their own.
 ghost use Rattle.std.specs.Prelude.{◌≡◌, List, ℕ, Option, Some};
 ghost use Rattle.std.specs.List.{list_any};
-ghost use Rattle.serde_json.specs.View.{view};
+ghost use Rattle.vk_json.specs.Values.{view};
 ghost use Rattle.vk_spec.specs.Reading.{Gives};
 ghost use Rattle.vk_spec.specs.Paths.{Path};
 ghost use Rattle.vk_spec.specs.Versions as plain;
@@ -24,11 +24,10 @@ ghost use Rattle.vk_fields.specs.Wording.{name_word, path_word, version_word, ex
 ghost use Rattle.vk_fields.specs.Saying.{said_here};
 
 use crate::wording::said;
-use serde_json::Value;
 use std::alloc::Global;
 use vk_base::{FeatureName, Memory, PortName, SharedText, TreePath, Unread};
 use vk_expr::{Expr, ExprFault};
-use vk_json::{FileFault, Reader, text};
+use vk_json::{FileFault, Reader, Value, text};
 use vk_version::{Ask, Scheme, VersionFault, read, read_ask};
 
 /// The port's name that a text is. The fault is `Name` where it is none.

@@ -1,8 +1,10 @@
 //! A version under one of its four keys, with the port-version beside it.
 ghost use Rattle.std.specs.Prelude.{◌≡◌, ◌||◌, option_map, Result, bytes_eq};
 ghost use Rattle.std.specs.Option.{is_some};
-ghost use Rattle.serde_json.specs.Find.{get, get_member};
-ghost use Rattle.serde_json.specs.View.{view, members_view};
+ghost use Rattle.serde_json.specs.Find.{get};
+ghost use Rattle.json.specs.Find.{get_member};
+ghost use Rattle.json.specs.Value.{members_view};
+ghost use Rattle.vk_json.specs.Values.{view};
 ghost use Rattle.vk_spec.specs.Reading.{Gives};
 ghost use Rattle.vk_spec.specs.Versions as plain;
 ghost use Rattle.vk_base.specs.Stops.{fault_in};
@@ -18,11 +20,11 @@ ghost use Rattle.vk_fields.specs.Versions.{with_port_beside, written_ask_under};
 
 use crate::texts::{PlainText, WrittenAsk, WrittenAskText};
 use crate::wording::said;
-use serde_json::{Map, Value};
 use std::alloc::Global;
 use vk_base::Unread;
 use vk_json::{
-    FileFault, Reader, SmallNumber, Why, optional, optional_or, text, wanted, wrong, wrong_member,
+    FileFault, Reader, SmallNumber, Value, Why, optional, optional_or, text, wanted, wrong,
+    wrong_member,
 };
 use vk_version::{Ask, Scheme, Version, read};
 
@@ -75,7 +77,7 @@ impl VersionKeys {
     // Notes a key that is there.
     fn note(&mut self, key: &str)
         ensures { (scheme : plain_scheme.Scheme) → has_key self.new scheme
-            ≡ has_key self.old scheme || bytes_eq (key_of scheme) key.now }
+            ≡ has_key self.old scheme || bytes_eq key.now (key_of scheme) }
     {
         match key {
             "version" => self.relaxed = true,
@@ -88,13 +90,13 @@ impl VersionKeys {
 }
 
 // Which of the four keys are among the members of an object, in one pass.
-fn keys_among(object: &Map<String, Value>) -> VersionKeys
+fn keys_among(object: &[(&str, Value)]) -> VersionKeys
     ensures { (scheme : plain_scheme.Scheme) → has_key result scheme
-        ≡ is_some (get_member (key_of scheme) (members_view object.now.entries)) }
+        ≡ is_some (get_member (key_of scheme) (members_view object.now)) }
 {
     let mut keys = VersionKeys::none();
-    for (key, _) in object.iter() {
-        keys.note(key.as_str());
+    for (key, _) in object {
+        keys.note(key);
     }
     keys
 }
@@ -104,9 +106,9 @@ fn keys_in(value: &Value) -> VersionKeys
     ensures { (scheme : plain_scheme.Scheme) → has_key result scheme
         ≡ is_some (get (key_of scheme) (view value.now)) }
 {
-    match value.as_object() {
-        Some(object) => keys_among(object),
-        None => VersionKeys::none(),
+    match value {
+        Value::Object(object) => keys_among(object.as_slice()),
+        _ => VersionKeys::none(),
     }
 }
 

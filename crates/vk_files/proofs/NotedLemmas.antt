@@ -1,11 +1,11 @@
 -- Notes that are kept under keys, as they are seen: looking one up, where it stands, and keeping one more.
-use Rattle.std.proofs.Common.{◌≡◌, Bool, true, false, cond, ℕ, List, [], ◌∷◌, ◌++◌, ◌<◌, length, map, refl, ap, sym, ◌∙◌, true≢false, suc, arith}
-use Rattle.std.specs.Prelude.{Option, Some, None, option_map, slice_get, Result, Ok, Err, IsOk, OnOk}
+use Rattle.std.proofs.Common.{◌≡◌, Bool, true, false, cond, ℕ, List, [], ◌∷◌, ◌++◌, ◌<◌, length, map, refl, ap, sym, ◌∙◌, true≢false, suc, arith, inl, inr}
+use Rattle.std.specs.Prelude.{Option, Some, None, IfSome, option_map, slice_get, Result, Ok, Err, IsOk, OnOk}
 use Rattle.std.specs.Option.{is_some}
 use Rattle.std.specs.Map.{lookup}
 use Rattle.std.proofs.lemmas.List.{length-append, map-append}
 use Rattle.std.proofs.lemmas.Map.Made.{lookup-map_values}
-use Rattle.std.proofs.lemmas.Option.{none-some, slice_get-map}
+use Rattle.std.proofs.lemmas.Option.{none-some, slice_get-map, slice_get_cases}
 use Rattle.indexmap.specs.IndexMap.{IndexMap, insert_entry}
 use Rattle.indexmap.proofs.CallerLemmas.{insert_entry-new}
 use Rattle.vk_files.specs.Notes.{IsNoteAt}
@@ -71,3 +71,12 @@ last_note {K = K} {V = V} eq k v notes same none = record { within = omega (arit
     by : (notes : List (K × V)) → lookup (eq k) notes ≡ None → lookup (eq k) (notes ++ (k, v) ∷ []) ≡ option_map (λ e. e.1) (slice_get (notes ++ (k, v) ∷ []) (length notes))
     by [] none = ap (λ b. cond b (Some v) None) same
     by (e ∷ notes) none = behind (eq k e.0) e.1 (lookup (eq k) notes) (lookup (eq k) (notes ++ (k, v) ∷ [])) _ none (by notes)
+
+-- what is said of the note at a place is said of what is kept under the key
+pub said_of_note : {K W : Type 0} (test : K → Bool) (notes : List (K × W)) (place : ℕ) (P : K × W → Type 0) → IsNoteAt test notes place → IfSome (slice_get notes place) P
+    → (e : K × W) × (lookup test notes ≡ Some e.1) × P e
+said_of_note {K} {W} test notes place P there said =
+    elim (slice_get_cases notes place).1 [
+      | inl found ↦ (found.0, there.found ∙ ap (λ (o : Option (K × W)). option_map (λ (e : K × W). e.1) o) found.2, rw found.2 at said)
+      | inr past ↦ let within = there.within in absurd (omega (arith, past.0))
+    ]

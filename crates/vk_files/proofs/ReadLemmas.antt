@@ -4,7 +4,7 @@ use Rattle.std.specs.Prelude.{Option, Some, None, IfSome, Result, Ok, Err}
 use Rattle.vk_spec.specs.Paths.{Path}
 use Rattle.vk_spec.specs.Files.{Files}
 use Rattle.vk_spec.specs.Reading.{◌>>=◌, Gives, Fails}
-use Rattle.vk_spec.specs.States.{Told}
+use Rattle.vk_spec.specs.States.{Told, State}
 use Rattle.vk_spec.proofs.StateLemmas.{told_before}
 use Rattle.vk_spec.proofs.ReadingLemmas.{fails_on, gives_then}
 use Rattle.vk_json.specs.declared.faults.FileFault.{FileFault}
@@ -93,3 +93,8 @@ reads_seen refusal view answer meaning path seen a b once found calm gives = rec
     by : (told : Option Told) → IfSome told (λ t. IsOf t.files a.kept → IsOf t.files b.kept) → IfSome told (λ t. IsOf t.files a.kept → Gives view (fault_seen refusal) answer (meaning (seen_at path t.files)))
     by None right = tt
     by (Some t) right = λ old. subst (λ x. Gives view (fault_seen refusal) answer (meaning x)) (seen_there path seen t.files b.kept (right old) found) gives
+
+-- the same, where what is kept afterwards is the same
+pub reads_kept : {X Y F P : Type 0} {refusal : F → P} {view : X → Y} {answer : Result X (Stop F)} {meaning : Files → Result Y P} {a : Held} {kept new : Kept} {tree : State}
+    → new ≡ kept → ReadsAs refusal view answer meaning a (record { kept = kept; tree = tree }) → ReadsAs refusal view answer meaning a (record { kept = new; tree = tree })
+reads_kept {refusal = refusal} {view = view} {answer = answer} {meaning = meaning} {a = a} {tree = tree} same reads = subst (λ k. ReadsAs refusal view answer meaning a (record { kept = k; tree = tree })) (sym same) reads

@@ -19,6 +19,7 @@ use crate::found::{FileBytes, Found};
 use indexmap::IndexMap;
 use std::alloc::Global;
 use vk_base::{List, Stop, TreePath};
+use vk_json::Scratch;
 use vk_tree::{ReadFault, Tree};
 
 /// The longest file that is read, in bytes.
@@ -27,7 +28,9 @@ pub const MOST_BYTES: u64 = 16_777_216;
 /// What was read of a tree, by path. What stands at a path is kept, so that no path is read twice.
 #[derive(Drop)]
 pub struct FileCache {
-    found: IndexMap<TreePath, Found>,
+    pub(crate) found: IndexMap<TreePath, Found>,
+    /// The room that reading JSON needs, one for all files.
+    pub(crate) scratch: Scratch,
 }
 
 // What a read that is refused found.
@@ -65,6 +68,7 @@ impl FileCache {
     {
         FileCache {
             found: IndexMap::new(alloc),
+            scratch: Scratch::new(alloc),
         }
     }
 

@@ -1,6 +1,6 @@
 //! Readers of files, and how a file stands.
 ghost use Rattle.std.specs.Prelude.{◌≡◌, ◌<◌, ◌^◌, ◌∷◌, [], List, ℕ, Ok, Result, IfSome};
-ghost use Rattle.std.specs.Prelude.{length, false};
+ghost use Rattle.std.specs.Prelude.{length, false, slice_get};
 ghost use Rattle.vk_spec.specs.Reading.{Gives};
 ghost use Rattle.vk_base.specs.Stops.{fault_in, has_failed, is_failure};
 ghost use Rattle.vk_json.specs.declared.faults.FileFault as faults;
@@ -16,7 +16,7 @@ use crate::caches::FileCache;
 use crate::found::Found;
 use std::alloc::Global;
 use vk_base::{Stop, TreePath, Unread};
-use vk_json::{FileFault, Why, wrong};
+use vk_json::{FileFault, Scratch, Why, wrong};
 use vk_tree::Tree;
 
 /// A way to read the bytes of a file.
@@ -30,8 +30,13 @@ pub trait FileReader {
 
     ghost reads: { Self → List ℕ → Result Plain faults.FileFault };
 
-    /// What the bytes mean, or their first fault.
-    fn read(&self, alloc: Global, bytes: &[u8]) -> Result<Self::Out, Unread<FileFault>>
+    /// What the bytes mean, or their first fault. The scratch is for readers of JSON.
+    fn read(
+        &self,
+        alloc: Global,
+        bytes: &[u8],
+        scratch: &mut Scratch,
+    ) -> Result<Self::Out, Unread<FileFault>>
         requires { length bytes.now < 2 ^ 32 }
         ensures { Gives plain fault_in result (reads self.now bytes.now) };
 }
@@ -79,13 +84,14 @@ fn read_found<R: FileReader>(
     alloc: Global,
     found: &Found,
     reader: &R,
+    scratch: &mut Scratch,
 ) -> Result<R::Out, Unread<FileFault>>
     ensures { Gives R.plain fault_in result (seen_file (R.reads reader.now) (seen_view found.now)) }
 {
     match found {
         Found::Absent => Err(wrong(alloc, Why::Absent)),
         Found::TooLarge => Err(wrong(alloc, Why::Large)),
-        Found::Bytes(file) => reader.read(alloc, file.bytes.as_slice()),
+        Found::Bytes(file) => reader.read(alloc, file.bytes.as_slice(), scratch),
     }
 }
 
@@ -105,6 +111,24 @@ fn told<R: FileReader>(
     }
 }
 
+impl FileCache {
+    // What stands at the path with this place, by a reader.
+    fn read_at<R: FileReader>(
+        &mut self,
+        alloc: Global,
+        place: usize,
+        reader: &R,
+    ) -> Result<R::Out, Unread<FileFault>>
+        requires { place < length (kept_of self.old) }
+        ensures read { IfSome (slice_get (kept_of self.old) place)
+            (λ e. Gives R.plain fault_in result (seen_file (R.reads reader.now) e.1)) }
+        ensures same { kept_of self.new ≡ kept_of self.old }
+    {
+        let found = self.found.get_index(place).unwrap().1;
+        read_found(alloc, found, reader, &mut self.scratch)
+    }
+}
+
 /// What the file at a path means to a reader. `Fault` has the place and the word of the first
 /// fault: the file is absent or too long, or what the reader says of its bytes.
 pub fn read_file<T: Tree, R: FileReader>(
@@ -119,7 +143,7 @@ pub fn read_file<T: Tree, R: FileReader>(
     ensures within { LooksWithin (path.now ∷ []) (kept_of files.old) (kept_of files.new) }
 {
     let place = files.look::<T, BadFile>(tree, path)?;
-    told::<R>(path, read_found(alloc, files.at(place), reader))
+    told::<R>(path, files.read_at(alloc, place, reader))
 }
 
 fn standing_of(found: &Found) -> Standing

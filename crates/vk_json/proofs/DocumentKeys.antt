@@ -1,6 +1,6 @@
 -- In what is read of bytes, the keys of each object ascend.
-use Rattle.std.proofs.Common.{◌≡◌, ℕ, suc, zero, Bool, true, false, List, [], ◌∷◌, Ordering, inl, inr, refl, ap, sym, ◌∙◌, subst}
-use Rattle.std.specs.Prelude.{Option, Some, None, Ok, option_map, option_and_then, slice_get}
+use Rattle.std.proofs.Common.{◌≡◌, ℕ, suc, zero, Bool, true, false, List, [], ◌∷◌, Ordering, inl, inr, refl, ap, ◌∙◌, subst}
+use Rattle.std.specs.Prelude.{Option, Some, None, Ok, option_and_then, slice_get}
 use Rattle.std.specs.List.{AllByRecursion, Contains}
 use Rattle.std.specs.List.Sorted.{IsStrictlySortedBy}
 use Rattle.std.specs.Str.{is_utf8}
@@ -12,7 +12,7 @@ use Rattle.json.specs.Lex.{tokens}
 use Rattle.json.specs.Json as json
 use Rattle.serde_json.specs.Data.{Data, Items, no_items, item, Members, no_members, member, put}
 use Rattle.serde_json.specs.Data as the
-use Rattle.serde_json.specs.Read.{of_json, of_items, of_members, max_depth, read}
+use Rattle.serde_json.specs.Read.{of_json, max_depth, read}
 use Rattle.vk_spec.specs.Reading.{or_fault}
 use Rattle.vk_spec.proofs.ListLemmas.{contains_nothing, contains_cases}
 use Rattle.vk_json.specs.declared.faults.FileFault.{FileFault}
@@ -20,6 +20,9 @@ use Rattle.vk_json.specs.Documents.{json_of, value_of, without_mark}
 use Rattle.vk_json.specs.Looks.{list_of, names_of}
 use Rattle.vk_json.specs.KeyOrders.{KeysAscend}
 use Rattle.vk_json.specs.Readings.{pairs_of}
+use Rattle.vk_json.specs.Values.{data_of, items_data, members_data}
+use Rattle.vk_json.proofs.OptionLemmas.{and_then_some}
+use Rattle.vk_json.proofs.RangeLemmas.{json_is}
 use Rattle.vk_json.specs.Standing.{Leads, itself, by_member, by_item}
 
 abbrev bytes_cmp : List ℕ → List ℕ → Ordering
@@ -89,41 +92,29 @@ put_orderly k d (member m e ms) one all = put_by (bytes_cmp k m) (put_orderly k 
 
 -- ---- what is read is orderly
 
-and_then_some : {A B : Type 0} (o : Option A) (f : A → Option B) (y : B) → option_and_then f o ≡ Some y → (x : A) × (o ≡ Some x) × (f x ≡ Some y)
-and_then_some None f y e = (cc)
-and_then_some (Some x) f y e = (x, refl, e)
-
-map_some : {A B : Type 0} (o : Option A) (f : A → B) (y : B) → option_map f o ≡ Some y → (x : A) × (o ≡ Some x) × (y ≡ f x)
-map_some None f y e = (cc)
-map_some (Some x) f y e = let is : f x ≡ y = (cc) in (x, refl, sym is)
-
 mutual
-  json_orderly : (j : json.Json) (d : Data) → of_json j ≡ Some d → Orderly d
-  json_orderly json.null d e = let is : d ≡ the.null = (cc) in rw is tt
-  json_orderly (json.boolean b) d e = let is : d ≡ the.boolean b = (cc) in rw is tt
-  json_orderly (json.number s) d e = let is = map_some _ the.number d e in rw is.2 tt
-  json_orderly (json.string s) d e = let is : d ≡ the.string s = (cc) in rw is tt
-  json_orderly (json.array js) d e = let is = map_some (of_items js) the.array d e in rw is.2 (items_orderly js is.0 is.1)
-  json_orderly (json.object ms) d e = let is = map_some (of_members ms no_members) the.object d e in rw is.2 (members_orderly ms no_members is.0 is.1 nothing_sorted tt)
+  data_orderly : (j : json.Json) → Orderly (data_of j)
+  data_orderly json.null = tt
+  data_orderly (json.boolean b) = tt
+  data_orderly (json.number s) = tt
+  data_orderly (json.string s) = tt
+  data_orderly (json.array js) = items_orderly js
+  data_orderly (json.object ms) = members_orderly ms no_members nothing_sorted tt
 
-  items_orderly : (js : json.Items) (ds : Items) → of_items js ≡ Some ds → OrderlyItems ds
-  items_orderly json.no_items ds e = let is : ds ≡ no_items = (cc) in rw is tt
-  items_orderly (json.item j js) ds e =
-      let first = and_then_some (of_json j) (λ d. option_map (item d) (of_items js)) ds e in
-      let rest = map_some (of_items js) (item first.0) ds first.2 in
-      rw rest.2 (json_orderly j first.0 first.1, items_orderly js rest.0 rest.1)
+  items_orderly : (js : json.Items) → OrderlyItems (items_data js)
+  items_orderly json.no_items = tt
+  items_orderly (json.item j js) = (data_orderly j, items_orderly js)
 
-  members_orderly : (ms : json.Members) (found out : Members) → of_members ms found ≡ Some out → IsStrictlySortedBy bytes_cmp (names_of found) → OrderlyMembers found → IsStrictlySortedBy bytes_cmp (names_of out) × OrderlyMembers out
-  members_orderly json.no_members found out e s all = let is : out ≡ found = (cc) in rw is (s, all)
-  members_orderly (json.member k j ms) found out e s all =
-      let first = and_then_some (of_json j) (λ d. of_members ms (put k d found)) out e in
-      members_orderly ms (put k first.0 found) out first.2 (put_sorted k first.0 found s) (put_orderly k first.0 found (json_orderly j first.0 first.1) all)
+  members_orderly : (ms : json.Members) (before : Members) → IsStrictlySortedBy bytes_cmp (names_of before) → OrderlyMembers before
+      → IsStrictlySortedBy bytes_cmp (names_of (members_data ms before)) × OrderlyMembers (members_data ms before)
+  members_orderly json.no_members before s all = (s, all)
+  members_orderly (json.member k j ms) before s all = members_orderly ms (put k (data_of j) before) (put_sorted k (data_of j) before s) (put_orderly k (data_of j) before (data_orderly j) all)
 
 read_orderly : (bytes : List ℕ) (d : Data) → read bytes ≡ Some d → Orderly d
 read_orderly bytes d e =
     let whole = option_and_then (λ p. json.if_last p.0 p.1) (json.value max_depth (tokens bytes)) in
     let is = and_then_some whole of_json d e in
-    json_orderly is.0 d is.2
+    subst Orderly (json_is is.0 d is.2) (data_orderly is.0)
 
 value_orderly : (bytes : List ℕ) (b : Bool) (d : Data) → is_utf8 bytes ≡ b → value_of bytes ≡ Some d → Orderly d
 value_orderly bytes true d is e = read_orderly bytes d (rw is at e)
@@ -160,6 +151,10 @@ keys_of_orderly (the.number n) all = tt
 keys_of_orderly (the.string s) all = tt
 keys_of_orderly (the.array ds) all = tt
 keys_of_orderly (the.object ms) all = all.0
+
+-- the keys of a value that was read ascend
+pub value_ascends : (j : json.Json) → KeysAscend (data_of j)
+value_ascends j = keys_of_orderly (data_of j) (data_orderly j)
 
 pub keys_ascend : (bytes place : List ℕ) (d found : Data) → json_of bytes ≡ Ok d → Leads place d found → KeysAscend found
 unfolding json_of

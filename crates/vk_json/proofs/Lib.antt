@@ -1,9 +1,12 @@
+mod OptionLemmas
 mod ItemLemmas
+mod NumberLemmas
+mod RangeLemmas
+pub mod ValueLemmas
 mod NewItemLemmas
 mod DocumentLemmas
 pub mod MovingLemmas
 mod WordLemmas
 pub mod SameLemmas
 pub mod TellingLemmas
-pub mod OrderLemmas
 pub mod DocumentKeys

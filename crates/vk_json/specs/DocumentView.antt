@@ -1,6 +1,6 @@
 -- A document as plain data.
 use Rattle.serde_json.specs.Data.{Data}
-use Rattle.serde_json.specs.View.{view}
+use Rattle.vk_json.specs.Values.{view}
 use Rattle.vk_json.specs.declared.documents.Doc.{Doc}
 
 -- what was read

@@ -6,6 +6,7 @@ pub mod Readings
 pub mod NewItems
 pub mod Words
 -- what functions, laws and examples say besides
+pub mod Values
 pub mod DocumentView
 pub mod KeyOrders
 pub mod FaultViews

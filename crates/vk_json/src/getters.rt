@@ -1,35 +1,42 @@
 //! Getters over a value. None takes memory but `keys`.
 ghost use Rattle.std.specs.Prelude.{◌≡◌, ◌<◌, ◌^◌, ◌++◌, ◌∷◌, [], map};
 ghost use Rattle.std.specs.Prelude.{option_map, option_and_then, IfOk, IfSome, OnOk};
-ghost use Rattle.vk_json.specs.KeyOrders.{NamesAscend, KeysAscend};
-ghost use Rattle.serde_json.specs.Find.{get, as_str, as_number, as_u64, as_bool};
-ghost use Rattle.serde_json.specs.View.{view};
+ghost use Rattle.std.specs.Option.{is_some};
+ghost use Rattle.vk_json.specs.KeyOrders.{KeysAscend};
+ghost use Rattle.serde_json.specs.Find.{get, as_str, as_bool, as_null, as_object};
+ghost use Rattle.vk_json.specs.Values.{view, entries_view, members_data};
+ghost use Rattle.serde_json.specs.Data.{no_members};
+ghost use Rattle.json.specs.Value.{members_view};
 ghost use Rattle.vk_json.specs.Looks.{items_of, keys_of, number_of, if_small, names_of};
-ghost use Rattle.serde_json.specs.View.{members_view};
 
-use serde_json::{Map, Value};
+use crate::numbers::whole;
+use json::Value;
 use std::alloc::Global;
+use std::collections::BTreeMap;
 use vk_base::{List, Memory, Text};
 
+/// The members of an object by their keys. Of one key the last member counts.
+pub(crate) type Members<'b, 'a> = BTreeMap<&'b str, &'b Value<'a>>;
+
 /// The member with this key; `None` exactly where the value is no object or lacks the key.
-pub fn member<'a>(value: &'a Value, key: &str) -> Option<&'a Value>
+pub fn member<'b, 'a>(value: &'b Value<'a>, key: &str) -> Option<&'b Value<'a>>
     ensures { option_map (λ w. view w.now) result ≡ get key.now (view value.now) }
 {
     value.get(key)
 }
 
 /// The items; `None` exactly where the value is no list.
-pub fn items(value: &Value) -> Option<&[Value]>
+pub fn items<'b, 'a>(value: &'b Value<'a>) -> Option<&'b [Value<'a>]>
     ensures { option_map (λ ws. map view ws.now) result ≡ items_of (view value.now) }
 {
-    match value.as_array() {
-        Some(list) => Some(list.as_slice()),
-        None => None,
+    match value {
+        Value::Array(list) => Some(list.as_slice()),
+        _ => None,
     }
 }
 
 /// The text; `None` exactly where the value is no text.
-pub fn as_text(value: &Value) -> Option<&str>
+pub fn as_text<'a>(value: &Value<'a>) -> Option<&'a str>
     ensures { option_map (λ t. t.now) result ≡ as_str (view value.now) }
 {
     value.as_str()
@@ -40,7 +47,7 @@ pub fn as_text(value: &Value) -> Option<&str>
 pub fn as_number(value: &Value) -> Option<u32>
     ensures { result ≡ number_of (view value.now) }
 {
-    small(value.as_u64()?)
+    small(whole(value.as_number()?)?)
 }
 
 fn small(number: u64) -> Option<u32>
@@ -59,13 +66,49 @@ pub fn as_bool(value: &Value) -> Option<bool>
     value.as_bool()
 }
 
+/// Whether the value is `null`.
+pub fn is_null(value: &Value) -> bool
+    ensures { result ≡ is_some (as_null (view value.now)) }
+{
+    value.is_null()
+}
+
+// The members by their keys.
+fn by_key<'b, 'a>(
+    alloc: Global,
+    object: &'b [(&'a str, Value<'a>)],
+) -> Result<Members<'b, 'a>, Memory>
+    ensures { IfOk result (λ found. entries_view found.entries
+        ≡ members_data (members_view object.now) no_members) }
+{
+    let mut found = BTreeMap::new(alloc);
+    for (key, value) in object {
+        found.insert(*key, value)?;
+    }
+    Ok(found)
+}
+
+/// The members by their keys; `None` exactly where the value is no object.
+pub(crate) fn members<'b, 'a>(
+    alloc: Global,
+    value: &'b Value<'a>,
+) -> Result<Option<Members<'b, 'a>>, Memory>
+    ensures { IfOk result (λ found. option_map (λ ms. entries_view ms.entries) found
+        ≡ as_object (view value.now)) }
+{
+    match value {
+        Value::Object(object) => Ok(Some(by_key(alloc, object.as_slice())?)),
+        _ => Ok(None),
+    }
+}
+
 /// The keys in byte order; `None` exactly where the value is no object.
 pub fn keys(alloc: Global, value: &Value) -> Result<Option<List<Text>>, Memory>
     ensures keys { IfOk result (λ found. found ≡ keys_of (view value.now)) }
     ensures order { IfOk result (λ found. KeysAscend (view value.now)) }
 {
-    match value.as_object() {
-        Some(object) => Ok(Some(names_of(alloc, object)?)),
+    match members(alloc, value)? {
+        Some(members) => Ok(Some(names_of(alloc, &members)?)),
         None => Ok(None),
     }
 }
@@ -77,13 +120,12 @@ fn push_name(alloc: Global, names: &mut List<Text>, key: &str) -> Result<(), Mem
     Ok(names.push(Text::from_str(alloc, key)?)?)
 }
 
-fn names_of(alloc: Global, object: &Map<String, Value>) -> Result<List<Text>, Memory>
-    ensures names { IfOk result (λ names. names ≡ names_of (members_view object.now.entries)) }
-    ensures order { IfOk result (λ names. NamesAscend (members_view object.now.entries)) }
+fn names_of(alloc: Global, members: &Members<'_, '_>) -> Result<List<Text>, Memory>
+    ensures { IfOk result (λ names. names ≡ names_of (entries_view members.now.entries)) }
 {
     let mut names = List::new(alloc);
-    for (key, _) in object.iter() {
-        push_name(alloc, &mut names, key.as_str())?;
+    for (key, _) in members.iter() {
+        push_name(alloc, &mut names, key)?;
     }
     Ok(names)
 }

@@ -1,7 +1,7 @@
 //! Readers of lists whose items each have a key of their own.
 ghost use Rattle.std.specs.Prelude.{◌≡◌, ◌++◌, ◌∷◌, [], List, Result, IfOk, map};
 ghost use Rattle.serde_json.specs.Data.{Data};
-ghost use Rattle.serde_json.specs.View.{view};
+ghost use Rattle.vk_json.specs.Values.{view};
 ghost use Rattle.vk_spec.specs.Reading.{Gives, read_after};
 ghost use Rattle.vk_base.specs.Stops.{fault_in};
 ghost use Rattle.vk_json.specs.declared.faults.FileFault.{FileFault};
@@ -12,7 +12,7 @@ use crate::faults::{FileFault, Why};
 use crate::getters::items;
 use crate::places::{in_item, wrong};
 use indexmap::IndexSet;
-use serde_json::Value;
+use json::Value;
 use std::alloc::Global;
 use std::hash::Hash;
 use vk_base::{List, Unread};

@@ -2,20 +2,20 @@
 //! gives: the value, or the first fault with its place.
 ghost use Rattle.std.specs.Prelude.{◌≡◌, ℕ, Bool, List, Result, IfOk, map, option_map};
 ghost use Rattle.serde_json.specs.Data.{Data};
-ghost use Rattle.serde_json.specs.View.{view, members_view};
+ghost use Rattle.vk_json.specs.Values.{view, entries_view};
 ghost use Rattle.vk_spec.specs.Reading.{Gives, read_each};
 ghost use Rattle.vk_json.specs.declared.faults.FileFault.{FileFault};
 ghost use Rattle.vk_base.specs.Stops.{fault_in};
 ghost use Rattle.vk_json.specs.Places.{inside, member_step, item_step};
-ghost use Rattle.vk_json.specs.KeyOrders.{NamesAscend, KeysAscend};
+ghost use Rattle.vk_json.specs.KeyOrders.{KeysAscend};
 ghost use Rattle.vk_json.specs.Readings.{text_at, bool_at, number_at, object_at};
 ghost use Rattle.vk_json.specs.Readings.{wanted, optional, optional_or, item_at, each_item};
 ghost use Rattle.vk_json.specs.Readings.{member_at, members_by, each_member};
 
 use crate::faults::{FileFault, Why};
-use crate::getters::{as_bool, as_number, as_text, items, member};
+use crate::getters::{Members, as_bool, as_number, as_text, items, member, members};
 use crate::places::{in_item, in_member, wrong, wrong_member};
-use serde_json::{Map, Value};
+use json::Value;
 use std::alloc::Global;
 use vk_base::{List, Text, Unread};
 
@@ -36,7 +36,7 @@ pub trait Reader {
 }
 
 /// A text.
-pub fn text(alloc: Global, value: &Value) -> Result<&str, Unread<FileFault>>
+pub fn text<'a>(alloc: Global, value: &Value<'a>) -> Result<&'a str, Unread<FileFault>>
     ensures { Gives (λ t. t.now) fault_in result (text_at (view value.now)) }
 {
     as_text(value).ok_or(wrong(alloc, Why::Text))
@@ -202,16 +202,15 @@ fn read_member<R: MemberReader>(
 
 fn read_members<R: MemberReader>(
     alloc: Global,
-    object: &Map<String, Value>,
+    members: &Members<'_, '_>,
     reader: &R,
 ) -> Result<List<R::Out>, Unread<FileFault>>
-    ensures read { Gives (map R.plain) fault_in result
-        (members_by (R.reads reader.now) (members_view object.now.entries)) }
-    ensures order { IfOk result (λ read. NamesAscend (members_view object.now.entries)) }
+    ensures { Gives (map R.plain) fault_in result
+        (members_by (R.reads reader.now) (entries_view members.now.entries)) }
 {
-    let mut read = List::from_vec(Vec::with_capacity(alloc, object.len())?);
-    for (key, value) in object.iter() {
-        let member = read_member(alloc, key.as_str(), value, reader)?;
+    let mut read = List::from_vec(Vec::with_capacity(alloc, members.len())?);
+    for (key, value) in members.iter() {
+        let member = read_member(alloc, key, value, reader)?;
         read.push(member)?;
     }
     Ok(read)
@@ -229,8 +228,8 @@ pub fn each_member<R: MemberReader>(
         (each_member (R.reads reader.now) (view value.now)) }
     ensures order { IfOk result (λ read. KeysAscend (view value.now)) }
 {
-    match value.as_object() {
-        Some(object) => read_members(alloc, object, reader),
+    match members(alloc, value)? {
+        Some(members) => read_members(alloc, &members, reader),
         None => Err(wrong(alloc, Why::Object)),
     }
 }
@@ -239,10 +238,10 @@ pub fn each_member<R: MemberReader>(
 pub fn object(alloc: Global, value: &Value) -> Result<(), Unread<FileFault>>
     ensures { Gives (λ done. tt) fault_in result (object_at (view value.now)) }
 {
-    if value.is_object() {
-        return Ok(());
+    match value {
+        Value::Object(_) => Ok(()),
+        _ => Err(wrong(alloc, Why::Object)),
     }
-    Err(wrong(alloc, Why::Object))
 }
 
 /// Reads any text.

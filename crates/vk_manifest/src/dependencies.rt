@@ -1,6 +1,6 @@
 //! What a port or a feature wants of others.
 ghost use Rattle.std.specs.Prelude.{◌≡◌, List, map};
-ghost use Rattle.serde_json.specs.View.{view};
+ghost use Rattle.vk_json.specs.Values.{view};
 ghost use Rattle.vk_spec.specs.Reading.{Gives};
 ghost use Rattle.vk_spec.specs.Manifests as plain;
 ghost use Rattle.vk_spec.specs.Conditions.{Condition};
@@ -12,12 +12,13 @@ ghost use Rattle.vk_manifest.specs.Manifests.{uses_under, plainly, dependency_of
 ghost use Rattle.vk_manifest.specs.Manifests.{dependency_with, dependency_of_object};
 ghost use Rattle.vk_manifest.specs.Manifests.{dependency_at, dependencies_in};
 
-use serde_json::Value;
 use std::alloc::Global;
 use vk_base::{List, PortName, Unread};
 use vk_expr::Expr;
 use vk_fields::{AskText, ExpressionText, FeatureNameText, PortNameText};
-use vk_json::{AnyBoolean, FileFault, ListOf, Reader, Why, optional, optional_or, wanted, wrong};
+use vk_json::{
+    AnyBoolean, FileFault, ListOf, Reader, Value, Why, optional, optional_or, wanted, wrong,
+};
 use vk_model::{Dependency, FeatureUse};
 
 /// A condition under a key; where it is missing, it always holds.

@@ -1,6 +1,6 @@
 //! The features of a port.
 ghost use Rattle.std.specs.Prelude.{◌≡◌, List, map};
-ghost use Rattle.serde_json.specs.View.{view};
+ghost use Rattle.vk_json.specs.Values.{view};
 ghost use Rattle.vk_spec.specs.Reading.{Gives};
 ghost use Rattle.vk_spec.specs.Manifests as plain;
 ghost use Rattle.vk_spec.specs.Conditions.{Condition};
@@ -9,11 +9,10 @@ ghost use Rattle.vk_model.specs.Views.{port_feature_view};
 ghost use Rattle.vk_manifest.specs.Manifests.{feature_at, features_in};
 
 use crate::dependencies::{condition, dependencies};
-use serde_json::Value;
 use std::alloc::Global;
 use vk_base::{List, Unread};
 use vk_fields::feature_name_of;
-use vk_json::{FileFault, MemberReader, ObjectOf, object, optional_or};
+use vk_json::{FileFault, MemberReader, ObjectOf, Value, object, optional_or};
 use vk_model::Feature;
 
 // Reads a feature, whose key is its name.

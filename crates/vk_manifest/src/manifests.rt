@@ -1,6 +1,6 @@
 //! A manifest whole.
 ghost use Rattle.std.specs.Prelude.{◌≡◌, ◌<◌, ◌^◌, Bool, length, map};
-ghost use Rattle.serde_json.specs.View.{view};
+ghost use Rattle.vk_json.specs.Values.{view};
 ghost use Rattle.vk_spec.specs.Reading.{Gives};
 ghost use Rattle.vk_base.specs.Stops.{fault_in};
 ghost use Rattle.vk_model.specs.Views.{manifest_view, override_view};
@@ -10,12 +10,11 @@ ghost use Rattle.vk_manifest.specs.Manifests.{blank, manifest_at, manifest_of};
 use crate::dependencies::{condition, dependencies, feature_uses};
 use crate::features::features;
 use crate::overrides::overrides;
-use serde_json::Value;
 use std::alloc::Global;
 use vk_base::{List, PortName, Unread};
 use vk_expr::Expr;
 use vk_fields::{PortNameText, version, version_needed};
-use vk_json::{Doc, FileFault, object, optional, wanted};
+use vk_json::{Doc, FileFault, Scratch, Value, object, optional, wanted};
 use vk_model::{Manifest, Override};
 use vk_version::Version;
 
@@ -114,6 +113,7 @@ pub fn read_manifest(alloc: Global, bytes: &[u8], root: bool) -> Result<Manifest
     requires { length bytes.now < 2 ^ 32 }
     ensures { Gives manifest_view fault_in result (manifest_of bytes.now root) }
 {
-    let document = Doc::read(alloc, bytes)?;
+    let mut scratch = Scratch::new(alloc);
+    let document = Doc::read(alloc, bytes, &mut scratch)?;
     read_manifest_in(alloc, document.value(), root)
 }

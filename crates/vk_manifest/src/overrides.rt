@@ -1,6 +1,6 @@
 //! The versions that a root sets.
 ghost use Rattle.std.specs.Prelude.{◌≡◌, ◌++◌, ℕ, List, [], ◌∷◌, map, IfOk, OnOk};
-ghost use Rattle.serde_json.specs.View.{view};
+ghost use Rattle.vk_json.specs.Values.{view};
 ghost use Rattle.vk_spec.specs.Reading.{Gives};
 ghost use Rattle.vk_spec.specs.Manifests as plain;
 ghost use Rattle.vk_base.specs.Stops.{fault_in};
@@ -11,12 +11,12 @@ ghost use Rattle.vk_manifest.specs.Manifests.{override_from};
 ghost use Rattle.vk_manifest.specs.Manifests.{overrides_at, overrides_in};
 
 use indexmap::IndexSet;
-use serde_json::Value;
 use std::alloc::Global;
 use vk_base::{List, PortName, Unread};
 use vk_fields::{PortNameText, key, scheme_needed, written_ask_under};
 use vk_json::{
-    FileFault, NewItemReader, Reader, Why, each_new_item, object, optional_or, wanted, wrong_member,
+    FileFault, NewItemReader, Reader, Value, Why, each_new_item, object, optional_or, wanted,
+    wrong_member,
 };
 use vk_model::Override;
 use vk_version::Ask;

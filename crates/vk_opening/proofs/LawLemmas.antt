@@ -23,8 +23,10 @@ use Rattle.vk_opening.specs.Starts.{Overlay}
 use Rattle.vk_opening.specs.Asked.{has_triplet, is_faulty, tried_paths, triplets_asked, overlay_paths, found_paths, opening_paths}
 use Rattle.vk_opening.specs.Laws.{AgreeAt, LacksTriplet, NoneHas, triplet_paths, early_paths}
 use Rattle.vk_opening.specs.Projects.{manifest_path, config_path, triplet_path, folders_of}
-use Rattle.vk_opening.specs.Roots.{Root, root_in, or_early, early_at, port_in}
-use Rattle.vk_opening.specs.Configurations.{has_configuration, config_by, config_in}
+use Rattle.vk_spec.specs.Manifests.{Manifest}
+use Rattle.vk_spec.specs.Conditions.{Condition}
+use Rattle.vk_opening.specs.Roots.{Root, OwnConfiguration, has_configuration, own_configuration, root_in, or_early, early_at, port_in}
+use Rattle.vk_opening.specs.Configurations.{config_by, config_in}
 use Rattle.vk_opening.specs.TripletFiles.{Triplets, triplet_in, triplet_file, triplet_at, triplets_at}
 use Rattle.vk_opening.specs.Overlays.{overlay_by, overlay_at, overlays_at}
 use Rattle.vk_opening.specs.Openings.{Opening, triplets_of, overlays_of, opened_of}
@@ -32,17 +34,17 @@ use Rattle.vk_opening.specs.Openings.{after_root, after_config, after_triplets, 
 
 -- two configurations
 
-given_root : (project : Project) (root : Root) (files : Files) (line : Early) → early_at root_in (manifest_path project.folder) files ≡ Ok root → config_in project.folder root.document files ≡ Err line → opened_of project files ≡ Err line
+given_root : (project : Project) (root : Root) (files : Files) (line : Early) → early_at root_in (manifest_path project.folder) files ≡ Ok root → config_in project.folder root.configuration files ≡ Err line → opened_of project files ≡ Err line
 unfolding opened_of
 given_root project root files line is refused = rw (is, refused) refl
 
-pub beside_a_file : (project : Project) (root : Root) (files : Files) → early_at root_in (manifest_path project.folder) files ≡ Ok root → has_configuration root.document ≡ true → standing_at (config_path project.folder) files ≡ readable → opened_of project files ≡ Err two_configurations
+pub beside_a_file : (project : Project) (root : Root) (document : Data) (files : Files) → early_at root_in (manifest_path project.folder) files ≡ Ok root → root.configuration ≡ own_configuration document → has_configuration document ≡ true → standing_at (config_path project.folder) files ≡ readable → opened_of project files ≡ Err two_configurations
 unfolding config_in
-beside_a_file project root files is has stands = given_root project root files two_configurations is (rw (stands, has) refl)
+beside_a_file project root document files is own has stands = given_root project root files two_configurations is (rw (own, stands, has) refl)
 
-pub under_both_keys : (project : Project) (root : Root) (files : Files) → early_at root_in (manifest_path project.folder) files ≡ Ok root → has_both root.document ≡ true → standing_at (config_path project.folder) files ≡ missing → opened_of project files ≡ Err two_configurations
+pub under_both_keys : (project : Project) (root : Root) (document : Data) (files : Files) → early_at root_in (manifest_path project.folder) files ≡ Ok root → root.configuration ≡ own_configuration document → has_both document ≡ true → standing_at (config_path project.folder) files ≡ missing → opened_of project files ≡ Err two_configurations
 unfolding config_in embedded_at
-under_both_keys project root files is has stands = given_root project root files two_configurations is (rw (stands, has) refl)
+under_both_keys project root document files is own has stands = given_root project root files two_configurations is (rw (own, stands, has) refl)
 
 long_is : (path : Path) (seen : Seen) → standing_by seen ≡ too_long → or_early (told_at path (seen_file config_of seen)) ≡ Err (bad_file path [] (codes "large"))
 long_is path absent stands = (cc)
@@ -90,16 +92,16 @@ module _ (one other : Files) where
   standing_same : (path : Path) → files_map.get other path ≡ files_map.get one path → standing_at path other ≡ standing_at path one
   standing_same path same = ap (λ o. standing_by (seen_in o)) same
 
-  by_same : (standing : Standing) (folder : Path) (document : Data) → early_at config_of (config_path folder) other ≡ early_at config_of (config_path folder) one → config_by standing folder document other ≡ config_by standing folder document one
-  by_same missing folder document same = refl
-  by_same too_long folder document same = same
-  by_same readable folder document same = ap (λ read. if has_configuration document then Err two_configurations else read) same
+  by_same : (standing : Standing) (folder : Path) (own : OwnConfiguration) → early_at config_of (config_path folder) other ≡ early_at config_of (config_path folder) one → config_by standing folder own other ≡ config_by standing folder own one
+  by_same missing folder own same = refl
+  by_same too_long folder own same = same
+  by_same readable folder own same = ap (λ read. if own.is_there then Err two_configurations else read) same
 
-  config_same : (folder : Path) (document : Data) → files_map.get other (config_path folder) ≡ files_map.get one (config_path folder) → config_in folder document other ≡ config_in folder document one
+  config_same : (folder : Path) (own : OwnConfiguration) → files_map.get other (config_path folder) ≡ files_map.get one (config_path folder) → config_in folder own other ≡ config_in folder own one
   unfolding config_in
-  config_same folder document same =
-      ap (λ standing. config_by standing folder document other) (standing_same (config_path folder) same)
-      ∙ by_same (standing_at (config_path folder) one) folder document (early_same config_of (config_path folder) same)
+  config_same folder own same =
+      ap (λ standing. config_by standing folder own other) (standing_same (config_path folder) same)
+      ∙ by_same (standing_at (config_path folder) one) folder own (early_same config_of (config_path folder) same)
 
   there_same : (path : Path) → files_map.get other path ≡ files_map.get one path → (there : Bool) → is_at one path ≡ there → is_at other path ≡ there
   there_same path same there is = is_same ∙ is
@@ -150,16 +152,16 @@ config_or config (Ok o) = o.start.config
 config_or config (Err line) = config
 
 -- the configuration of an opening is the one that was read
-config_opened : (project : Project) (root : Root) (config : Config) (triplets : Triplets) (overlays : List Overlay) (files : Files) (opening : Opening) → after_overlays project root config triplets overlays files ≡ Ok opening → opening.start.config ≡ config
+config_opened : (project : Project) (root : Manifest Condition) (config : Config) (triplets : Triplets) (overlays : List Overlay) (files : Files) (opening : Opening) → after_overlays project root config triplets overlays files ≡ Ok opening → opening.start.config ≡ config
 config_opened project root config triplets overlays files opening is = ap (λ r. config_or opening.start.config r) (sym is)
 
 pub decided : (project : Project) (opening : Opening) (one other : Files) → AgreeAt (early_paths project opening.start.config) one other → opened_of project one ≡ Ok opening → opened_of project other ≡ Ok opening
 unfolding opened_of triplets_at
 decided project opening one other agree is =
     let root = step_ok (early_at root_in (manifest_path project.folder) one) (λ root. after_root project root one) opening is in
-    let config = step_ok (config_in project.folder root.0.document one) (λ config. after_config project root.0 config one) opening root.2 in
-    let triplets = step_ok (triplets_of project config.0 one) (λ triplets. after_triplets project root.0 config.0 triplets one) opening config.2 in
-    let overlays = step_ok (overlays_of project config.0 one) (λ overlays. after_overlays project root.0 config.0 triplets.0 overlays one) opening triplets.2 in
+    let config = step_ok (config_in project.folder root.0.configuration one) (λ config. after_config project root.0.manifest config one) opening root.2 in
+    let triplets = step_ok (triplets_of project config.0 one) (λ triplets. after_triplets project root.0.manifest config.0 triplets one) opening config.2 in
+    let overlays = step_ok (overlays_of project config.0 one) (λ overlays. after_overlays project root.0.manifest config.0 triplets.0 overlays one) opening triplets.2 in
     with_config root.0 config.0 triplets.0 overlays.0 root.1 config.1 triplets.1 overlays.1 overlays.2
   where
     triplets_same : (config : Config) → AgreeAt (triplet_paths project config) one other → triplets_of project config other ≡ triplets_of project config one
@@ -169,16 +171,16 @@ decided project opening one other agree is =
         let second = agree_rest (map (triplet_path project.target) folders) (map (triplet_path project.host) folders) one other agreed in
         rw (triplet_same one other project.target folders first, triplet_same one other project.host folders second) refl
 
-    with_config : (root : Root) (config : Config) (triplets : Triplets) (overlays : List Overlay) → early_at root_in (manifest_path project.folder) one ≡ Ok root → config_in project.folder root.document one ≡ Ok config → triplets_of project config one ≡ Ok triplets → overlays_of project config one ≡ Ok overlays
-        → after_overlays project root config triplets overlays one ≡ Ok opening → opened_of project other ≡ Ok opening
+    with_config : (root : Root) (config : Config) (triplets : Triplets) (overlays : List Overlay) → early_at root_in (manifest_path project.folder) one ≡ Ok root → config_in project.folder root.configuration one ≡ Ok config → triplets_of project config one ≡ Ok triplets → overlays_of project config one ≡ Ok overlays
+        → after_overlays project root.manifest config triplets overlays one ≡ Ok opening → opened_of project other ≡ Ok opening
     with_config root config triplets overlays root_is config_is triplets_are overlays_are is_opening =
-        let config_same_as : opening.start.config ≡ config = config_opened project root config triplets overlays one opening is_opening in
+        let config_same_as : opening.start.config ≡ config = config_opened project root.manifest config triplets overlays one opening is_opening in
         let agreed : AgreeAt (early_paths project config) one other = rw config_same_as at agree in
         let ports = map manifest_path (folders_of project.folder project.overlay_ports config.overlay_ports) in
         rw (
           early_same one other root_in (manifest_path project.folder) agreed.0,
           root_is,
-          config_same one other project.folder root.document agreed.1.0,
+          config_same one other project.folder root.configuration agreed.1.0,
           config_is,
           triplets_same config (agree_front (triplet_paths project config) ports one other agreed.1.1),
           triplets_are,
@@ -225,12 +227,12 @@ pub asked_early : (project : Project) (opening : Opening) (files : Files) → op
 unfolding opened_of
 asked_early project opening files is =
     let root = step_ok (early_at root_in (manifest_path project.folder) files) (λ root. after_root project root files) opening is in
-    let config = step_ok (config_in project.folder root.0.document files) (λ config. after_config project root.0 config files) opening root.2 in
-    let triplets = step_ok (triplets_of project config.0 files) (λ triplets. after_triplets project root.0 config.0 triplets files) opening config.2 in
-    let overlays = step_ok (overlays_of project config.0 files) (λ overlays. after_overlays project root.0 config.0 triplets.0 overlays files) opening triplets.2 in
-    with_config root.0 config.0 root.1 config.1 (config_opened project root.0 config.0 triplets.0 overlays.0 files opening overlays.2)
+    let config = step_ok (config_in project.folder root.0.configuration files) (λ config. after_config project root.0.manifest config files) opening root.2 in
+    let triplets = step_ok (triplets_of project config.0 files) (λ triplets. after_triplets project root.0.manifest config.0 triplets files) opening config.2 in
+    let overlays = step_ok (overlays_of project config.0 files) (λ overlays. after_overlays project root.0.manifest config.0 triplets.0 overlays files) opening triplets.2 in
+    with_config root.0 config.0 root.1 config.1 (config_opened project root.0.manifest config.0 triplets.0 overlays.0 files opening overlays.2)
   where
-    with_config : (root : Root) (config : Config) → early_at root_in (manifest_path project.folder) files ≡ Ok root → config_in project.folder root.document files ≡ Ok config → opening.start.config ≡ config → IsWithin (opening_paths project files) (early_paths project opening.start.config)
+    with_config : (root : Root) (config : Config) → early_at root_in (manifest_path project.folder) files ≡ Ok root → config_in project.folder root.configuration files ≡ Ok config → opening.start.config ≡ config → IsWithin (opening_paths project files) (early_paths project opening.start.config)
     with_config root config root_is config_is same =
         let top = manifest_path project.folder in
         let file = config_path project.folder in

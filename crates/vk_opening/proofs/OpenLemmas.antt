@@ -33,7 +33,7 @@ use Rattle.vk_model.specs.Views.{manifest_view}
 use Rattle.vk_model.specs.SettingViews.{setting_view, instance_view}
 use Rattle.vk_rules.specs.RootSettings.{setting_of}
 use Rattle.vk_opening.specs.Opened.{Opens, ListsOwnOff}
-use Rattle.vk_opening.specs.Views.{root_view, triplets_view, overlay_view, opened_files}
+use Rattle.vk_opening.specs.Views.{triplets_view, overlay_view, opened_files}
 use Rattle.vk_model.specs.declared.settings.Setting.{Setting}
 use Rattle.vk_opening.specs.declared.starts.Start.{Start}
 use Rattle.vk_opening.specs.declared.opens.Opened.{Opened}
@@ -42,15 +42,15 @@ use Rattle.vk_base.specs.declared.stops.Outage.{Outage}
 use Rattle.vk_model.specs.declared.earlies.Early.{Early}
 use Rattle.vk_opening.specs.declared.opens.Opening.{Opening}
 use Rattle.vk_opening.specs.declared.opens.Found.{Found}
-use Rattle.vk_opening.specs.declared.roots.Root.{Root}
+use Rattle.vk_model.specs.declared.manifests.Manifest.{Manifest}
 use Rattle.vk_spec.proofs.OptionLemmas.{of_both}
 
 -- what was found is put together
-pub found_is : (project : Project) (root : Root) (config : Config) (found : Found)
-    → found.own.folder ≡ project.folder → found.own.overrides ≡ map override_view root.manifest.overrides
+pub found_is : (project : Project) (root : Manifest) (config : Config) (found : Found)
+    → found.own.folder ≡ project.folder → found.own.overrides ≡ map override_view root.overrides
     → found.own.features ≡ project.features
-    → opening_with project (root_view root) config (triplets_view found.triplets) (map overlay_view found.overlays)
-    ≡ opening_found project (root_view root) config found
+    → opening_with project (manifest_view root) config (triplets_view found.triplets) (map overlay_view found.overlays)
+    ≡ opening_found project (manifest_view root) config found
 found_is project root config found folder overrides features = rw (folder, overrides, features) refl
 
 -- a stop is the same under any view

@@ -1,5 +1,5 @@
 -- The place of the first override for a port: one more, and what stands there.
-use Rattle.std.proofs.Common.{◌≡◌, ◌+◌, ◌<◌, ◌≤◌, ℕ, Bool, true, false, not, cond, List, [], ◌∷◌, ◌++◌, length, take, get_or, map, refl, ap, sym, subst, ◌∙◌, arith}
+use Rattle.std.proofs.Common.{◌≡◌, ◌+◌, ◌<◌, ◌≤◌, ℕ, Bool, true, false, not, cond, List, [], ◌∷◌, ◌++◌, length, take, get_or, map, refl, ap, sym, ◌∙◌, arith}
 use Rattle.std.specs.Prelude.{Option, Some, None, unwrap_or, option_map, slice_get, bytes_eq, nat_lt, nat_eq}
 use Rattle.std.specs.List.{find, position, position_or_len}
 use Rattle.std.specs.Map.{lookup}
@@ -10,7 +10,6 @@ use Rattle.std.proofs.lemmas.Option.{slice_get-map, slice_get_past}
 use Rattle.std.proofs.lemmas.Bool.Decides.{nat_tests}
 use Rattle.std.proofs.lemmas.Slice.Eq.{bytes_eq-Decides}
 use Rattle.vk_spec.specs.Manifests.{Override}
-use Rattle.vk_spec.specs.Versions.{Ask}
 use Rattle.vk_version.specs.AskViews.{ask_view}
 use Rattle.vk_model.specs.Views.{override_view}
 use Rattle.vk_model.specs.declared.manifests.Override as declared

@@ -47,7 +47,7 @@ found_paths project config files = triplets_asked project config files ++ paths_
 
 -- after the root manifest: the configuration file, and then those, where the configuration reads
 abbrev pub rest_paths : Project → Root → Files → List Path
-rest_paths project root files = config_path project.folder ∷ paths_after (config_in project.folder root.document files) (λ config. found_paths project config files)
+rest_paths project root files = config_path project.folder ∷ paths_after (config_in project.folder root.configuration files) (λ config. found_paths project config files)
 
 -- all: the root manifest, and then those, where the root manifest reads
 abbrev pub opening_paths : Project → Files → List Path

@@ -10,7 +10,8 @@ use Rattle.vk_base.specs.FeatureViews.{feature_view}
 use Rattle.vk_config.specs.Configs.{Config}
 use Rattle.vk_triplet.specs.Meanings.{meaning_of}
 use Rattle.vk_model.specs.declared.projects.Project.{Project}
-use Rattle.vk_opening.specs.Roots.{Root}
+use Rattle.vk_spec.specs.Manifests.{Manifest}
+use Rattle.vk_spec.specs.Conditions.{Condition}
 use Rattle.vk_opening.specs.Openings as plain
 use Rattle.vk_opening.specs.Opened.{ListsOwnOff}
 use Rattle.vk_opening.specs.Views.{overlay_view}
@@ -18,7 +19,6 @@ use Rattle.vk_base.specs.declared.instances.Instance.{Instance}
 use Rattle.vk_base.specs.declared.memory.Memory.{Memory}
 use Rattle.vk_model.specs.declared.earlies.Early.{Early}
 use Rattle.vk_opening.specs.declared.opens.Found.{Found}
-use Rattle.vk_opening.specs.declared.opens.Rest.{Rest}
 use Rattle.vk_opening.specs.declared.opens.Opening.{Opening}
 use Rattle.vk_opening.specs.declared.opens.Opened.{Opened}
 use Rattle.vk_opening.specs.declared.opens.Opened.TheVariants as opened
@@ -29,10 +29,10 @@ abbrev pub opening_view : Opening → plain.Opening
 opening_view o = record { setting = with_off (setting_view o.setting); start = record { folder = o.folder; config = config_view o.config; overlays = map overlay_view o.overlays; overrides = o.overrides } }
 
 -- the opening that is made of what was found, beside a root and a configuration
-abbrev pub opening_found : Project → Root → Config → Found → plain.Opening
+abbrev pub opening_found : Project → Manifest Condition → Config → Found → plain.Opening
 opening_found project root config found = record {
   setting = λ off. record {
-    root = root.manifest;
+    root = root;
     target = meaning_of found.triplets.target;
     host = meaning_of found.triplets.host;
     features = map feature_view found.own.features;
@@ -47,10 +47,6 @@ opening_found project root config found = record {
     overrides = found.own.overrides;
   };
 }
-
--- and of all that was read after the root
-abbrev pub opening_rest : Project → Root → Rest → plain.Opening
-opening_rest project root rest = opening_found project root (config_view rest.config) rest.found
 
 -- with what is off in it, and the files that were read
 abbrev pub ready : Opening → List Instance → FileCache → Opened

@@ -36,29 +36,29 @@ setting_with project root triplets off = record { root = root; target = meaning_
 abbrev pub start_with : Project → Manifest Condition → Config → List Overlay → Start
 start_with project root config overlays = record { folder = project.folder; config = config; overlays = overlays; overrides = root.overrides }
 
-abbrev pub opening_with : Project → Root → Config → Triplets → List Overlay → Opening
-opening_with project root config triplets overlays = record { setting = setting_with project root.manifest triplets; start = start_with project root.manifest config overlays }
+abbrev pub opening_with : Project → Manifest Condition → Config → Triplets → List Overlay → Opening
+opening_with project root config triplets overlays = record { setting = setting_with project root triplets; start = start_with project root config overlays }
 
 unfoldable pub opened_of : Project → Files → Result Opening Early
 opened_of project files = do
   root ← early_at root_in (manifest_path project.folder) files
-  config ← config_in project.folder root.document files
+  config ← config_in project.folder root.configuration files
   triplets ← triplets_of project config files
   overlays ← overlays_of project config files
-  Ok (opening_with project root config triplets overlays)
+  Ok (opening_with project root.manifest config triplets overlays)
 
 -- what is read after each step
-abbrev pub after_overlays : Project → Root → Config → Triplets → List Overlay → Files → Result Opening Early
+abbrev pub after_overlays : Project → Manifest Condition → Config → Triplets → List Overlay → Files → Result Opening Early
 after_overlays project root config triplets overlays files = Ok (opening_with project root config triplets overlays)
 
-abbrev pub after_triplets : Project → Root → Config → Triplets → Files → Result Opening Early
+abbrev pub after_triplets : Project → Manifest Condition → Config → Triplets → Files → Result Opening Early
 after_triplets project root config triplets files =
     overlays_of project config files >>= λ overlays. after_overlays project root config triplets overlays files
 
-abbrev pub after_config : Project → Root → Config → Files → Result Opening Early
+abbrev pub after_config : Project → Manifest Condition → Config → Files → Result Opening Early
 after_config project root config files =
     triplets_of project config files >>= λ triplets. after_triplets project root config triplets files
 
 abbrev pub after_root : Project → Root → Files → Result Opening Early
 after_root project root files =
-    config_in project.folder root.document files >>= λ config. after_config project root config files
+    config_in project.folder root.configuration files >>= λ config. after_config project root.manifest config files

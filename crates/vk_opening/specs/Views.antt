@@ -1,10 +1,12 @@
 -- What contracts see of a start and of a setting: plain data.
-use Rattle.std.specs.Prelude.{map}
-use Rattle.vk_json.specs.DocumentView.{doc_data}
+use Rattle.std.specs.Prelude.{map, Result, Ok, Err}
+use Rattle.vk_json.specs.declared.faults.FileFault.{FileFault}
 use Rattle.vk_model.specs.Views.{manifest_view}
 use Rattle.vk_model.specs.SettingViews.{setting_view}
 use Rattle.vk_resolution.specs.RootLaws.{with_off}
-use Rattle.vk_config.specs.Views.{config_view}
+use Rattle.vk_config.specs.Configs as plain_config
+use Rattle.vk_config.specs.Views.{config_view, embedded_view}
+use Rattle.vk_config.specs.declared.configs.Embedded.{Embedded}
 use Rattle.vk_files.specs.Kept.{Kept}
 use Rattle.vk_files.specs.Views.{kept_of}
 use Rattle.vk_opening.specs.Starts as plain
@@ -15,6 +17,7 @@ use Rattle.vk_opening.specs.declared.starts.Overlay.{Overlay}
 use Rattle.vk_opening.specs.declared.starts.Overlay.TheVariants as overlay
 use Rattle.vk_opening.specs.declared.starts.Start.{Start}
 use Rattle.vk_model.specs.declared.settings.Setting.{Setting}
+use Rattle.vk_opening.specs.declared.roots.OwnConfiguration.{OwnConfiguration}
 use Rattle.vk_opening.specs.declared.roots.Root.{Root}
 use Rattle.vk_opening.specs.declared.triplet_files.Triplets.{Triplets}
 
@@ -25,8 +28,15 @@ overlay_view (overlay.Ports folder) = plain.has_ports folder
 abbrev pub start_view : Start → plain.Start
 start_view s = record { folder = s.folder; config = config_view s.config; overlays = map overlay_view s.overlays; overrides = s.overrides }
 
+abbrev pub embedded_seen : Result Embedded FileFault → Result plain_config.Embedded FileFault
+embedded_seen (Ok embedded) = Ok (embedded_view embedded)
+embedded_seen (Err fault) = Err fault
+
+abbrev pub configuration_view : OwnConfiguration → plain_root.OwnConfiguration
+configuration_view c = record { is_there = c.is_there; embedded = embedded_seen c.embedded }
+
 abbrev pub root_view : Root → plain_root.Root
-root_view r = record { manifest = manifest_view r.manifest; document = doc_data r.document }
+root_view r = record { manifest = manifest_view r.manifest; configuration = configuration_view r.configuration }
 
 abbrev pub triplets_view : Triplets → plain_triplets.Triplets
 triplets_view t = record { target = t.target; host = t.host }

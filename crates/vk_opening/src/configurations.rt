@@ -1,10 +1,8 @@
 //! The configuration of a project.
 ghost use Rattle.std.specs.Prelude.{◌≡◌, ◌∷◌, [], false};
-ghost use Rattle.serde_json.specs.View.{view};
 ghost use Rattle.vk_spec.specs.Reading.{Gives};
 ghost use Rattle.vk_config.specs.Configs as plain;
 ghost use Rattle.vk_config.specs.Readings.{config_of};
-ghost use Rattle.vk_config.specs.Embedding.{embedded_at};
 ghost use Rattle.vk_config.specs.Views.{config_view, embedded_view};
 ghost use Rattle.vk_files.specs.Views.{held, kept_of};
 ghost use Rattle.vk_files.specs.Within.{LooksWithin};
@@ -15,17 +13,18 @@ ghost use Rattle.vk_files.specs.Readings.{ReadsAs, told_at};
 ghost use Rattle.vk_model.specs.EarlyViews.{early_view};
 ghost use Rattle.vk_opening.specs.Projects.{manifest_path, config_path};
 ghost use Rattle.vk_opening.specs.Roots.{or_early, early_at};
-ghost use Rattle.vk_opening.specs.Configurations.{has_configuration, only_of, embedded_in};
+ghost use Rattle.vk_opening.specs.Configurations.{only_of, embedded_in};
+ghost use Rattle.vk_opening.specs.Views.{configuration_view, embedded_seen};
 ghost use Rattle.vk_opening.specs.Configurations.{alone_in, config_by, config_in};
 
 use crate::projects::{config_path, manifest_path};
 use crate::readings::{bad_file, read_early, standing};
-use serde_json::Value;
+use crate::roots::OwnConfiguration;
 use std::alloc::Global;
 use vk_base::{Stop, TreePath, Unread};
 use vk_config::{Config, Embedded, read_config};
 use vk_files::{FileCache, FileReader, Standing};
-use vk_json::{FileFault, member};
+use vk_json::{FileFault, Scratch};
 use vk_model::Early;
 use vk_tree::Tree;
 
@@ -42,15 +41,14 @@ impl FileReader for ConfigFile {
 
     ghost reads = { λ r. config_of };
 
-    fn read(&self, alloc: Global, bytes: &[u8]) -> Result<Config, Unread<FileFault>> {
+    fn read(
+        &self,
+        alloc: Global,
+        bytes: &[u8],
+        _scratch: &mut Scratch,
+    ) -> Result<Config, Unread<FileFault>> {
         read_config(alloc, bytes)
     }
-}
-
-fn has_configuration(document: &Value) -> bool
-    ensures { result ≡ has_configuration (view document.now) }
-{
-    member(document, "vcpkg-configuration").is_some() || member(document, "configuration").is_some()
 }
 
 // The configuration that counts, by what the root manifest has of it.
@@ -67,29 +65,33 @@ fn only_of(alloc: Global, embedded: Embedded) -> Result<Config, Stop<Early>>
 }
 
 // What the root manifest has of a configuration, its faults told at its file.
-fn read_embedded(
+fn embedded_of(
     alloc: Global,
     folder: &TreePath,
-    document: &Value,
+    embedded: Result<Embedded, FileFault>,
 ) -> Result<Embedded, Stop<Early>>
     ensures given { Gives embedded_view (fault_seen early_view) result
-        (or_early (told_at (manifest_path folder.now) (embedded_at (view document.now)))) }
+        (or_early (told_at (manifest_path folder.now) (embedded_seen embedded))) }
     ensures calm { has_failed result ≡ false }
 {
     let path = manifest_path(alloc, folder)?;
-    match vk_config::embedded_in(alloc, document) {
+    match embedded {
         Ok(embedded) => Ok(embedded),
-        Err(unread) => Err(bad_file(path, unread)),
+        Err(fault) => Err(bad_file(path, Unread::Fault(fault))),
     }
 }
 
 // The configuration in the root manifest.
-fn embedded_in(alloc: Global, folder: &TreePath, document: &Value) -> Result<Config, Stop<Early>>
+fn embedded_in(
+    alloc: Global,
+    folder: &TreePath,
+    own: OwnConfiguration,
+) -> Result<Config, Stop<Early>>
     ensures given { Gives config_view (fault_seen early_view) result
-        (embedded_in folder.now (view document.now)) }
+        (embedded_in folder.now (configuration_view own)) }
     ensures calm { has_failed result ≡ false }
 {
-    only_of(alloc, read_embedded(alloc, folder, document)?)
+    only_of(alloc, embedded_of(alloc, folder, own.embedded)?)
 }
 
 // The configuration file's configuration.
@@ -115,14 +117,15 @@ fn alone_in<T: Tree>(
     files: &mut FileCache,
     tree: &mut T,
     folder: &TreePath,
-    document: &Value,
+    own: &OwnConfiguration,
 ) -> Result<Config, Stop<Early>>
-    ensures reads { ReadsAs early_view config_view result (alone_in folder.now (view document.now))
+    ensures reads { ReadsAs early_view config_view result
+        (alone_in folder.now (configuration_view own.now))
         (held files.old (T.state tree.old)) (held files.new (T.state tree.new)) }
     ensures within { LooksWithin (config_path folder.now ∷ [])
         (kept_of files.old) (kept_of files.new) }
 {
-    if has_configuration(document) {
+    if own.is_there {
         return Err(Stop::Fault(Early::TwoConfigurations));
     }
     config_file(alloc, files, tree, folder)
@@ -135,35 +138,36 @@ fn config_by<T: Tree>(
     tree: &mut T,
     standing: Standing,
     folder: &TreePath,
-    document: &Value,
+    own: OwnConfiguration,
 ) -> Result<Config, Stop<Early>>
     ensures reads { ReadsAs early_view config_view result
-        (config_by (standing_view standing) folder.now (view document.now))
+        (config_by (standing_view standing) folder.now (configuration_view own))
         (held files.old (T.state tree.old)) (held files.new (T.state tree.new)) }
     ensures within { LooksWithin (config_path folder.now ∷ [])
         (kept_of files.old) (kept_of files.new) }
 {
     match standing {
-        Standing::Missing => embedded_in(alloc, folder, document),
+        Standing::Missing => embedded_in(alloc, folder, own),
         Standing::TooLong => config_file(alloc, files, tree, folder),
-        Standing::Readable => alone_in(alloc, files, tree, folder, document),
+        Standing::Readable => alone_in(alloc, files, tree, folder, &own),
     }
 }
 
-/// The configuration of the project in a folder, whose root manifest is this document.
+/// The configuration of the project in a folder, by what its root manifest has of one.
 pub fn read_configuration<T: Tree>(
     alloc: Global,
     files: &mut FileCache,
     tree: &mut T,
     folder: &TreePath,
-    document: &Value,
+    own: OwnConfiguration,
 ) -> Result<Config, Stop<Early>>
-    ensures reads { ReadsAs early_view config_view result (config_in folder.now (view document.now))
+    ensures reads { ReadsAs early_view config_view result
+        (config_in folder.now (configuration_view own))
         (held files.old (T.state tree.old)) (held files.new (T.state tree.new)) }
     ensures within { LooksWithin (config_path folder.now ∷ [])
         (kept_of files.old) (kept_of files.new) }
 {
     let path = config_path(alloc, folder)?;
     let standing = standing(files, tree, &path)?;
-    config_by(alloc, files, tree, standing, folder, document)
+    config_by(alloc, files, tree, standing, folder, own)
 }

@@ -6,26 +6,29 @@ ghost use Rattle.vk_spec.specs.Paths.{Path};
 ghost use Rattle.vk_config.specs.Embedding.{has_both};
 ghost use Rattle.vk_files.specs.Readings.{missing, too_long, readable, standing_at, is_at};
 ghost use Rattle.vk_model.specs.declared.projects.Project.{Project};
-ghost use Rattle.vk_opening.specs.Configurations.{has_configuration};
 ghost use Rattle.vk_spec.specs.Earlies.{bad_file, two_configurations, no_triplet};
 ghost use Rattle.vk_opening.specs.Asked.{opening_paths};
 ghost use Rattle.vk_opening.specs.Laws.{AgreeAt, NoneHas, early_paths};
 ghost use Rattle.vk_opening.specs.Openings.{Opening, opened_of};
 ghost use Rattle.vk_opening.specs.Projects.{manifest_path, config_path, triplet_path};
 ghost use Rattle.vk_opening.specs.Roots.{Root, root_in, early_at};
+ghost use Rattle.vk_opening.specs.Roots.{has_configuration, own_configuration};
+ghost use Rattle.serde_json.specs.Data.{Data};
 ghost use Rattle.vk_opening.specs.TripletFiles.{triplet_in, triplet_at};
 
 /// Where a root manifest reads, two configurations are refused whatever they hold: one in it beside
 /// a file, or two in it. A configuration file that is too long is told before that.
 pub fn two_places()
-    ensures beside { (project : Project) (root : Root) (files : Files) → early_at root_in
-        (manifest_path project.folder) files ≡ Ok root → has_configuration root.document ≡ true →
-        standing_at (config_path project.folder) files ≡ readable → opened_of project files ≡ Err
-        two_configurations }
-    ensures within { (project : Project) (root : Root) (files : Files) → early_at root_in
-        (manifest_path project.folder) files ≡ Ok root → has_both root.document ≡ true → standing_at
-        (config_path project.folder) files ≡ missing → opened_of project files ≡ Err
-        two_configurations }
+    ensures beside { (project : Project) (root : Root) (document : Data) (files : Files) →
+        early_at root_in (manifest_path project.folder) files ≡ Ok root →
+        root.configuration ≡ own_configuration document → has_configuration document ≡ true →
+        standing_at (config_path project.folder) files ≡ readable →
+        opened_of project files ≡ Err two_configurations }
+    ensures within { (project : Project) (root : Root) (document : Data) (files : Files) →
+        early_at root_in (manifest_path project.folder) files ≡ Ok root →
+        root.configuration ≡ own_configuration document → has_both document ≡ true →
+        standing_at (config_path project.folder) files ≡ missing →
+        opened_of project files ≡ Err two_configurations }
     ensures long { (project : Project) (root : Root) (files : Files) → early_at root_in
         (manifest_path project.folder) files ≡ Ok root → standing_at (config_path project.folder)
         files ≡ too_long → opened_of project files ≡ Err

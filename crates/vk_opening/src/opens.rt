@@ -8,13 +8,14 @@ ghost use Rattle.vk_model.specs.EarlyViews.{early_view};
 ghost use Rattle.vk_opening.specs.Projects.{manifest_path};
 ghost use Rattle.vk_opening.specs.Roots.{root_in, early_at};
 ghost use Rattle.vk_opening.specs.Openings.{opened_of, triplets_of, overlays_of};
+ghost use Rattle.vk_model.specs.Views.{manifest_view};
 ghost use Rattle.vk_opening.specs.Openings.{after_root, after_config};
 ghost use Rattle.vk_opening.specs.Asked.{triplets_asked, overlays_asked};
 ghost use Rattle.vk_model.specs.Views.{override_view};
 ghost use Rattle.vk_opening.specs.Asked.{found_paths, rest_paths, opening_paths};
 ghost use Rattle.vk_opening.specs.Opened.{Opens};
 ghost use Rattle.vk_opening.specs.Views.{root_view, triplets_view, overlay_view};
-ghost use Rattle.vk_opening.specs.OpeningViews.{opening_found, opening_rest};
+ghost use Rattle.vk_opening.specs.OpeningViews.{opening_found};
 ghost use Rattle.vk_opening.specs.OpeningViews.{opening_view, ready, ready_or_none};
 ghost use Rattle.vk_opening.specs.OpeningViews.{AreOffIn, answer_of};
 ghost use Rattle.vk_opening.specs.Opened.{ListsOwnOff};
@@ -33,7 +34,7 @@ use std::alloc::Global;
 use vk_base::{FeatureName, Instance, List, Memory, Outage, Stop, TreePath};
 use vk_config::Config;
 use vk_files::FileCache;
-use vk_model::{Early, Project, Setting};
+use vk_model::{Early, Manifest, Project, Setting};
 use vk_rules::off_list;
 use vk_tree::Tree;
 
@@ -70,13 +71,6 @@ struct Found {
     own: Own,
     triplets: Triplets,
     overlays: List<Overlay>,
-}
-
-// The same, with the configuration: all that is read after the root manifest.
-#[derive(Drop)]
-struct Rest {
-    config: Config,
-    found: Found,
 }
 
 fn read_root<T: Tree>(
@@ -146,15 +140,15 @@ fn overlays_of<T: Tree>(
 }
 
 // What the setting and the start take from words and root manifest.
-fn own_of(alloc: Global, project: &Project, root: &Root) -> Result<Own, Memory>
+fn own_of(alloc: Global, project: &Project, root: &Manifest) -> Result<Own, Memory>
     ensures folder { IfOk result (λ o. o.folder ≡ project.now.folder) }
     ensures overrides { IfOk result
-        (λ o. o.overrides ≡ map override_view root.now.manifest.overrides) }
+        (λ o. o.overrides ≡ map override_view root.now.overrides) }
     ensures features { IfOk result (λ o. o.features ≡ project.now.features) }
 {
     Ok(Own {
         folder: project.folder.clone()?,
-        overrides: Overrides::of(alloc, &root.manifest.overrides)?,
+        overrides: Overrides::of(alloc, &root.overrides)?,
         features: project.features.clone()?,
     })
 }
@@ -165,12 +159,12 @@ fn read_found<T: Tree>(
     files: &mut FileCache,
     tree: &mut T,
     project: &Project,
-    root: &Root,
+    root: &Manifest,
     config: &Config,
 ) -> Result<Found, Stop<Early>>
     ensures reads { ReadsAs early_view
-        (opening_found project.now (root_view root.now) (config_view config.now)) result
-        (after_config project.now (root_view root.now) (config_view config.now))
+        (opening_found project.now (manifest_view root.now) (config_view config.now)) result
+        (after_config project.now (manifest_view root.now) (config_view config.now))
         (held files.old (T.state tree.old)) (held files.new (T.state tree.new)) }
     ensures within { LooksWhere (found_paths project.now (config_view config.now))
         (held files.old (T.state tree.old)) (held files.new (T.state tree.new)) }
@@ -185,42 +179,29 @@ fn read_found<T: Tree>(
     })
 }
 
-// The configuration, the triplets and the overlays.
-fn read_rest<T: Tree>(
-    alloc: Global,
-    files: &mut FileCache,
-    tree: &mut T,
-    project: &Project,
-    root: &Root,
-) -> Result<Rest, Stop<Early>>
-    ensures reads { ReadsAs early_view (opening_rest project.now (root_view root.now)) result
-        (after_root project.now (root_view root.now))
-        (held files.old (T.state tree.old)) (held files.new (T.state tree.new)) }
-    ensures within { LooksWhere (rest_paths project.now (root_view root.now))
-        (held files.old (T.state tree.old)) (held files.new (T.state tree.new)) }
-{
-    let document = root.document.value();
-    let config = read_configuration(alloc, files, tree, &project.folder, document)?;
-    let found = read_found(alloc, files, tree, project, root, &config)?;
-    Ok(Rest { config, found })
-}
-
 // All that was read, put together.
-fn put_together(alloc: Global, project: &Project, root: Root, rest: Rest) -> Opening
-    ensures { opening_view result ≡ opening_rest project.now (root_view root) rest }
+fn put_together(
+    alloc: Global,
+    project: &Project,
+    root: Manifest,
+    config: Config,
+    found: Found,
+) -> Opening
+    ensures { opening_view result
+        ≡ opening_found project.now (manifest_view root) (config_view config) found }
 {
     let Found {
         own,
         triplets,
         overlays,
-    } = rest.found;
+    } = found;
     Opening {
         folder: own.folder,
-        config: rest.config,
+        config,
         overlays,
         overrides: own.overrides,
         setting: Setting {
-            root: root.manifest,
+            root,
             target: triplets.target,
             host: triplets.host,
             features: own.features,
@@ -229,6 +210,29 @@ fn put_together(alloc: Global, project: &Project, root: Root, rest: Rest) -> Ope
             max_facts: project.max_facts,
         },
     }
+}
+
+// The configuration, the triplets and the overlays, and all put together.
+fn read_rest<T: Tree>(
+    alloc: Global,
+    files: &mut FileCache,
+    tree: &mut T,
+    project: &Project,
+    root: Root,
+) -> Result<Opening, Stop<Early>>
+    ensures reads { ReadsAs early_view opening_view result
+        (after_root project.now (root_view root))
+        (held files.old (T.state tree.old)) (held files.new (T.state tree.new)) }
+    ensures within { LooksWhere (rest_paths project.now (root_view root))
+        (held files.old (T.state tree.old)) (held files.new (T.state tree.new)) }
+{
+    let Root {
+        manifest,
+        configuration,
+    } = root;
+    let config = read_configuration(alloc, files, tree, &project.folder, configuration)?;
+    let found = read_found(alloc, files, tree, project, &manifest, &config)?;
+    Ok(put_together(alloc, project, manifest, config, found))
 }
 
 fn read_opening<T: Tree>(
@@ -243,8 +247,7 @@ fn read_opening<T: Tree>(
         (held files.old (T.state tree.old)) (held files.new (T.state tree.new)) }
 {
     let root = read_root(alloc, files, tree, &project.folder)?;
-    let rest = read_rest(alloc, files, tree, project, &root)?;
-    Ok(put_together(alloc, project, root, rest))
+    read_rest(alloc, files, tree, project, root)
 }
 
 fn ready(opening: Opening, off: List<Instance>, files: FileCache) -> Opened

@@ -23,7 +23,7 @@ use crate::readings::{read_early, standing};
 use std::alloc::Global;
 use vk_base::{Stop, TreePath, TripletName, Unread};
 use vk_files::{FileCache, FileReader};
-use vk_json::{FileFault, Why, wrong};
+use vk_json::{FileFault, Scratch, Why, wrong};
 use vk_model::Early;
 use vk_tree::Tree;
 use vk_triplet::{Triplet, TripletFault};
@@ -53,7 +53,12 @@ impl FileReader for TripletFile<'_> {
 
     ghost reads = { λ r. triplet_in r.0.now };
 
-    fn read(&self, alloc: Global, bytes: &[u8]) -> Result<Triplet, Unread<FileFault>> {
+    fn read(
+        &self,
+        alloc: Global,
+        bytes: &[u8],
+        _scratch: &mut Scratch,
+    ) -> Result<Triplet, Unread<FileFault>> {
         match vk_triplet::read(alloc, self.0, bytes) {
             Ok(triplet) => Ok(triplet),
             Err(unread) => Err(wrong_triplet(alloc, unread)),

@@ -107,13 +107,13 @@ overlays_have folders files = each_has files 0 folders
 opened_has : (project : Project) (files : Files) → IfOk (opened_of project files) IsOpened
 unfolding opened_of
 opened_has project files =
-    let made = λ (root : Root) (config : Config) (triplets : Triplets). overlays_of project config files >>= λ overlays. Ok (opening_with project root config triplets overlays) in
+    let made = λ (root : Root) (config : Config) (triplets : Triplets). overlays_of project config files >>= λ overlays. Ok (opening_with project root.manifest config triplets overlays) in
     let configured = λ (root : Root) (config : Config). triplets_of project config files >>= made root config in
-    let rooted = λ (root : Root). config_in project.folder root.document files >>= configured root in
+    let rooted = λ (root : Root). config_in project.folder root.configuration files >>= configured root in
     each_then IsOpened (early_at root_in (manifest_path project.folder) files) rooted
-    (λ root. each_then IsOpened (config_in project.folder root.document files) (configured root)
+    (λ root. each_then IsOpened (config_in project.folder root.configuration files) (configured root)
     (λ config. each_then IsOpened (triplets_of project config files) (made root config)
-    (λ triplets. ok_then EachHasVersion IsOpened (overlays_of project config files) (λ overlays. Ok (opening_with project root config triplets overlays))
+    (λ triplets. ok_then EachHasVersion IsOpened (overlays_of project config files) (λ overlays. Ok (opening_with project root.manifest config triplets overlays))
     (overlays_have (folders_of project.folder project.overlay_ports config.overlay_ports) files) (λ overlays each. record { ports = each; sets = refl }))))
 
 opened_is : (project : Project) (files : Files) (opening : Opening) → opened_of project files ≡ Ok opening → IsOpened opening

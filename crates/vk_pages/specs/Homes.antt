@@ -5,7 +5,7 @@ use Rattle.vk_spec.specs.Paths.{Path}
 use Rattle.vk_spec.specs.Files.{Files}
 use Rattle.vk_spec.specs.Reading.{◌>>=◌, or_fault}
 use Rattle.vk_spec.specs.Versions.{Version, Ask}
-use Rattle.vk_spec.specs.Manifests.{Manifest, Override}
+use Rattle.vk_spec.specs.Manifests.{Manifest}
 use Rattle.vk_spec.specs.Pages.{Wrong, no_registry, no_baseline, Given, override, baseline}
 use Rattle.vk_base.specs.Paths.{joined}
 use Rattle.vk_spec.specs.Conditions.{Condition}

@@ -16,8 +16,8 @@ use std::alloc::Global;
 use vk_base::{Stop, Text, TreePath, Unread};
 use vk_catalogue::Wrong;
 use vk_files::{BadFile, FileCache, FileReader, file_standing, read_file};
-use vk_json::FileFault;
-use vk_registry::{Baseline, Table, read_baseline, read_table};
+use vk_json::{Doc, FileFault, Scratch};
+use vk_registry::{Baseline, Table, baseline_in, table_in};
 use vk_tree::Tree;
 
 /// Reads the baseline of this name in a baseline file.
@@ -36,8 +36,14 @@ impl<'a> FileReader for NamedBaseline<'a> {
 
     ghost reads = { λ r. baseline_by r.name.now };
 
-    fn read(&self, alloc: Global, bytes: &[u8]) -> Result<Baseline, Unread<FileFault>> {
-        read_baseline(alloc, bytes, self.name.as_str())
+    fn read(
+        &self,
+        alloc: Global,
+        bytes: &[u8],
+        scratch: &mut Scratch,
+    ) -> Result<Baseline, Unread<FileFault>> {
+        let document = Doc::read(alloc, bytes, scratch)?;
+        baseline_in(alloc, document.value(), self.name.as_str())
     }
 }
 
@@ -54,8 +60,14 @@ impl FileReader for PortTable {
 
     ghost reads = { λ r. table_of };
 
-    fn read(&self, alloc: Global, bytes: &[u8]) -> Result<Table, Unread<FileFault>> {
-        read_table(alloc, bytes)
+    fn read(
+        &self,
+        alloc: Global,
+        bytes: &[u8],
+        scratch: &mut Scratch,
+    ) -> Result<Table, Unread<FileFault>> {
+        let document = Doc::read(alloc, bytes, scratch)?;
+        table_in(alloc, document.value())
     }
 }
 

@@ -1,8 +1,7 @@
 //! JSON documents, what stands in them, and the words of faults.
 
 use crate::shows::{tell_reads, tell_value};
-use serde_json::Value;
-use vk_json::{Doc, Why, as_bool, as_number, as_text, items, keys, member};
+use vk_json::{Doc, Scratch, Value, Why, as_bool, as_number, as_text, items, keys, member};
 use vk_row_text::{Reply, cut};
 
 /// What is asked of documents.
@@ -17,13 +16,18 @@ pub enum Question {
 
 fn reads(rest: &str, reply: &mut Reply) {
     let bytes = reply.bytes(rest);
-    tell_reads(Doc::read(reply.alloc(), bytes.as_slice()), reply);
+    let mut scratch = Scratch::new(reply.alloc());
+    let read = Doc::read(reply.alloc(), bytes.as_slice(), &mut scratch);
+    tell_reads(read, reply);
 }
 
 /// The document of a row that has to have it.
-pub fn document_of(rest: &str, reply: &mut Reply) -> Option<Doc> {
-    let bytes = reply.bytes(rest);
-    let read = Doc::read(reply.alloc(), bytes.as_slice());
+pub fn document_of<'a>(
+    bytes: &'a [u8],
+    scratch: &'a mut Scratch,
+    reply: &mut Reply,
+) -> Option<Doc<'a>> {
+    let read = Doc::read(reply.alloc(), bytes, scratch);
     reply.needed(read)
 }
 
@@ -73,12 +77,14 @@ fn push_found(value: Option<&Value>, reply: &mut Reply) {
 
 fn tell_member(rest: &str, reply: &mut Reply) {
     let (key, rest) = cut(rest);
-    if let Some(document) = document_of(rest, reply) {
+    let bytes = reply.bytes(rest);
+    let mut scratch = Scratch::new(reply.alloc());
+    if let Some(document) = document_of(bytes.as_slice(), &mut scratch, reply) {
         push_found(member(document.value(), key), reply);
     }
 }
 
-fn item<'a>(value: &'a Value, key: &str, place: usize) -> Option<&'a Value> {
+fn item<'b, 'a>(value: &'b Value<'a>, key: &str, place: usize) -> Option<&'b Value<'a>> {
     items(member(value, key)?)?.get(place)
 }
 
@@ -86,7 +92,9 @@ fn tell_item(rest: &str, reply: &mut Reply) {
     let (key, rest) = cut(rest);
     let (place, rest) = cut(rest);
     let place = reply.number(place);
-    if let Some(document) = document_of(rest, reply) {
+    let bytes = reply.bytes(rest);
+    let mut scratch = Scratch::new(reply.alloc());
+    if let Some(document) = document_of(bytes.as_slice(), &mut scratch, reply) {
         push_found(item(document.value(), key, place), reply);
     }
 }
@@ -100,7 +108,9 @@ fn push_keys(value: &Value, reply: &mut Reply) {
 }
 
 fn tell_keys(rest: &str, reply: &mut Reply) {
-    if let Some(document) = document_of(rest, reply) {
+    let bytes = reply.bytes(rest);
+    let mut scratch = Scratch::new(reply.alloc());
+    if let Some(document) = document_of(bytes.as_slice(), &mut scratch, reply) {
         push_keys(document.value(), reply);
     }
 }

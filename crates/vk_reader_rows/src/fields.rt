@@ -3,12 +3,11 @@
 
 use crate::documents::document_of;
 use crate::shows::{Show, tell};
-use serde_json::Value;
 use vk_fields::{
     AskText, ExpressionText, FeatureNameText, PathText, PlainText, PortNameText, ask_under, key,
     port_version, scheme, version, version_needed,
 };
-use vk_json::{Reader, wanted};
+use vk_json::{Reader, Scratch, Value, wanted};
 use vk_row_text::{Reply, cut};
 use vk_version::Scheme;
 
@@ -65,13 +64,17 @@ fn ask(question: Question, value: &Value, reply: &mut Reply) {
 
 fn ask_at(rest: &str, reply: &mut Reply) {
     let (key, rest) = cut(rest);
-    if let Some(document) = document_of(rest, reply) {
+    let bytes = reply.bytes(rest);
+    let mut scratch = Scratch::new(reply.alloc());
+    if let Some(document) = document_of(bytes.as_slice(), &mut scratch, reply) {
         tell(ask_under(reply.alloc(), document.value(), key), reply);
     }
 }
 
 fn in_document(question: Question, rest: &str, reply: &mut Reply) {
-    if let Some(document) = document_of(rest, reply) {
+    let bytes = reply.bytes(rest);
+    let mut scratch = Scratch::new(reply.alloc());
+    if let Some(document) = document_of(bytes.as_slice(), &mut scratch, reply) {
         ask(question, document.value(), reply);
     }
 }

@@ -6,12 +6,11 @@ ghost use Rattle.vk_base.specs.Stops.{fault_in};
 ghost use Rattle.vk_recipe.specs.PackagePaths.{package_path_of, package_path_at};
 ghost use Rattle.vk_recipe.specs.PackagePaths.{unless_outside};
 
-use serde_json::Value;
 use std::alloc::Global;
 use vk_base::{TreePath, Unread};
 use vk_entry::is_package_path;
 use vk_fields::path_of;
-use vk_json::{FileFault, Reader, Why, text, wrong};
+use vk_json::{FileFault, Reader, Value, Why, text, wrong};
 
 #[tactic(auto, using(crate::proofs::PathLemmas::tested))]
 fn unless_outside(alloc: Global, path: TreePath) -> Result<TreePath, Unread<FileFault>>

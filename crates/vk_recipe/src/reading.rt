@@ -2,7 +2,7 @@
 ghost use Rattle.std.specs.Prelude.{◌≡◌, ◌<◌, ◌≤◌, ◌^◌, ℕ, List, Ok, length, map};
 ghost use Rattle.std.specs.Option.{is_some};
 ghost use Rattle.serde_json.specs.Find.{get};
-ghost use Rattle.serde_json.specs.View.{view};
+ghost use Rattle.vk_json.specs.Values.{view};
 ghost use Rattle.vk_spec.specs.Conditions.{Condition};
 ghost use Rattle.vk_spec.specs.Reading.{Gives};
 ghost use Rattle.vk_base.specs.FeatureViews.{feature_view};
@@ -17,14 +17,13 @@ ghost use Rattle.vk_recipe.specs.RecipeViews.{origin_view, step_view, steps_view
 
 use crate::package_paths::PackagePathText;
 use crate::recipes::{Action, Recipe, Step};
-use serde_json::Value;
 use std::alloc::Global;
 use vk_base::{FeatureName, List, PortName, Unread};
 use vk_expr::Expr;
 use vk_fields::{ExpressionText, FeatureNameText, PortNameText};
 use vk_json::{
-    AnyBoolean, AnyText, Doc, FileFault, Reader, Why, boolean, each_item, items, member, object,
-    optional, optional_or, wanted, wrong,
+    AnyBoolean, AnyText, Doc, FileFault, Reader, Scratch, Value, Why, boolean, each_item, items,
+    member, object, optional, optional_or, wanted, wrong,
 };
 
 // Most steps of a recorded build.
@@ -251,7 +250,8 @@ pub fn read_recipe(alloc: Global, bytes: &[u8]) -> Result<Recipe, Unread<FileFau
     requires { length bytes.now < 2 ^ 32 }
     ensures { Gives (λ r. steps_view r.steps) fault_in result (recipe_of bytes.now) }
 {
-    let document = Doc::read(alloc, bytes)?;
+    let mut scratch = Scratch::new(alloc);
+    let document = Doc::read(alloc, bytes, &mut scratch)?;
     object(alloc, document.value())?;
     let steps = wanted(alloc, document.value(), "steps", &StepList)?;
     Ok(Recipe { steps })

@@ -2,7 +2,7 @@
 ghost use Rattle.std.specs.Prelude.{◌≡◌, ◌==◌, ◌↔◌, List, ℕ, Option, Some, None, Ok, map};
 ghost use Rattle.std.specs.Prelude.{option_map, slice_index, IfOk, IfSome, OnOk};
 ghost use Rattle.std.specs.List.{Contains};
-ghost use Rattle.serde_json.specs.View.{view};
+ghost use Rattle.vk_json.specs.Values.{view};
 ghost use Rattle.vk_spec.specs.Reading.{Gives};
 ghost use Rattle.vk_spec.specs.Versions as plain_version;
 ghost use Rattle.vk_version.specs.AskViews.{ask_view};
@@ -13,12 +13,11 @@ ghost use Rattle.vk_registry.specs.Baselines.{entries_at, baseline_at, baseline_
 ghost use Rattle.vk_registry.specs.Baselines.{ask_for};
 ghost use Rattle.vk_registry.specs.BaselineViews.{entry_view};
 
-use serde_json::Value;
 use std::alloc::{AllocError, Global};
 use std::marker::Model;
 use vk_base::{List, Memory, PortName, Unread};
 use vk_fields::{ask_under, port_name_of};
-use vk_json::{Doc, FileFault, MemberReader, Reader, each_member, object, wanted};
+use vk_json::{Doc, FileFault, MemberReader, Reader, Scratch, Value, each_member, object, wanted};
 use vk_version::Ask;
 
 /// A port, and what is asked for of it.
@@ -154,7 +153,8 @@ pub fn baseline_in(alloc: Global, value: &Value, name: &str) -> Result<Baseline,
 pub fn read_baseline(alloc: Global, bytes: &[u8], name: &str) -> Result<Baseline, Unread<FileFault>>
     ensures { Gives (λ b. b) fault_in result (baseline_by name.now bytes.now) }
 {
-    let doc = Doc::read(alloc, bytes)?;
+    let mut scratch = Scratch::new(alloc);
+    let doc = Doc::read(alloc, bytes, &mut scratch)?;
     baseline_in(alloc, doc.value(), name)
 }
 

@@ -6,11 +6,10 @@ ghost use Rattle.vk_spec.specs.Paths.{Path};
 ghost use Rattle.vk_spec.specs.Fronts.{after};
 ghost use Rattle.vk_registry.specs.Folders.{unless_above, folder_of, folder_at};
 
-use serde_json::Value;
 use std::alloc::Global;
 use vk_base::{TreePath, Unread};
 use vk_fields::path_of;
-use vk_json::{FileFault, Reader, Why, text, wrong};
+use vk_json::{FileFault, Reader, Value, Why, text, wrong};
 
 // What is left of a text after its first part, where it begins with that.
 fn after<'a>(text: &'a str, front: &str) -> Option<&'a str>

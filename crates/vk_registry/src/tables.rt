@@ -1,7 +1,7 @@
 //! A versions file: the versions of a port that a registry has, each with the port's folder.
 ghost use Rattle.std.specs.Prelude.{◌≡◌, ◌↔◌, ◌++◌, ◌∷◌, [], List, ℕ, Ok, None, map, IfOk, IfSome};
 ghost use Rattle.std.specs.Prelude.{OnOk};
-ghost use Rattle.serde_json.specs.View.{view};
+ghost use Rattle.vk_json.specs.Values.{view};
 ghost use Rattle.vk_spec.specs.Reading.{Gives};
 ghost use Rattle.vk_spec.specs.Versions as plain;
 ghost use Rattle.vk_version.specs.AskViews.{ask_view};
@@ -13,12 +13,14 @@ ghost use Rattle.vk_registry.specs.TableViews.{row_view};
 
 use crate::folders::FolderText;
 use indexmap::IndexSet;
-use serde_json::Value;
 use std::alloc::Global;
 use std::marker::Model;
 use vk_base::{List, TreePath, Unread};
 use vk_fields::version_needed;
-use vk_json::{Doc, FileFault, NewItemReader, Reader, Why, each_new_item, object, wanted, wrong};
+use vk_json::{
+    Doc, FileFault, NewItemReader, Reader, Scratch, Value, Why, each_new_item, object, wanted,
+    wrong,
+};
 use vk_version::{Ask, Version};
 
 /// A version of a port, and the port's folder.
@@ -156,7 +158,8 @@ pub fn table_in(alloc: Global, value: &Value) -> Result<Table, Unread<FileFault>
 pub fn read_table(alloc: Global, bytes: &[u8]) -> Result<Table, Unread<FileFault>>
     ensures { Gives (λ t. t) fault_in result (table_of bytes.now) }
 {
-    let doc = Doc::read(alloc, bytes)?;
+    let mut scratch = Scratch::new(alloc);
+    let doc = Doc::read(alloc, bytes, &mut scratch)?;
     table_in(alloc, doc.value())
 }
 

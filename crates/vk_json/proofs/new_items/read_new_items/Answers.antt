@@ -1,6 +1,6 @@
 use Rattle.std.proofs.Common.{[], map}
 use Rattle.std.proofs.lemmas.Result.{err_from_is_err_and}
-use Rattle.serde_json.specs.View.{view}
+use Rattle.vk_json.specs.Values.{view}
 use Rattle.vk_spec.specs.Reading.{read_after}
 use Rattle.vk_spec.proofs.ReadingLemmas.{after_goes_on, after_ends, after_is_done}
 use Rattle.vk_base.specs.Stops.{fault_in}

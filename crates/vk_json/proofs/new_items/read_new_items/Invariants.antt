@@ -1,5 +1,5 @@
 use Rattle.std.proofs.Common.{◌≡◌, [], map, drop}
-use Rattle.serde_json.specs.View.{view}
+use Rattle.vk_json.specs.Values.{view}
 use Rattle.vk_spec.specs.Reading.{read_after}
 use Rattle.vk_json.specs.NewItems.{new_item_at}
 use Rattle.vk_json.proofs.new_items.read_new_items.Given as goal

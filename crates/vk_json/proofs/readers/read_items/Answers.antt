@@ -1,6 +1,6 @@
 use Rattle.std.proofs.Common.{map}
 use Rattle.std.proofs.lemmas.Result.{err_from_is_err_and}
-use Rattle.serde_json.specs.View.{view}
+use Rattle.vk_json.specs.Values.{view}
 use Rattle.vk_spec.specs.Reading.{read_each}
 use Rattle.vk_spec.proofs.ReadingLemmas.{goes_on_by, ends_by, is_done_by}
 use Rattle.vk_base.specs.Stops.{fault_in}

@@ -1,5 +1,5 @@
 use Rattle.std.proofs.Common.{◌≡◌, map}
-use Rattle.serde_json.specs.View.{view}
+use Rattle.vk_json.specs.Values.{view}
 use Rattle.vk_spec.specs.Reading.{read_each}
 use Rattle.vk_spec.proofs.ReadingLemmas.{with_front, left_from}
 use Rattle.vk_json.specs.Readings.{item_at}

@@ -1,4 +1,4 @@
-use Rattle.serde_json.specs.View.{view}
+use Rattle.vk_opening.specs.Views.{configuration_view}
 use Rattle.std.proofs.lemmas.Result.{err_from_is_err_and}
 use Rattle.vk_config.specs.Views.{config_view}
 use Rattle.vk_files.proofs.ReadLemmas.{reads_then, reads_stopped}
@@ -12,7 +12,7 @@ returns-in_err-path-clause-reads g c = reads_wanting c.from_residual.ensures.1
 
 pub returns-clause-reads : goal.returns-clause-reads
 unfolding config_in
-returns-clause-reads g c = reads_then (λ standing f. config_by standing c.args.folder.now (view c.args.document.now) f) (rw c.in_ok-path.ensures at c.in_ok-standing.ensures.reads) c.config_by.ensures.reads
+returns-clause-reads g c = reads_then (λ standing f. config_by standing c.args.folder.now (configuration_view c.args.own) f) (rw c.in_ok-path.ensures at c.in_ok-standing.ensures.reads) c.config_by.ensures.reads
 
 pub returns-in_err-path-clause-within : goal.returns-in_err-path-clause-within
 returns-in_err-path-clause-within g c = nothing_since _ _
@@ -24,4 +24,4 @@ pub returns-in_err-standing-clause-reads : goal.returns-in_err-standing-clause-r
 unfolding config_in
 returns-in_err-standing-clause-reads g c =
     let p = err_from_is_err_and c.from_residual-in_err-standing.result c.from_residual-in_err-standing.ensures.1 in
-    rw (p.1, p.2) (reads_stopped config_view (λ standing f. config_by standing c.args.folder.now (view c.args.document.now) f) (rw c.in_ok-path.ensures at c.in_err-standing.ensures.reads))
+    rw (p.1, p.2) (reads_stopped config_view (λ standing f. config_by standing c.args.folder.now (configuration_view c.args.own) f) (rw c.in_ok-path.ensures at c.in_err-standing.ensures.reads))

@@ -6,7 +6,8 @@ use Rattle.vk_files.proofs.ReadLemmas.{reads_then, reads_stopped, reads_pure}
 use Rattle.vk_files.proofs.ReadMore.{reads_wanting}
 use Rattle.vk_opening.specs.Openings.{triplets_of, after_triplets, after_overlays}
 use Rattle.vk_opening.specs.OpeningViews.{opening_found}
-use Rattle.vk_opening.specs.Views.{root_view, triplets_view}
+use Rattle.vk_model.specs.Views.{manifest_view}
+use Rattle.vk_opening.specs.Views.{triplets_view}
 use Rattle.vk_opening.specs.declared.opens.Found.{Found}
 use Rattle.vk_opening.proofs.OpenLemmas.{found_is}
 use Rattle.vk_files.proofs.WithinLemmas.{where_nothing, where_first, where_then}
@@ -21,7 +22,7 @@ pub returns-in_err-triplets-clause-reads : goal.returns-in_err-triplets-clause-r
 returns-in_err-triplets-clause-reads g c =
     let p = err_from_is_err_and c.from_residual-in_err-triplets.result c.from_residual-in_err-triplets.ensures.1 in
     let project = c.args.project.now in
-    let root = root_view c.args.root.now in
+    let root = manifest_view c.args.root.now in
     let config = config_view c.args.config.now in
     rw (p.1, p.2)
     (reads_stopped (opening_found project root config) (after_triplets project root config) c.in_err-triplets.ensures.reads)
@@ -30,7 +31,7 @@ pub returns-in_err-overlays-clause-reads : goal.returns-in_err-overlays-clause-r
 returns-in_err-overlays-clause-reads g c =
     let p = err_from_is_err_and c.from_residual-in_err-overlays.result c.from_residual-in_err-overlays.ensures.1 in
     let project = c.args.project.now in
-    let root = root_view c.args.root.now in
+    let root = manifest_view c.args.root.now in
     let config = config_view c.args.config.now in
     let triplets = triplets_view c.in_ok-triplets.triplets in
     rw (p.1, p.2)
@@ -40,7 +41,7 @@ returns-in_err-overlays-clause-reads g c =
 pub returns-clause-reads : goal.returns-clause-reads
 returns-clause-reads g c =
     let project = c.args.project.now in
-    let root = root_view c.args.root.now in
+    let root = manifest_view c.args.root.now in
     let config = config_view c.args.config.now in
     let triplets = triplets_view c.in_ok-triplets.triplets in
     let own = c.in_ok-own.ensures in

@@ -1,6 +1,6 @@
 use Rattle.std.proofs.Common.{map, ap}
 use Rattle.std.specs.Prelude.{Ok, option_map}
-use Rattle.serde_json.specs.View.{view}
+use Rattle.vk_json.specs.Values.{view}
 use Rattle.vk_registry.specs.Baselines.{entries_at}
 use Rattle.vk_registry.specs.BaselineViews.{entry_view}
 use Rattle.vk_registry.proofs.EntryLemmas.{read_in_order, kept_is}

@@ -1,5 +1,5 @@
 use Rattle.std.proofs.Common.{map}
-use Rattle.serde_json.specs.View.{view}
+use Rattle.vk_json.specs.Values.{view}
 use Rattle.vk_registry.specs.TableViews.{row_view}
 use Rattle.vk_registry.proofs.TableLemmas.{rows_read}
 use Rattle.vk_registry.proofs.tables.RowsReader.read.Goals as goal
