@@ -7,7 +7,7 @@ use Rattle.vk_files.proofs.WithinLemmas.{nothing_since}
 use Rattle.vk_pages.proofs.baselines.Baselines.look.Goals as goal
 
 pub returns-in-Some-clause-there : goal.returns-in-Some-clause-there
-returns-in-Some-clause-there g c = placed_note read_view (nat_eq c.args.served.now.place) c.args.self.now.read.entries c.in-Some.place c.in-Some.ensures.within c.in-Some.ensures.value
+returns-in-Some-clause-there g c = placed_note read_view (nat_eq c.args.served.now.place) c.args.self.now.read.entries c.in-Some.place c.in-Some.ensures.index c.in-Some.ensures.within c.in-Some.ensures.value
 
 pub note-requires : goal.note-requires
 note-requires g c = none_noted read_view (nat_eq c.args.served.now.place) c.args.self.now.read.entries (sym c.get_index_of.ensures.found ∙ ap is_some c.in-None.is)
