@@ -12,3 +12,4 @@ pub mod PathHash
 pub mod Parts
 pub mod Decimals
 pub mod Schedules
+pub mod SharedTexts

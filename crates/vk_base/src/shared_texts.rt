@@ -2,32 +2,80 @@ ghost use Rattle.std.specs.Prelude.{◌≡◌, ◌==◌, ◌↔◌, List, ℕ, l
 ghost use Rattle.std.proofs.Common.{rules};
 ghost use Rattle.std.specs.Cmp.{partial_order_from_own_ties};
 ghost use Rattle.std.specs.Cmp.Rules.{comparing, hashing};
-ghost use Rattle.std.specs.Hash as fed;
 ghost use Rattle.std.specs.Cmp.Lexicographic.{slice_cmp, pointwise};
 ghost use Rattle.std.specs.Ordering.{nat_cmp, as_partial_cmp};
+ghost use Rattle.vk_base.specs.SharedTexts.{bytes_in, text_fed, text_hash};
 
 use crate::texts::is_same;
+use arrayvec::ArrayString;
 use std::alloc::{AllocError, Global};
 use std::cmp::Ordering;
 use std::fmt;
-use std::hash::{Hash, Hasher};
+use std::hash::{FoldHasher, Hash, Hasher};
 use std::marker::Model;
-use std::rc::RcStr;
+use std::rc::Rc;
+
+// The bytes of a short text lie in the value itself; most names and versions are short.
+#[derive(Drop)]
+enum TextBytes {
+    Short(ArrayString<16>),
+    Long(String),
+}
+
+impl TextBytes {
+    fn from_str(alloc: Global, text: &str) -> Result<TextBytes, AllocError>
+        ensures { IfOk result (λ t. bytes_in t ≡ text.now) }
+    {
+        match ArrayString::from(text) {
+            Ok(short) => Ok(TextBytes::Short(short)),
+            Err(_) => Ok(TextBytes::Long(String::from_str(alloc, text)?)),
+        }
+    }
+
+    fn as_str(&self) -> &str
+        ensures { result.now ≡ bytes_in self.now }
+    {
+        match self {
+            TextBytes::Short(short) => short.as_str(),
+            TextBytes::Long(long) => long.as_str(),
+        }
+    }
+}
+
+// What the copies of a text share: a short one is one block of memory. The text's hash is worked
+// out once, since texts are looked up in maps far more often than they are made.
+#[derive(Drop)]
+struct TextBlock {
+    hash: u64,
+    bytes: TextBytes,
+}
+
+// The hash that is kept of a text.
+#[tactic(auto, unfolding(crate::specs::SharedTexts::text_hash))]
+fn hash_of(text: &str) -> u64
+    ensures { result ≡ text_hash text.now }
+{
+    let mut hasher = FoldHasher::default();
+    text.hash(&mut hasher);
+    hasher.finish()
+}
 
 /// A UTF-8 text that stays as it is, so its copies share it: a clone takes no memory. Contracts see
 /// it as its bytes, and its order is theirs.
 #[derive(Drop)]
 pub struct SharedText {
-    inner: RcStr,
+    inner: Rc<TextBlock>,
 }
 
 impl Model for SharedText {
-    ghost use Rattle.std.specs.Prelude.{List, ℕ};
-    ghost use Rattle.std.specs.Rc.{rc_str_bytes};
+    ghost use Rattle.std.specs.Prelude.{◌≡◌, List, ℕ};
+    ghost use Rattle.vk_base.specs.SharedTexts.{bytes_of, text_hash};
 
     ghost Value = { List ℕ };
 
-    ghost view = { λ t. rc_str_bytes t.inner };
+    ghost view = { λ t. bytes_of t.inner.value };
+
+    ghost invariant = { λ t. t.inner.value.hash ≡ text_hash (bytes_of t.inner.value) };
 }
 
 impl SharedText {
@@ -35,8 +83,12 @@ impl SharedText {
     pub fn from_str(alloc: Global, text: &str) -> Result<SharedText, AllocError>
         ensures { IfOk result (λ t. t ≡ text.now) }
     {
+        let block = TextBlock {
+            hash: hash_of(text),
+            bytes: TextBytes::from_str(alloc, text)?,
+        };
         Ok(SharedText {
-            inner: RcStr::from_str(alloc, text)?,
+            inner: Rc::new(alloc, block)?,
         })
     }
 
@@ -44,7 +96,7 @@ impl SharedText {
     pub fn as_str(&self) -> &str
         ensures { result.now ≡ self.now }
     {
-        self.inner.as_str()
+        self.inner.as_ref().bytes.as_str()
     }
 
     /// Its bytes, borrowed.
@@ -123,11 +175,11 @@ impl PartialOrd for SharedText {
 }
 
 impl Hash for SharedText {
-    ghost hash_input = { λ t. fed.str t };
+    ghost hash_input = { text_fed };
 
     ghost respects_eq = { Prim.search (hashing, rules) };
 
     fn hash<H: Hasher>(&self, state: &mut H) {
-        self.as_str().hash(state);
+        self.inner.as_ref().hash.hash(state);
     }
 }

@@ -1,6 +1,7 @@
 -- What facts are compared by, and what is fed to a hash.
 use Rattle.std.specs.Prelude.{[], ◌∷◌, ◌++◌}
 use Rattle.std.specs.Hash as fed
+use Rattle.vk_base.specs.SharedTexts.{text_fed}
 use Rattle.vk_resolution.specs.Keys.{Key}
 use Rattle.vk_resolution.specs.Settings.{root, inst}
 use Rattle.vk_resolution.specs.Asking as plain
@@ -40,10 +41,10 @@ visit_key i f a = i.port ∷ i.triplet ∷ looked_key f a
 
 -- what is fed to a hash: no port-version, which seldom tells facts apart
 abbrev pub plain_hash : plain.Fact → fed.HashWrites
-plain_hash (plain.need (root t) f) = fed.str t ++ fed.str f
-plain_hash (plain.need (inst i) f) = fed.str i.port ++ fed.str i.triplet ++ fed.str f
-plain_hash (plain.floor p a) = fed.str p ++ fed.str a.text
-plain_hash (plain.visit i f a) = fed.str i.port ++ fed.str i.triplet ++ fed.str f ++ fed.str a.text
+plain_hash (plain.need (root t) f) = text_fed t ++ fed.str f
+plain_hash (plain.need (inst i) f) = text_fed i.port ++ text_fed i.triplet ++ fed.str f
+plain_hash (plain.floor p a) = text_fed p ++ text_fed a.text
+plain_hash (plain.visit i f a) = text_fed i.port ++ text_fed i.triplet ++ fed.str f ++ text_fed a.text
 
 abbrev pub fact_hash : Fact → fed.HashWrites
 fact_hash x = plain_hash (fact_view x)

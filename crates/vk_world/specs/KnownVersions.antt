@@ -4,6 +4,7 @@ use Rattle.std.specs.List.{list_any}
 use Rattle.std.specs.Map.{lookup}
 use Rattle.std.specs.Option.{is_some}
 use Rattle.std.specs.Hash as fed
+use Rattle.vk_base.specs.SharedTexts.{text_fed}
 use Rattle.vk_spec.specs.Paths.{Path}
 use Rattle.vk_spec.specs.Versions.{Version, same_version}
 use Rattle.vk_world.specs.declared.answered.PortVersion.{PortVersion}
@@ -15,7 +16,7 @@ same_pair port v other w = bytes_eq port other && same_version v w
 
 -- what a port and a version are hashed by
 abbrev pub pair_fed : List ℕ → Version → fed.HashWrites
-pair_fed port v = fed.str port ++ fed.str v.text ++ fed.u32 v.port
+pair_fed port v = text_fed port ++ text_fed v.text ++ fed.u32 v.port
 
 -- the pairs with their folders, in the order in which they were first answered
 abbrev pub folders_in : KnownVersions → List (PortVersion × Path)

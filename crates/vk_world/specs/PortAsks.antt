@@ -1,6 +1,7 @@
 -- A port, and what is asked for of it.
 use Rattle.std.specs.Prelude.{◌&&◌, ◌++◌, ℕ, Bool, List, bytes_eq}
 use Rattle.std.specs.Hash as fed
+use Rattle.vk_base.specs.SharedTexts.{text_fed}
 use Rattle.vk_spec.specs.Versions.{Ask, same_ask}
 
 -- a port and an ask are another port and ask
@@ -9,4 +10,4 @@ same_asked port a other b = bytes_eq port other && same_ask a b
 
 -- what a port and an ask are hashed by
 abbrev pub asked_fed : List ℕ → Ask → fed.HashWrites
-asked_fed port a = fed.str port ++ fed.str a.text ++ fed.u32 a.port
+asked_fed port a = text_fed port ++ text_fed a.text ++ fed.u32 a.port
