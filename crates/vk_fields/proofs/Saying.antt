@@ -7,8 +7,6 @@ use Rattle.vk_base.specs.declared.stops.Unread.{Unread}
 use Rattle.vk_json.specs.declared.faults.FileFault.{FileFault}
 use Rattle.vk_json.specs.declared.faults.Why.{Why}
 use Rattle.vk_json.specs.Places.{here}
-use Rattle.vk_version.specs.declared.faults.VersionFault.{VersionFault}
-use Rattle.vk_version.specs.Readings.{unless}
 use Rattle.vk_fields.specs.Saying.{said_here, IsSaid}
 
 -- the fault that a rule told is, by its word, the fault of the value
@@ -22,13 +20,3 @@ said_gives view word (Ok x) (Ok y) read gives is = rw (gives, is) refl
 said_gives view word (Err e) (Err f) read gives is = said_fails word (fault_in e) (fault_in f) read gives is
 said_gives view word (Ok x) (Err f) read gives is = absurd is
 said_gives view word (Err e) (Ok y) read gives is = absurd is
-
--- what keeps a rule may be any value, and what breaks it has the same fault whatever it would have been
-pub kept_by_any : {A B : Type 0} (broken : Option VersionFault) (x value : A) (y : B) → unless broken x ≡ Ok value → unless broken y ≡ Ok y
-kept_by_any None x value y kept = refl
-kept_by_any (Some f) x value y kept = let no : Err f ≡ Ok value = kept in (cc)
-
-pub broken_for_any : {A B : Type 0} (broken : Option VersionFault) (told : Option VersionFault) (x : A) (y : B) → Fails told (unless broken x) → Fails told (unless broken y)
-broken_for_any broken None x y fails = tt
-broken_for_any (Some f) (Some g) x y fails = let is : Err f ≡ Err g = fails in (cc)
-broken_for_any None (Some g) x y fails = let no : Ok x ≡ Err g = fails in (cc)

@@ -37,10 +37,6 @@ expression_at = by_rule expression_word reading_of
 abbrev pub ask_at : Reading Ask
 ask_at = by_rule version_word reads_ask
 
--- what a version of any text may be
-abbrev pub judged_plain : List ℕ → Result (Unit {0}) VersionFault
-judged_plain text = unless (string_fault text) tt
-
 -- the text of an ask without `#`
 abbrev pub reads_plain : List ℕ → Result (List ℕ) VersionFault
 reads_plain text = unless (string_fault text) text

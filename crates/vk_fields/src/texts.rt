@@ -16,7 +16,7 @@ ghost use Rattle.vk_expr.specs.Reading.{reading_of};
 ghost use Rattle.vk_version.specs.Texts.{is_hash};
 ghost use Rattle.vk_version.specs.Readings.{reads_ask};
 ghost use Rattle.vk_fields.specs.Texts as texts;
-ghost use Rattle.vk_fields.specs.Texts.{judged_plain, reads_plain, reads_written};
+ghost use Rattle.vk_fields.specs.Texts.{reads_plain, reads_written};
 ghost use Rattle.vk_fields.specs.Texts.{port_name_at, feature_name_at, path_at, expression_at};
 ghost use Rattle.vk_fields.specs.Texts.{ask_at, plain_at, written_at};
 ghost use Rattle.vk_fields.specs.TextViews.{written_view};
@@ -28,7 +28,7 @@ use std::alloc::Global;
 use vk_base::{FeatureName, Memory, PortName, SharedText, TreePath, Unread};
 use vk_expr::{Expr, ExprFault};
 use vk_json::{FileFault, Reader, Value, text};
-use vk_version::{Ask, Scheme, VersionFault, read, read_ask};
+use vk_version::{Ask, VersionFault, is_version_string, read_ask};
 
 /// The port's name that a text is. The fault is `Name` where it is none.
 #[tactic(auto, using(crate::proofs::Saying::said_gives))]
@@ -223,20 +223,14 @@ fn read_expression(alloc: Global, text: &str) -> Result<Expr, Unread<ExprFault>>
 }
 
 // The text of an ask is what a version of any text may be.
-#[tactic(auto, using(crate::proofs::Saying::kept_by_any, crate::proofs::Saying::broken_for_any))]
-fn judge_plain(alloc: Global, text: &str) -> Result<(), Unread<VersionFault>>
-    ensures { Gives (λ done. tt) fault_in result (judged_plain text.now) }
-{
-    read(alloc, Scheme::Text, text, 0)?;
-    Ok(())
-}
-
-#[tactic(auto, using(crate::proofs::Saying::kept_by_any, crate::proofs::Saying::broken_for_any))]
 fn read_plain(alloc: Global, text: &str) -> Result<SharedText, Unread<VersionFault>>
     ensures { Gives (λ t. t) fault_in result (reads_plain text.now) }
 {
-    judge_plain(alloc, text)?;
-    Ok(SharedText::from_str(alloc, text)?)
+    if is_version_string(text.as_bytes()) {
+        Ok(SharedText::from_str(alloc, text)?)
+    } else {
+        Err(Unread::Fault(VersionFault::Shape))
+    }
 }
 
 fn has_hash(text: &str) -> bool

@@ -8,6 +8,7 @@ mod cuts;
 mod days;
 mod faults;
 pub mod laws;
+mod number_lists;
 mod numbers;
 mod plains;
 mod readers;
@@ -17,7 +18,7 @@ mod versions;
 
 pub use asks::{Ask, read_ask};
 pub use faults::VersionFault;
-pub use plains::is_plain;
+pub use plains::{is_plain, is_version_string};
 pub use readers::read;
 pub use schemes::{Class, Scheme};
 pub use versions::{Version, order};

@@ -13,7 +13,8 @@ ghost use Rattle.vk_version.specs.Texts.{first_part};
 
 use crate::cuts::split;
 use crate::faults::VersionFault;
-use vk_base::{List, Unread, read_u64};
+use crate::number_lists::Numbers;
+use vk_base::{Unread, read_u64};
 
 // Whether these are digits alone.
 pub(crate) fn are_digits(text: &[u8]) -> bool
@@ -51,7 +52,7 @@ pub(crate) fn cut(text: &str) -> (&str, Option<&str>)
 }
 
 // Puts the number that digits say at the end of a list.
-pub(crate) fn push_number(numbers: &mut List<u64>, digits: &str) -> Result<(), Unread<VersionFault>>
+pub(crate) fn push_number(numbers: &mut Numbers, digits: &str) -> Result<(), Unread<VersionFault>>
     requires { is_number digits.now ≡ true }
     ensures fits { Gives (λ _. tt) fault_in result
         (fits_if (nat_lt (number_of digits.now) (2 ^ 64))) }
@@ -64,7 +65,7 @@ pub(crate) fn push_number(numbers: &mut List<u64>, digits: &str) -> Result<(), U
 }
 
 // Puts the numbers of a dotted text at the end of a list.
-pub(crate) fn push_numbers(numbers: &mut List<u64>, text: &str) -> Result<(), Unread<VersionFault>>
+pub(crate) fn push_numbers(numbers: &mut Numbers, text: &str) -> Result<(), Unread<VersionFault>>
     requires { is_dotted text.now ≡ true }
     ensures fits { Gives (λ _. tt) fault_in result (fits_if (all_fit (numbers_in text.now))) }
     ensures ok { OnOk result (numbers.new ≡ numbers.old ++ numbers_in text.now) }
@@ -92,7 +93,7 @@ pub(crate) fn are_numbers(later: Option<&str>) -> bool
 
 // Puts the numbers after a first dot, if there is one, at the end of a list.
 pub(crate) fn push_later(
-    numbers: &mut List<u64>,
+    numbers: &mut Numbers,
     later: Option<&str>,
 ) -> Result<(), Unread<VersionFault>>
     requires { list_all is_number (parts_in later) ≡ true }

@@ -20,8 +20,15 @@ pub fn is_plain(text: &[u8]) -> bool
 }
 
 // Whether a text has a hash.
-pub(crate) fn has_hash(text: &[u8]) -> bool
+fn has_hash(text: &[u8]) -> bool
     ensures { result ≡ list_any is_hash text.now }
 {
     text.iter().any(|byte| *byte == b'#')
+}
+
+/// Whether a text is a version of any text: it is plain, and has no hash. Takes no memory.
+pub fn is_version_string(text: &[u8]) -> bool
+    ensures { result ≡ (is_plain text.now && not (list_any is_hash text.now)) }
+{
+    is_plain(text) && !has_hash(text)
 }

@@ -11,21 +11,22 @@ ghost use Rattle.vk_version.specs.Views.{scheme_view};
 
 use crate::days::{day_numbers, is_day};
 use crate::faults::VersionFault;
+use crate::number_lists::Numbers;
 use crate::numbers::{are_numbers, cut, push_later, push_numbers};
-use crate::plains::{has_hash, is_plain};
+use crate::plains::is_version_string;
 use crate::schemes::{Class, Scheme};
 use crate::tails::{read_form, semver_fault};
 use crate::versions::{Version, with_parts};
 use semver::Prerelease;
 use std::alloc::Global;
-use vk_base::{List, Unread};
+use vk_base::Unread;
 
 // Reads numbers joined by dots, a pre-release and build metadata.
 fn read_relaxed(alloc: Global, text: &str, port: u32) -> Result<Version, Unread<VersionFault>>
     ensures { Gives (λ v. v) fault_in result (reads_version the.relaxed text.now port) }
 {
     let (core, pre) = read_form(alloc, text)?;
-    let mut numbers = List::new(alloc);
+    let mut numbers = Numbers::new(alloc);
     push_numbers(&mut numbers, core)?;
     with_parts(alloc, Class::Dot, text, port, numbers, pre)
 }
@@ -36,7 +37,7 @@ fn read_semver(alloc: Global, text: &str, port: u32) -> Result<Version, Unread<V
 {
     match semver::Version::parse(alloc, text) {
         Ok(parsed) => {
-            let numbers = List::from_slice(alloc, &[parsed.major, parsed.minor, parsed.patch])?;
+            let numbers = Numbers::from_slice(alloc, &[parsed.major, parsed.minor, parsed.patch])?;
             with_parts(alloc, Class::Dot, text, port, numbers, parsed.pre)
         }
         Err(error) => Err(semver_fault(&error)),
@@ -65,7 +66,7 @@ fn read_date(alloc: Global, text: &str, port: u32) -> Result<Version, Unread<Ver
     ensures { Gives (λ v. v) fault_in result (reads_version the.date text.now port) }
 {
     let (day, later) = cut_date(text)?;
-    let mut numbers = List::from_slice(alloc, &day)?;
+    let mut numbers = Numbers::from_slice(alloc, &day)?;
     push_later(&mut numbers, later)?;
     with_parts(alloc, Class::Date, text, port, numbers, Prerelease::empty())
 }
@@ -74,7 +75,7 @@ fn read_date(alloc: Global, text: &str, port: u32) -> Result<Version, Unread<Ver
 fn read_string(alloc: Global, text: &str, port: u32) -> Result<Version, Unread<VersionFault>>
     ensures { Gives (λ v. v) fault_in result (reads_version the.string text.now port) }
 {
-    if !is_plain(text.as_bytes()) || has_hash(text.as_bytes()) {
+    if !is_version_string(text.as_bytes()) {
         return Err(Unread::Fault(VersionFault::Shape));
     }
     with_parts(
@@ -82,7 +83,7 @@ fn read_string(alloc: Global, text: &str, port: u32) -> Result<Version, Unread<V
         Class::Text,
         text,
         port,
-        List::new(alloc),
+        Numbers::new(alloc),
         Prerelease::empty(),
     )
 }

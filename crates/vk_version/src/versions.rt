@@ -15,13 +15,14 @@ ghost use Rattle.vk_version.specs.Views.{class_view};
 
 use crate::asks::Ask;
 use crate::faults::VersionFault;
+use crate::number_lists::Numbers;
 use crate::schemes::Class;
 use semver::Prerelease;
 use std::alloc::{AllocError, Global};
 use std::cmp::Ordering;
 use std::hash::{Hash, Hasher};
 use std::marker::Model;
-use vk_base::{List, SharedText, Unread};
+use vk_base::{SharedText, Unread};
 
 /// A version: a class, a text and a port-version. Two are the same where these three are.
 /// It keeps the parsed parts of its text, so that comparing never reads a text again.
@@ -31,7 +32,7 @@ pub struct Version {
     /// The text that was read, and the port-version.
     ask: Ask,
     /// Of a date: its year, its month, its day, and then the other numbers.
-    numbers: List<u64>,
+    numbers: Numbers,
     pre: Prerelease,
 }
 
@@ -93,7 +94,7 @@ pub(crate) fn with_parts(
     class: Class,
     text: &str,
     port: u32,
-    numbers: List<u64>,
+    numbers: Numbers,
     pre: Prerelease,
 ) -> Result<Version, Unread<VersionFault>>
     requires { Keeps (version_of (class_view class) text.now port) numbers (pre_text pre) }
@@ -149,7 +150,9 @@ impl Hash for Version {
 fn rank(a: &Version, b: &Version) -> Ordering
     ensures { result ≡ rank_cmp a.now b.now }
 {
-    a.numbers.cmp(&b.numbers).then_with(|| a.pre.cmp(&b.pre))
+    a.numbers
+        .compare(&b.numbers)
+        .then_with(|| a.pre.cmp(&b.pre))
 }
 
 // How versions of one rank compare: by port-version, where they have the same text.
