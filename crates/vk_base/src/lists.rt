@@ -37,6 +37,15 @@ impl<T> List<T> {
         }
     }
 
+    /// An empty list with room for so many items.
+    pub fn with_capacity(alloc: Global, room: usize) -> Result<List<T>, AllocError>
+        ensures { IfOk result (λ l. l ≡ []) }
+    {
+        Ok(List {
+            inner: Vec::with_capacity(alloc, room)?,
+        })
+    }
+
     /// The list that a vector holds. Takes no memory.
     pub fn from_vec(inner: Vec<T>) -> List<T>
         ensures { result ≡ inner.items }

@@ -3,6 +3,7 @@ mod ItemLemmas
 mod NumberLemmas
 mod RangeLemmas
 pub mod ValueLemmas
+mod WrittenLemmas
 mod NewItemLemmas
 mod DocumentLemmas
 pub mod MovingLemmas

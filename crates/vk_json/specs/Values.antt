@@ -40,3 +40,7 @@ view v = data_of (value_view v)
 abbrev pub entries_view : List (Bor (List ℕ) × Bor (Value Global)) → Members
 entries_view [] = no_members
 entries_view (e ∷ es) = member e.0.now (view e.1.now) (entries_view es)
+
+-- a member that stands in a document, as a key and its value
+abbrev pub pair_of : Bor (List ℕ) × Value Global → List ℕ × Data
+pair_of m = (m.0.now, view m.1)

@@ -1,8 +1,8 @@
 //! Getters over a value. None takes memory but `keys`.
 ghost use Rattle.std.specs.Prelude.{◌≡◌, ◌<◌, ◌^◌, ◌++◌, ◌∷◌, [], map};
-ghost use Rattle.std.specs.Prelude.{option_map, option_and_then, IfOk, IfSome, OnOk};
+ghost use Rattle.std.specs.Prelude.{option_map, option_and_then, IfOk, IfSome, IsTrue, OnOk};
 ghost use Rattle.std.specs.Option.{is_some};
-ghost use Rattle.vk_json.specs.KeyOrders.{KeysAscend};
+ghost use Rattle.vk_json.specs.KeyOrders.{Ascend, KeysAscend};
 ghost use Rattle.serde_json.specs.Find.{get, as_str, as_bool, as_null, as_object};
 ghost use Rattle.vk_json.specs.Values.{view, entries_view, members_data};
 ghost use Rattle.serde_json.specs.Data.{no_members};
@@ -73,8 +73,28 @@ pub fn is_null(value: &Value) -> bool
     value.is_null()
 }
 
+/// The members of an object as they stand in the document; `None` exactly where the value is no
+/// object.
+pub(crate) fn written<'b, 'a>(value: &'b Value<'a>) -> Option<&'b [(&'a str, Value<'a>)]>
+    ensures { option_map (λ object. members_data (members_view object.now) no_members) result
+        ≡ as_object (view value.now) }
+{
+    match value {
+        Value::Object(object) => Some(object.as_slice()),
+        _ => None,
+    }
+}
+
+// Whether each key is below the next one, so that the members stand in order already. `false`
+// costs time alone.
+pub(crate) fn ascends(object: &[(&str, Value)]) -> bool
+    ensures { IsTrue result → Ascend (map (λ m. m.0.now) object.now) }
+{
+    object.is_sorted_by(|one, next| one.0 < next.0)
+}
+
 // The members by their keys.
-fn by_key<'b, 'a>(
+pub(crate) fn by_key<'b, 'a>(
     alloc: Global,
     object: &'b [(&'a str, Value<'a>)],
 ) -> Result<Members<'b, 'a>, Memory>
@@ -88,27 +108,13 @@ fn by_key<'b, 'a>(
     Ok(found)
 }
 
-/// The members by their keys; `None` exactly where the value is no object.
-pub(crate) fn members<'b, 'a>(
-    alloc: Global,
-    value: &'b Value<'a>,
-) -> Result<Option<Members<'b, 'a>>, Memory>
-    ensures { IfOk result (λ found. option_map (λ ms. entries_view ms.entries) found
-        ≡ as_object (view value.now)) }
-{
-    match value {
-        Value::Object(object) => Ok(Some(by_key(alloc, object.as_slice())?)),
-        _ => Ok(None),
-    }
-}
-
 /// The keys in byte order; `None` exactly where the value is no object.
 pub fn keys(alloc: Global, value: &Value) -> Result<Option<List<Text>>, Memory>
     ensures keys { IfOk result (λ found. found ≡ keys_of (view value.now)) }
     ensures order { IfOk result (λ found. KeysAscend (view value.now)) }
 {
-    match members(alloc, value)? {
-        Some(members) => Ok(Some(names_of(alloc, &members)?)),
+    match written(value) {
+        Some(object) => Ok(Some(names_of(alloc, &by_key(alloc, object)?)?)),
         None => Ok(None),
     }
 }

@@ -79,8 +79,8 @@ fn read_new_items<R: NewItemReader>(
     ensures keys { IfOk result (λ r. map R.plain_key r.1.keys
         ≡ map R.key_of (map R.plain r.0)) }
 {
-    let mut read = List::from_vec(Vec::with_capacity(alloc, values.len())?);
-    let mut keys = IndexSet::new(alloc);
+    let mut read = List::with_capacity(alloc, values.len())?;
+    let mut keys = IndexSet::with_capacity(alloc, values.len())?;
     for (n, value) in values.iter().enumerate() {
         let item = read_new_item(alloc, n, value, &mut keys, reader)?;
         read.push(item)?;

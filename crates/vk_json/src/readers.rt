@@ -2,7 +2,9 @@
 //! gives: the value, or the first fault with its place.
 ghost use Rattle.std.specs.Prelude.{◌≡◌, ℕ, Bool, List, Result, IfOk, map, option_map};
 ghost use Rattle.serde_json.specs.Data.{Data};
-ghost use Rattle.vk_json.specs.Values.{view, entries_view};
+ghost use Rattle.vk_json.specs.Values.{view, entries_view, members_data, pair_of};
+ghost use Rattle.serde_json.specs.Data.{no_members};
+ghost use Rattle.json.specs.Value.{members_view};
 ghost use Rattle.vk_spec.specs.Reading.{Gives, read_each};
 ghost use Rattle.vk_json.specs.declared.faults.FileFault.{FileFault};
 ghost use Rattle.vk_base.specs.Stops.{fault_in};
@@ -13,7 +15,9 @@ ghost use Rattle.vk_json.specs.Readings.{wanted, optional, optional_or, item_at,
 ghost use Rattle.vk_json.specs.Readings.{member_at, members_by, each_member};
 
 use crate::faults::{FileFault, Why};
-use crate::getters::{Members, as_bool, as_number, as_text, items, member, members};
+use crate::getters::{
+    Members, as_bool, as_number, as_text, ascends, by_key, items, member, written,
+};
 use crate::places::{in_item, in_member, wrong, wrong_member};
 use json::Value;
 use std::alloc::Global;
@@ -145,7 +149,7 @@ fn read_items<R: Reader>(
     ensures { Gives (map R.plain) fault_in result
         (read_each (item_at (R.reads reader.now)) 0 (map view values.now)) }
 {
-    let mut read = List::from_vec(Vec::with_capacity(alloc, values.len())?);
+    let mut read = List::with_capacity(alloc, values.len())?;
     for (n, value) in values.iter().enumerate() {
         let item = read_item(alloc, n, value, reader)?;
         read.push(item)?;
@@ -208,12 +212,58 @@ fn read_members<R: MemberReader>(
     ensures { Gives (map R.plain) fault_in result
         (members_by (R.reads reader.now) (entries_view members.now.entries)) }
 {
-    let mut read = List::from_vec(Vec::with_capacity(alloc, members.len())?);
+    let mut read = List::with_capacity(alloc, members.len())?;
     for (key, value) in members.iter() {
         let member = read_member(alloc, key, value, reader)?;
         read.push(member)?;
     }
     Ok(read)
+}
+
+// The same of members whose keys ascend as they stand in the document.
+fn read_written<R: MemberReader>(
+    alloc: Global,
+    object: &[(&str, Value)],
+    reader: &R,
+) -> Result<List<R::Out>, Unread<FileFault>>
+    ensures { Gives (map R.plain) fault_in result
+        (read_each (λ _. member_at (R.reads reader.now)) 0 (map pair_of object.now)) }
+{
+    let mut read = List::with_capacity(alloc, object.len())?;
+    for (key, value) in object {
+        let member = read_member(alloc, key, value, reader)?;
+        read.push(member)?;
+    }
+    Ok(read)
+}
+
+// The same of members that are put in order first.
+fn read_by_key<'a, R: MemberReader>(
+    alloc: Global,
+    object: &[(&'a str, Value<'a>)],
+    reader: &R,
+) -> Result<List<R::Out>, Unread<FileFault>>
+    ensures { Gives (map R.plain) fault_in result
+        (members_by (R.reads reader.now) (members_data (members_view object.now) no_members)) }
+{
+    let members = by_key(alloc, object)?;
+    read_members(alloc, &members, reader)
+}
+
+// The same of any members.
+fn read_object<'a, R: MemberReader>(
+    alloc: Global,
+    object: &[(&'a str, Value<'a>)],
+    reader: &R,
+) -> Result<List<R::Out>, Unread<FileFault>>
+    ensures { Gives (map R.plain) fault_in result
+        (members_by (R.reads reader.now) (members_data (members_view object.now) no_members)) }
+{
+    if ascends(object) {
+        read_written(alloc, object, reader)
+    } else {
+        read_by_key(alloc, object, reader)
+    }
 }
 
 /// An object, each of whose members is read by a reader, in byte order of keys. The fault is
@@ -228,8 +278,8 @@ pub fn each_member<R: MemberReader>(
         (each_member (R.reads reader.now) (view value.now)) }
     ensures order { IfOk result (λ read. KeysAscend (view value.now)) }
 {
-    match members(alloc, value)? {
-        Some(members) => read_members(alloc, &members, reader),
+    match written(value) {
+        Some(object) => read_object(alloc, object, reader),
         None => Err(wrong(alloc, Why::Object)),
     }
 }

@@ -4,4 +4,4 @@ use Rattle.vk_json.proofs.OptionLemmas.{if_ok}
 use Rattle.vk_json.proofs.readers.each_member.Goals as goal
 
 pub returns-in-Some-clause-order : goal.returns-in-Some-clause-order
-returns-in-Some-clause-order g c = if_ok c.read_members.result _ (value_ascends (value_view c.args.value.now))
+returns-in-Some-clause-order g c = if_ok c.read_object.result _ (value_ascends (value_view c.args.value.now))
