@@ -96,7 +96,7 @@ pub(crate) fn settle(alloc: Global, mut rows: Rows) -> Result<Settled, Memory>
 {
     let mut settled = Settled {
         choices: Choices {
-            ports: IndexMap::new(alloc),
+            ports: IndexMap::with_capacity(alloc, rows.len())?,
         },
         conflicts: Vec::new(alloc),
     };

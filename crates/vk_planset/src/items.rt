@@ -55,7 +55,7 @@ fn feature_list(
     ensures { IfOk result (λ list. map feature_view list
         ≡ in_order feature_key (map feature_view features.now.keys)) }
 {
-    let mut list = List::new(alloc);
+    let mut list = List::with_capacity(alloc, features.len())?;
     push_core(features, &mut list)?;
     push_others(features, &mut list)?;
     Ok(list)
@@ -76,7 +76,7 @@ fn push_places(places: &BTreeSet<u32>, list: &mut List<u32>) -> Result<(), Memor
 fn place_list(alloc: Global, places: &BTreeSet<u32>) -> Result<List<u32>, Memory>
     ensures { IfOk result (λ list. list ≡ in_order number_key places.now.keys) }
 {
-    let mut list = List::new(alloc);
+    let mut list = List::with_capacity(alloc, places.len())?;
     push_places(places, &mut list)?;
     Ok(list)
 }
@@ -141,7 +141,7 @@ pub(crate) fn items_of(
     ensures { IfOk result (λ items. map item_view items ≡ made_all choices.now.ports.entries
         (map instance_view order.now.keys) seats.now) }
 {
-    let mut items = List::new(alloc);
+    let mut items = List::with_capacity(alloc, order.len())?;
     for (place, inst) in order.as_slice().iter().enumerate() {
         push_at(alloc, choices, inst, seats, place, &mut items)?;
     }

@@ -153,7 +153,7 @@ pub(crate) fn places_of(
     ensures { IfOk result (λ places. places.items
         ≡ map (place_of (map instance_view order.now.keys)) (map fact_view needs.now)) }
 {
-    let mut places = Vec::new(alloc);
+    let mut places = Vec::with_capacity(alloc, needs.len())?;
     for fact in needs {
         places.push(place_of(order, fact))?;
     }

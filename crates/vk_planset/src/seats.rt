@@ -99,7 +99,7 @@ fn feature_of(fact: &Fact) -> Option<&FeatureName>
 fn seats_for(alloc: Global, count: usize) -> Result<Vec<Seat>, Memory>
     ensures { IfOk result (λ seats. AreSeats count (λ p. []) (λ p. []) seats.items) }
 {
-    let mut seats = Vec::new(alloc);
+    let mut seats = Vec::with_capacity(alloc, count)?;
     for _ in 0..count {
         seats.push(Seat::new(alloc))?;
     }

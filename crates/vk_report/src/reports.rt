@@ -79,6 +79,11 @@ fn push_faults(alloc: Global, report: &mut String, faults: &List<Fault>) -> Resu
     Ok(())
 }
 
+// How many bytes so many lines have, if each is as long as most are.
+fn usual_bytes(lines: usize) -> usize {
+    lines.saturating_mul(52)
+}
+
 fn planned_report(
     alloc: Global,
     items: &List<Item>,
@@ -87,7 +92,9 @@ fn planned_report(
     ensures { IfOk result (λ report. string_bytes report
         ≡ report_text (planned (map item_view items.now) (reasons_view reasons.now))) }
 {
-    let mut report = String::from_str(alloc, "vcpkg-plan 1\nstatus planned\n")?;
+    let lines = items.len().saturating_add(reasons.len());
+    let mut report = String::with_capacity(alloc, usual_bytes(lines))?;
+    report.push_str("vcpkg-plan 1\nstatus planned\n")?;
     push_items(&mut report, items)?;
     push_reasons(&mut report, reasons)?;
     Ok(report)

@@ -193,6 +193,12 @@ fn push_all(
     Ok(())
 }
 
+// How many facts so many dependencies ask for, if each asks for its port, the port's default
+// features and a version. More take more memory, and nothing else.
+fn usual_facts(dependencies: usize) -> usize {
+    dependencies.saturating_mul(3)
+}
+
 // What a feature of a manifest asks for.
 fn asked_of(
     alloc: Global,
@@ -205,14 +211,9 @@ fn asked_of(
         (requirer_view who.entry) (feature_view feature.now) (manifest_view manifest.now)) }
 {
     let marks = rules.root().marks(who.triplet());
-    let mut facts = List::new(alloc);
-    push_all(
-        rules,
-        who,
-        marks,
-        dependencies_of(manifest, feature),
-        &mut facts,
-    )?;
+    let dependencies = dependencies_of(manifest, feature);
+    let mut facts = List::with_capacity(alloc, usual_facts(dependencies.len()))?;
+    push_all(rules, who, marks, dependencies, &mut facts)?;
     push_uses(who, defaults_of(manifest, feature), marks, &mut facts)?;
     Ok(facts)
 }

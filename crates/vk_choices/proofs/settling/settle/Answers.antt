@@ -13,12 +13,12 @@ use Rattle.vk_choices.proofs.settling.settle.Goals as goal
 
 pub loop-port-init : goal.loop-port-init
 loop-port-init c =
-    let start : Settled = record { choices = record { ports = c.new.result }; conflicts = c.new-2.result } in
+    let start : Settled = record { choices = record { ports = c.in_ok-with_capacity.field-0 }; conflicts = c.new.result } in
     record {
       done = [];
       split = refl;
-      settles = nothing_settled start (ap (map choice_view) c.new.ensures.empty) (ap (map fault_view) c.new-2.ensures.items);
-      behind = λ p q h k. absurd (contains_nothing p (subst (λ l. Contains (keys_of l) p) c.new.ensures.empty h));
+      settles = nothing_settled start (ap (map choice_view) c.in_ok-with_capacity.ensures.empty) (ap (map fault_view) c.new.ensures.items);
+      behind = λ p q h k. absurd (contains_nothing p (subst (λ l. Contains (keys_of l) p) c.in_ok-with_capacity.ensures.empty h));
     }
 
 pub settle_port-requires : goal.settle_port-requires

@@ -10,4 +10,4 @@ returns c =
     let fs = map feature_view c.args.features.now.keys in
     features_in_order c.args.features.now.keys (map feature_view c.push_others.new.list) c.in_ok-push_others.ensures.ordered
     (c.in_ok-push_others.ensures.others
-    ∙ ap (λ l. l ++ filter (λ f. not (bytes_eq f core)) fs) (c.in_ok-push_core.ensures ∙ ap (λ l. map feature_view l ++ filter (λ f. bytes_eq f core) fs) c.new-list.ensures))
+    ∙ ap (λ l. l ++ filter (λ f. not (bytes_eq f core)) fs) (c.in_ok-push_core.ensures ∙ ap (λ l. map feature_view l ++ filter (λ f. bytes_eq f core) fs) c.in_ok-list.ensures))
