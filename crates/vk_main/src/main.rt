@@ -49,8 +49,17 @@ fn words_of(rt: &HostRuntime) -> Result<List<Word>, Memory>
     Ok(words)
 }
 
+// Takes a large block of memory and gives it back at once. The C library's allocator takes it as a
+// sign that large blocks come and go, and from then on keeps what is freed for the next one, where
+// it would give pages back and take new ones (mallopt(3), M_MMAP_THRESHOLD). Where there is no such
+// block, the program runs as well, and slower.
+fn keep_freed(alloc: Global) {
+    let _ = Vec::<u8>::with_capacity(alloc, 16 << 20);
+}
+
 fn main(rt: HostRuntime) -> ExitCode {
     let alloc = rt.alloc();
+    keep_freed(alloc);
     let mut out = OutSink::new(rt.stdout());
     let mut err = OutSink::new(rt.stderr());
     match words_of(&rt) {
