@@ -1,8 +1,8 @@
 -- The first level, the next, the last, and too many; and what is known of pages, where they are told.
-use Rattle.std.proofs.Common.{◌≡◌, ◌≤◌, ℕ, List, [], ◌∷◌, ◌++◌, length, take, ap, sym, ◌∙◌, subst, inl, inr, arith}
+use Rattle.std.proofs.Common.{◌≡◌, ◌≤◌, ℕ, List, [], ◌∷◌, ◌++◌, length, take, drop, ap, sym, ◌∙◌, subst, inl, inr, arith}
 use Rattle.std.specs.Prelude.{Option, Some, None, IfSome, Err}
 use Rattle.std.specs.List.{Contains}
-use Rattle.std.proofs.lemmas.List.{length-append, length-map}
+use Rattle.std.proofs.lemmas.List.{length-append, length-map, take_all, drop_all, take-append-drop}
 use Rattle.std.proofs.lemmas.List.Elements.{Contains-push_cases}
 use Rattle.std.proofs.Math.Seq.{take-append_seam}
 use Rattle.vk_spec.specs.Settings.{Setting}
@@ -18,7 +18,7 @@ use Rattle.vk_resolution.proofs.Members.{map_contains}
 use Rattle.vk_resolution.proofs.ClosureLemmas.{too_many}
 use Rattle.vk_resolution.proofs.ClosingLemmas.{closing_first, closing_next, closing_last, facts_more, facts_within}
 use Rattle.vk_worklist.specs.declared.faults.CloseFault.{CloseFault}
-use Rattle.vk_worklist.specs.Entries.{reason_of, reasons_in, facts_in, IsApart, IsNextLevel, IsFirstLevel, AreRoots}
+use Rattle.vk_worklist.specs.Entries.{reason_of, reasons_in, facts_in, IsNoted, IsNextLevel, IsFirstLevel, AreRoots}
 use Rattle.vk_worklist.specs.Faults.{OnFault}
 use Rattle.vk_worklist.proofs.MapLemmas.{Entries}
 
@@ -38,20 +38,20 @@ fault_means (stop.Memory m) most f h = tt
 
 -- ---- the first level
 
-pub first_apart : (given new : List Reason) → NotesReasons [] given [] new → IsApart [] (facts_of new)
-first_apart given new notes = record { apart = λ x h known. contains_nothing x known; distinct = notes.facts.distinct tt }
-
-pub first_made : (given fresh new : List Reason) → NotesReasons [] given [] fresh → IsNextLevel [] fresh new → IsFirstLevel given new
-first_made given fresh new notes level = subst (IsFirstLevel given) (sym level.behind) (record {
-  to = facts_within level.sorted given (λ r h. given_of r (level.from r h));
-  from = λ x h. elim (notes.facts.complete x h) [ inl known ↦ absurd (contains_nothing x known) | inr noted ↦ facts_within fresh level.sorted level.to x noted ];
-  distinct = level.distinct;
-  ascends = level.ascends;
-  causes = λ r h. given_of r (level.from r h);
-})
+pub first_made : (given fresh new : Entries) → IsNoted [] given fresh → IsNextLevel [] (reasons_in fresh) (reasons_in new) → IsFirstLevel (reasons_in given) (reasons_in new)
+first_made given fresh new noted level = made (subst (NotesReasons [] (reasons_in given) []) (sym (ap reasons_in noted.behind)) noted.noted)
   where
-    given_of : (r : Reason) → Contains fresh r → Contains given r
-    given_of r h = elim (notes.causes r h) [ inl none ↦ absurd (contains_nothing r none) | inr made ↦ made.0 ]
+    made : NotesReasons [] (reasons_in given) [] (reasons_in fresh) → IsFirstLevel (reasons_in given) (reasons_in new)
+    made notes = subst (IsFirstLevel (reasons_in given)) (sym level.behind) (record {
+      to = facts_within level.sorted (reasons_in given) (λ r h. given_of r (level.from r h));
+      from = λ x h. elim (notes.facts.complete x h) [ inl known ↦ absurd (contains_nothing x known) | inr new_one ↦ facts_within (reasons_in fresh) level.sorted level.to x new_one ];
+      distinct = level.distinct;
+      ascends = level.ascends;
+      causes = λ r h. given_of r (level.from r h);
+    })
+      where
+        given_of : (r : Reason) → Contains (reasons_in fresh) r → Contains (reasons_in given) r
+        given_of r h = elim (notes.causes r h) [ inl none ↦ absurd (contains_nothing r none) | inr put ↦ put.0 ]
 
 pub first_closing : (o : Option Pages) (s : Setting) (given new : List Reason) → AreRoots s given → IsFirstLevel given new → IfSome o (λ pages. IsClosing (inputs_of s pages) new [] [])
 first_closing None s given new roots level = tt
@@ -82,9 +82,26 @@ next_closing None s lines fresh new was level = tt
 next_closing (Some pages) s lines fresh new was level =
     subst (λ l. IsClosing (inputs_of s pages) l (facts_of lines) []) (sym level.behind) (closing_next (inputs_of s pages) lines fresh level.sorted was level.to level.from level.distinct level.ascends)
 
-pub last_closed : (o : Option Pages) (s : Setting) (lines fresh : List Reason) → fresh ≡ [] → IfSome o (λ pages. IsClosing (inputs_of s pages) lines (facts_of lines) fresh) → IfSome o (λ pages. IsReasons (inputs_of s pages) lines)
-last_closed None s lines fresh none was = tt
-last_closed (Some pages) s lines fresh none was = closing_last (inputs_of s pages) lines (subst (IsClosing (inputs_of s pages) lines (facts_of lines)) none was)
+-- nothing stands behind the lines
+pub last_closed : (o : Option Pages) (s : Setting) (lines all : Entries) → take (length lines) all ≡ lines → length all ≡ length lines
+    → IfSome o (λ pages. IsClosing (inputs_of s pages) (reasons_in lines) (facts_in lines) (reasons_in (drop (length lines) all))) → IfSome o (λ pages. IsReasons (inputs_of s pages) (reasons_in all))
+last_closed None s lines all kept long was = tt
+last_closed (Some pages) s lines all kept long was =
+    subst (λ es. IsReasons (inputs_of s pages) (reasons_in es)) (sym (sym (take_all (length lines) all (omega (arith, long))) ∙ kept))
+    (closing_last (inputs_of s pages) (reasons_in lines) (subst (λ es. IsClosing (inputs_of s pages) (reasons_in lines) (facts_in lines) (reasons_in es)) (drop_all (length lines) all (omega (arith, long))) was))
+
+pub kept_within : (lines all : Entries) → take (length lines) all ≡ lines → length lines ≤ length all
+kept_within lines all kept =
+    let parts = ap length (take-append-drop (length lines) all) in
+    let long = length-append (take (length lines) all) (drop (length lines) all) in
+    let same = ap length kept in
+    omega (arith, parts, long, same)
+
+pub level_behind : (lines all new : Entries) (settled : ℕ) → settled ≡ length lines → take (length lines) all ≡ lines → IsNextLevel (reasons_in (take settled all)) (reasons_in (drop settled all)) (reasons_in new)
+    → IsNextLevel (reasons_in lines) (reasons_in (drop (length lines) all)) (reasons_in new)
+level_behind lines all new settled is kept level =
+    subst (λ es. IsNextLevel (reasons_in es) (reasons_in (drop (length lines) all)) (reasons_in new)) kept
+    (subst (λ n. IsNextLevel (reasons_in (take n all)) (reasons_in (drop n all)) (reasons_in new)) is level)
 
 -- the lines of before are the first of the new ones
 pub lines_before : (lines fresh new : List Reason) (n : ℕ) → IsNextLevel lines fresh new → n ≡ length lines → facts_of lines ≡ take n (facts_of new)

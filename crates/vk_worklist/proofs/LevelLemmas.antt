@@ -1,11 +1,11 @@
 -- A level's end, and one line more.
-use Rattle.std.proofs.Common.{◌≡◌, ◌+◌, ℕ, Bool, zero, suc, true, false, refl, List, [], ◌∷◌, ◌++◌, take, drop, inl, inr, ap, sym, ◌∙◌, subst, arith}
+use Rattle.std.proofs.Common.{◌≡◌, ◌+◌, ◌<◌, ◌≤◌, ℕ, Bool, zero, suc, true, false, refl, List, [], ◌∷◌, ◌++◌, take, drop, inl, inr, ap, sym, ◌∙◌, subst, arith}
 use Rattle.std.specs.Prelude.{Option, Some, None, IfSome, slice_get, length, reverse}
 use Rattle.std.specs.Map.{keys_of}
 use Rattle.std.specs.List.{Contains, IsDistinct, AllByRecursion}
 use Rattle.std.specs.List.Sorted.{IsSorted, IsSortedBy, IsPermutation}
 use Rattle.std.specs.Ordering.{is_lt}
-use Rattle.std.proofs.lemmas.List.{map-append, take-append-drop, length-append, length-reverse, reverse-reverse, reverse-append}
+use Rattle.std.proofs.lemmas.List.{map-append, take-append-drop, take-append-le, length-append, length-map, length-reverse, reverse-reverse, reverse-append}
 use Rattle.std.proofs.lemmas.List.Elements.{Contains-append_left, Contains-append_right}
 use Rattle.std.proofs.lemmas.List.Sorted.{IsPermutation-sym, IsPermutation-map, IsPermutation-trans, IsPermutation-reverse, length_permutation}
 use Rattle.std.specs.Cmp.{on_equiv}
@@ -18,19 +18,20 @@ use Rattle.vk_spec.proofs.ListLemmas.{contains_nothing, contains_first, contains
 use Rattle.vk_resolution.specs.Givens.{Pages}
 use Rattle.vk_resolution.specs.Asking as plain
 use Rattle.vk_resolution.specs.Reasons.{Reason, facts_of}
-use Rattle.vk_resolution.specs.Closing.{Produces, NotesReasons, IsTooMuch, IsClosing}
+use Rattle.vk_resolution.specs.Closing.{Produces, IsTooMuch, IsClosing}
 use Rattle.vk_resolution.specs.Closures.{HasTooManyFacts}
 use Rattle.vk_resolution.specs.Planner.{inputs_of}
 use Rattle.vk_resolution.proofs.Members.{true_false}
-use Rattle.vk_resolution.proofs.ClosingLemmas.{closing_more, closing_forced, facts_more, facts_within}
+use Rattle.vk_resolution.proofs.ClosingLemmas.{closing_more, closing_forced, facts_within}
 use Rattle.vk_model.specs.declared.facts.Fact.{Fact}
 use Rattle.vk_model.specs.declared.reasons.Cause.{Cause}
 use Rattle.vk_model.specs.FactViews.{fact_view}
 use Rattle.vk_model.specs.FactKeys.{key_of}
 use Rattle.vk_worklist.specs.Alone.{Follows}
-use Rattle.vk_worklist.specs.Entries.{reason_of, reasons_in, facts_in, IsApart, IsNextLevel}
+use Rattle.vk_worklist.specs.Entries.{reason_of, reasons_in, facts_in, IsNoted, IsNextLevel}
 use Rattle.vk_worklist.specs.Orders.{is_same, fact_order}
 use Rattle.vk_worklist.proofs.MapLemmas.{Entries, same_view, view_same, put_all, sorted_ascends, permuted_within}
+use Rattle.vk_worklist.proofs.NoteLemmas.{facts_split, noted_behind, much_behind}
 
 -- ---- a level's end
 
@@ -68,17 +69,33 @@ distinct_unique (e ∷ es) distinct = (apart_keys e.0 es distinct.0, distinct_un
 moved_distinct : (es fs : Entries) → IsPermutation es fs → NoRepeats (facts_in es) → NoRepeats (facts_in fs)
 moved_distinct es fs moved distinct = unique_distinct fs (distinct_permutation (on_equiv key_of (lists_equiv nat_list_eq_equiv)) (keys_of es) (keys_of fs) (IsPermutation-map (λ e. e.0) es fs moved) (distinct_unique es distinct))
 
+pub first_distinct : {X : Type 0} (xs ys : List X) → NoRepeats (xs ++ ys) → NoRepeats xs
+first_distinct [] ys each = tt
+first_distinct (x ∷ xs) ys each = ((λ h. each.0 (Contains-append_left xs ys x h)), first_distinct xs ys each.1)
+
+last_distinct : {X : Type 0} (xs ys : List X) → NoRepeats (xs ++ ys) → NoRepeats ys
+last_distinct [] ys each = each
+last_distinct (x ∷ xs) ys each = last_distinct xs ys each.1
+
+parts_apart : {X : Type 0} (xs ys : List X) → NoRepeats (xs ++ ys) → (y : X) → Contains ys y → Contains xs y → ⊥
+parts_apart [] ys each y h held = contains_nothing y held
+parts_apart (x ∷ xs) ys each y h held =
+    elim (contains_cases x y xs held) [
+      | inl same ↦ each.0 (subst (Contains (xs ++ ys)) (sym same) (Contains-append_right xs ys y h))
+      | inr later ↦ parts_apart xs ys each.1 y h later
+    ]
+
 -- the fresh entries, sorted, stand behind the lines
 pub record IsAdded (lines fresh sorted new : Entries) : Type 0 where
   pub behind : new ≡ lines ++ sorted
   pub level : IsNextLevel (reasons_in lines) (reasons_in fresh) (reasons_in new)
-  pub distinct : NoRepeats (facts_in lines) → NoRepeats (facts_in new)
+  pub distinct : NoRepeats (facts_in new)
 
-pub level_added : (lines fresh sorted new : Entries) → IsApart (facts_in lines) (facts_in fresh) → IsPermutation fresh sorted → IsSorted fact_order (keys_of sorted) → new ≡ insert_all is_same lines sorted → IsAdded lines fresh sorted new
-level_added lines fresh sorted new apart moved order added =
-    let distinct : NoRepeats (facts_in sorted) = moved_distinct fresh sorted moved apart.distinct in
+level_added : (lines fresh sorted new : Entries) → NoRepeats (facts_in lines ++ facts_in fresh) → IsPermutation fresh sorted → IsSorted fact_order (keys_of sorted) → new ≡ insert_all is_same lines sorted → IsAdded lines fresh sorted new
+level_added lines fresh sorted new each moved order added =
+    let distinct : NoRepeats (facts_in sorted) = moved_distinct fresh sorted moved (last_distinct (facts_in lines) (facts_in fresh) each) in
     let from : IsWithin (reasons_in sorted) (reasons_in fresh) = permuted_within sorted fresh (IsPermutation-sym fresh sorted moved) in
-    let unknown : (x : plain.Fact) → Contains (facts_in sorted) x → Contains (facts_in lines) x → ⊥ = λ x h held. apart.apart x (facts_within (reasons_in sorted) (reasons_in fresh) from x h) held in
+    let unknown : (x : plain.Fact) → Contains (facts_in sorted) x → Contains (facts_in lines) x → ⊥ = λ x h held. parts_apart (facts_in lines) (facts_in fresh) each x (facts_within (reasons_in sorted) (reasons_in fresh) from x h) held in
     let behind : new ≡ lines ++ sorted = added ∙ put_all lines sorted unknown distinct in
     record {
       behind = behind;
@@ -90,8 +107,8 @@ level_added lines fresh sorted new apart moved order added =
         distinct = distinct;
         ascends = sorted_ascends sorted order distinct;
       };
-      distinct = λ old. subst NoRepeats (sym (ap facts_of (ap reasons_in behind ∙ map-append reason_of lines sorted) ∙ facts_more (reasons_in lines) (reasons_in sorted)))
-          (no_repeats_append (facts_in lines) (facts_in sorted) old distinct (λ x held h. unknown x h held));
+      distinct = subst NoRepeats (sym (facts_split lines sorted new behind))
+          (no_repeats_append (facts_in lines) (facts_in sorted) (first_distinct (facts_in lines) (facts_in fresh) each) distinct (λ x held h. unknown x h held));
     }
 
 -- what is put in order, and then turned, falls
@@ -102,17 +119,22 @@ pub falling_sorted : (sorted new : Entries) → IsSortedBy (λ a b. is_lt (fact_
 falling_sorted sorted new order turned = subst (λ l. IsSorted fact_order (keys_of l)) (sym (ap reverse turned ∙ reverse-reverse sorted)) (sorted_keys (λ a b. is_lt (fact_order a b)) sorted order)
 
 -- by way of entries that were moved out and put in falling order
-pub level_by : (lines fresh moved falling new : Entries) → IsApart (facts_in lines) (facts_in fresh) → moved ≡ reverse fresh → IsPermutation moved (reverse falling) → IsSorted fact_order (keys_of (reverse falling))
-    → new ≡ insert_all is_same lines (reverse falling) → IsAdded lines fresh (reverse falling) new
-level_by lines fresh moved falling new apart out turned order added =
-    level_added lines fresh (reverse falling) new apart (IsPermutation-trans fresh moved (reverse falling) (subst (IsPermutation fresh) (sym out) (IsPermutation-reverse fresh)) turned) order added
+module _ (old lines moved falling new : Entries) (settled : ℕ) (each : NoRepeats (facts_in old)) (kept : lines ≡ take settled old) (out : moved ≡ reverse (drop settled old)) (turned : IsPermutation moved (reverse falling))
+    (order : IsSorted fact_order (keys_of (reverse falling))) (added : new ≡ insert_all is_same lines (reverse falling)) where
+  pub level_by : IsAdded (take settled old) (drop settled old) (reverse falling) new
+  level_by =
+      level_added (take settled old) (drop settled old) (reverse falling) new
+      (subst NoRepeats (facts_split (take settled old) (drop settled old) old (sym (take-append-drop settled old))) each)
+      (IsPermutation-trans (drop settled old) moved (reverse falling) (subst (IsPermutation (drop settled old)) (sym out) (IsPermutation-reverse (drop settled old))) turned) order
+      (added ∙ ap (λ l. insert_all is_same l (reverse falling)) kept)
 
-pub level_long : (lines fresh moved falling new : Entries) → IsApart (facts_in lines) (facts_in fresh) → moved ≡ reverse fresh → IsPermutation moved (reverse falling) → IsSorted fact_order (keys_of (reverse falling))
-    → new ≡ insert_all is_same lines (reverse falling) → length new ≡ length lines + length fresh
-level_long lines fresh moved falling new apart out turned order added =
-    ap length (level_by lines fresh moved falling new apart out turned order added).behind
-    ∙ length-append lines (reverse falling)
-    ∙ ap (λ n. length lines + n) (length_permutation moved (reverse falling) turned ∙ ap length out ∙ length-reverse fresh)
+  pub level_long : length new ≡ length old
+  level_long =
+      ap length level_by.behind
+      ∙ length-append (take settled old) (reverse falling)
+      ∙ ap (λ n. length (take settled old) + n) (length_permutation moved (reverse falling) turned ∙ ap length out ∙ length-reverse (drop settled old))
+      ∙ sym (length-append (take settled old) (drop settled old))
+      ∙ ap length (take-append-drop settled old)
 
 -- the last of a list is the first of it turned
 pub turned_last : {X : Type 0} (xs ys : List X) (x : X) → xs ≡ ys ++ x ∷ [] → reverse xs ≡ x ∷ reverse ys
@@ -120,25 +142,19 @@ turned_last xs ys x split = ap reverse split ∙ reverse-append ys (x ∷ [])
 
 -- ---- one line more
 
-pub apart_more : (lines : List plain.Fact) (brought old new : List Reason) → NotesReasons lines brought old new → IsApart lines (facts_of old) → IsApart lines (facts_of new)
-apart_more lines brought old new notes was = record {
-  apart = λ x h known. elim (notes.facts.fresh x h) [ inl before ↦ was.apart x before known | inr unknown ↦ unknown known ];
-  distinct = notes.facts.distinct was.distinct;
-}
+-- behind the lines stand others
+module _ (lines fresh all : Entries) (split : all ≡ lines ++ fresh) where
+  pub front_facts : (n : ℕ) → n ≤ length lines → take n (facts_in all) ≡ take n (facts_in lines)
+  front_facts n within =
+      ap (take n) (facts_split lines fresh all split)
+      ∙ take-append-le n (facts_in lines) (facts_in fresh) (subst (λ m. n ≤ m) (sym (length-map (reasons_in lines) (λ (r : Reason). r.fact) ∙ length-map lines reason_of)) within)
+
+  pub front_line : (n : ℕ) (y : plain.Fact) → n < length lines → take (n + 1) (facts_in all) ≡ take n (facts_in all) ++ y ∷ [] → take (n + 1) (facts_in lines) ≡ take n (facts_in lines) ++ y ∷ []
+  front_line n y within next = sym (front_facts (n + 1) (omega (arith, within))) ∙ next ∙ ap (λ l. l ++ y ∷ []) (front_facts n (omega (arith, within)))
 
 -- the lines up to that at hand, and those behind it
 pub line_whole : (facts : List plain.Fact) (n : ℕ) (y : plain.Fact) → take (n + 1) facts ≡ take n facts ++ y ∷ [] → (take n facts ++ y ∷ []) ++ drop (n + 1) facts ≡ facts
 line_whole facts n y next = ap (λ l. l ++ drop (n + 1) facts) (sym next) ∙ take-append-drop (n + 1) facts
-
-pub one_more : (o : Option Pages) (s : Setting) (lines : List Reason) (n : ℕ) (y : plain.Fact) (brought old new : List Reason)
-    → take (n + 1) (facts_of lines) ≡ take n (facts_of lines) ++ y ∷ []
-    → IfSome o (λ pages. IsClosing (inputs_of s pages) lines (take n (facts_of lines)) old)
-    → IfSome o (λ pages. Produces (inputs_of s pages) (take n (facts_of lines)) y brought) → NotesReasons (facts_of lines) brought old new
-    → IfSome o (λ pages. IsClosing (inputs_of s pages) lines (take (n + 1) (facts_of lines)) new)
-one_more None s lines n y brought old new next was produces notes = tt
-one_more (Some pages) s lines n y brought old new next was produces notes =
-    subst (λ l. IsClosing (inputs_of s pages) lines l new) (sym next)
-    (closing_more (inputs_of s pages) lines (take n (facts_of lines)) (drop (n + 1) (facts_of lines)) old y brought new (line_whole (facts_of lines) n y next) was produces notes)
 
 stands : (lines : List Reason) (n : ℕ) (y : plain.Fact) → take (n + 1) (facts_of lines) ≡ take n (facts_of lines) ++ y ∷ [] → Contains (facts_of lines) y
 stands lines n y next =
@@ -146,20 +162,31 @@ stands lines n y next =
     (Contains-append_left (take n (facts_of lines) ++ y ∷ []) (drop (n + 1) (facts_of lines)) y (Contains-append_right (take n (facts_of lines)) (y ∷ []) y (contains_first y [])))
 
 -- what stands on a line follows from the root facts
-pub line_follows : (o : Option Pages) (s : Setting) (lines : List Reason) (n : ℕ) (y : plain.Fact) (fresh : List Reason) → take (n + 1) (facts_of lines) ≡ take n (facts_of lines) ++ y ∷ []
-    → IfSome o (λ pages. IsClosing (inputs_of s pages) lines (take n (facts_of lines)) fresh) → IfSome o (λ pages. Follows (inputs_of s pages) y)
-line_follows None s lines n y fresh next was = tt
-line_follows (Some pages) s lines n y fresh next was = (was.work.rank, was.work.ordered.level.sound y (stands lines n y next))
+pub line_follows : (o : Option Pages) (s : Setting) (lines fresh all : Entries) (n : ℕ) (y : plain.Fact) → all ≡ lines ++ fresh → n < length lines → take (n + 1) (facts_in all) ≡ take n (facts_in all) ++ y ∷ []
+    → IfSome o (λ pages. IsClosing (inputs_of s pages) (reasons_in lines) (take n (facts_in lines)) (reasons_in fresh)) → IfSome o (λ pages. Follows (inputs_of s pages) y)
+line_follows None s lines fresh all n y split within next was = tt
+line_follows (Some pages) s lines fresh all n y split within next was = (was.work.rank, was.work.ordered.level.sound y (stands (reasons_in lines) n y (front_line lines fresh all split n y within next)))
 
-pub one_forced : (o : Option Pages) (s : Setting) (lines : List Reason) (n : ℕ) (y : plain.Fact) (brought old : List Reason) (most : ℕ) → s.max_facts ≡ most
-    → take (n + 1) (facts_of lines) ≡ take n (facts_of lines) ++ y ∷ []
-    → IfSome o (λ pages. IsClosing (inputs_of s pages) lines (take n (facts_of lines)) old)
-    → IfSome o (λ pages. Produces (inputs_of s pages) (take n (facts_of lines)) y brought) → IsTooMuch (facts_of lines) brought old most
+pub one_more : (o : Option Pages) (s : Setting) (lines fresh all brought new : Entries) (n : ℕ) (y : plain.Fact) → all ≡ lines ++ fresh → n < length lines → take (n + 1) (facts_in all) ≡ take n (facts_in all) ++ y ∷ []
+    → IfSome o (λ pages. IsClosing (inputs_of s pages) (reasons_in lines) (take n (facts_in lines)) (reasons_in fresh))
+    → IfSome o (λ pages. Produces (inputs_of s pages) (take n (facts_in all)) y (reasons_in brought)) → (noted : IsNoted all brought new)
+    → IfSome o (λ pages. IsClosing (inputs_of s pages) (reasons_in lines) (take (n + 1) (facts_in lines)) (reasons_in (fresh ++ noted.more)))
+one_more None s lines fresh all brought new n y split within next was produces noted = tt
+one_more (Some pages) s lines fresh all brought new n y split within next was produces noted =
+    let at : take (n + 1) (facts_in lines) ≡ take n (facts_in lines) ++ y ∷ [] = front_line lines fresh all split n y within next in
+    subst (λ l. IsClosing (inputs_of s pages) (reasons_in lines) l (reasons_in (fresh ++ noted.more))) (sym at)
+    (closing_more (inputs_of s pages) (reasons_in lines) (take n (facts_in lines)) (drop (n + 1) (facts_in lines)) (reasons_in fresh) y (reasons_in brought) (reasons_in (fresh ++ noted.more)) (line_whole (facts_in lines) n y at) was
+    (subst (λ l. Produces (inputs_of s pages) l y (reasons_in brought)) (front_facts lines fresh all split n (omega (arith, within))) produces) (noted_behind lines fresh all brought new split noted))
+
+pub one_forced : (o : Option Pages) (s : Setting) (lines fresh all brought : Entries) (n : ℕ) (y : plain.Fact) (most : ℕ) → all ≡ lines ++ fresh → n < length lines → take (n + 1) (facts_in all) ≡ take n (facts_in all) ++ y ∷ []
+    → IfSome o (λ pages. IsClosing (inputs_of s pages) (reasons_in lines) (take n (facts_in lines)) (reasons_in fresh))
+    → IfSome o (λ pages. Produces (inputs_of s pages) (take n (facts_in all)) y (reasons_in brought)) → s.max_facts ≡ most → IsTooMuch (facts_in all) (reasons_in brought) [] most
     → IfSome o (λ pages. HasTooManyFacts (inputs_of s pages))
-one_forced None s lines n y brought old most limit next was produces much = tt
-one_forced (Some pages) s lines n y brought old most limit next was produces much =
-    closing_forced (inputs_of s pages) lines (take n (facts_of lines)) old y brought
-    (stands lines n y next) was produces (subst (IsTooMuch (facts_of lines) brought old) (sym limit) much)
+one_forced None s lines fresh all brought n y most split within next was produces limit much = tt
+one_forced (Some pages) s lines fresh all brought n y most split within next was produces limit much =
+    closing_forced (inputs_of s pages) (reasons_in lines) (take n (facts_in lines)) (reasons_in fresh) y (reasons_in brought) (stands (reasons_in lines) n y (front_line lines fresh all split n y within next)) was
+    (subst (λ l. Produces (inputs_of s pages) l y (reasons_in brought)) (front_facts lines fresh all split n (omega (arith, within))) produces)
+    (subst (IsTooMuch (facts_in lines) (reasons_in brought) (reasons_in fresh)) (sym limit) (much_behind lines fresh all brought most split much))
 
 -- the next line is taken up behind those before it
 next_line : (es : Entries) (n : ℕ) (e : Fact × Cause) → slice_get es n ≡ Some e → take (suc n) (facts_in es) ≡ take n (facts_in es) ++ fact_view e.0 ∷ []

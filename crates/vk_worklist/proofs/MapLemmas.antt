@@ -1,5 +1,5 @@
 -- Index maps of facts, as lists of reasons: what is among them, one more at the end, a sort, and one behind the other.
-use Rattle.std.proofs.Common.{◌≡◌, ◌↔◌, ◌<◌, ◌+◌, suc, Bool, true, false, cond, List, [], ◌∷◌, ◌++◌, length, get_or, inl, inr, refl, ap, sym, ◌∙◌, subst, arith}
+use Rattle.std.proofs.Common.{◌≡◌, ◌<◌, ◌+◌, suc, Bool, true, false, cond, List, [], ◌∷◌, ◌++◌, length, get_or, inl, inr, refl, ap, sym, ◌∙◌, subst, arith}
 use Rattle.std.specs.Prelude.{Option, Some, None, is_some, unwrap_or}
 use Rattle.std.specs.declared.cmp.Ordering.{Ordering}
 use Rattle.std.specs.declared.cmp.Ordering.TheVariants.{Less, Equal, Greater}
@@ -62,10 +62,6 @@ contains_found x (e ∷ es) h =
       | inl same ↦ first_found (lookup (is_same x) es) e.1 (is_same x e.0) (view_same x e.0 (sym same))
       | inr later ↦ later_found (lookup (is_same x) es) e.1 (is_same x e.0) (contains_found x es later)
     ]
-
--- what a test doesn't find isn't there
-pub absent : {b : Bool} {P : Type 0} → (b ≡ true) ↔ P → b ≡ false → P → ⊥
-absent {b} test nothing held = true_false b (test.1 held) nothing
 
 -- ---- one more, and more
 

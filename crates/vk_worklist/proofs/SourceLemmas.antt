@@ -2,7 +2,7 @@
 use Rattle.std.proofs.Common.{◌≡◌, ◌<◌, ◌+◌, ℕ, zero, suc, Bool, true, false, cond, List, [], ◌∷◌, ◌++◌, length, take, drop, inl, inr, refl, ap, sym, ◌∙◌, subst, arith}
 use Rattle.std.specs.Prelude.{Option, Some, None, IfSome}
 use Rattle.std.specs.List.{Contains}
-use Rattle.std.proofs.lemmas.List.{take-append-drop, append-nil, length-map}
+use Rattle.std.proofs.lemmas.List.{take-append-drop, length-map}
 use Rattle.std.proofs.lemmas.List.Elements.{Contains-append_left, Contains-append_right}
 use Rattle.vk_spec.specs.Lists.{NoRepeats}
 use Rattle.vk_spec.specs.Settings.{Setting}
@@ -20,7 +20,7 @@ use Rattle.vk_worklist.specs.Alone.{joins, alone_at}
 use Rattle.vk_worklist.specs.Rows.{needs_of, floors_of, is_need_of, is_floor_at, HasLines}
 use Rattle.vk_worklist.specs.Joining.{joined}
 use Rattle.vk_worklist.specs.declared.rows.Row.{Row}
-use Rattle.vk_worklist.proofs.LevelLemmas.{line_whole}
+use Rattle.vk_worklist.proofs.LevelLemmas.{first_distinct, line_whole}
 use Rattle.vk_worklist.proofs.JoinLemmas.{joined_if, produced, has_lines_more}
 
 -- the line at hand is new among those that were taken up
@@ -34,10 +34,6 @@ not_before (x ∷ taken) y rest distinct h =
 
 not_yet : (facts : List Fact) (n : ℕ) (y : Fact) → NoRepeats facts → take (n + 1) facts ≡ take n facts ++ y ∷ [] → Contains (take n facts) y → ⊥
 not_yet facts n y distinct next h = not_before (take n facts) y (drop (n + 1) facts) (subst NoRepeats (sym (line_whole facts n y next)) distinct) h
-
-first_distinct : (xs ys : List Fact) → NoRepeats (xs ++ ys) → NoRepeats xs
-first_distinct [] ys d = tt
-first_distinct (x ∷ xs) ys d = ((λ h. d.0 (Contains-append_left xs ys x h)), first_distinct xs ys d.1)
 
 long_take : (xs : List Fact) (n : ℕ) → n < length xs → length (take n xs) ≡ n
 long_take [] n h = absurd (omega (arith, h))
@@ -55,10 +51,6 @@ module _ (lines : List Fact) (n : ℕ) (y : Fact) (within : n < length lines) (d
       subst (λ k. Produces (inputs_of s pages) (take n lines) y (k ++ joined_if b (joined lines ports (n + 1) y))) (sym alone)
       (subst (λ m. Produces (inputs_of s pages) (take n lines) y (alone_at (inputs_of s pages) y m ++ joined_if b (joined lines ports m y))) line_is
       (produced (inputs_of s pages) lines (take n lines) (drop n lines) ports y b is (sym (take-append-drop n lines)) (first_distinct (take n lines ++ y ∷ []) (drop (n + 1) lines) (subst NoRepeats (sym (line_whole lines n y at)) distinct)) (not_yet lines n y distinct at) tracks))
-
-  pub alone_if : (o : Option Pages) (s : Setting) (ports : List (List ℕ × Row)) (b : Bool) (own : List Reason) → b ≡ false → IfSome o (λ pages. b ≡ joins (inputs_of s pages) y) → IfSome o (λ pages. own ≡ alone_at (inputs_of s pages) y (n + 1)) → IfSome o (λ pages. HasLines (inputs_of s pages) ports (take n lines))
-      → IfSome o (λ pages. Produces (inputs_of s pages) (take n lines) y own)
-  alone_if o s ports b own none is alone tracks = subst (λ l. IfSome o (λ pages. Produces (inputs_of s pages) (take n lines) y l)) (ap (λ c. own ++ joined_if c (joined lines ports (n + 1) y)) none ∙ append-nil own) (produced_if o s ports b own is alone tracks)
 
   pub both_if : (o : Option Pages) (s : Setting) (ports : List (List ℕ × Row)) (b : Bool) (own all : List Reason) → b ≡ true → IfSome o (λ pages. b ≡ joins (inputs_of s pages) y) → IfSome o (λ pages. own ≡ alone_at (inputs_of s pages) y (n + 1)) → IfSome o (λ pages. HasLines (inputs_of s pages) ports (take n lines))
       → all ≡ own ++ joined lines ports (n + 1) y → IfSome o (λ pages. Produces (inputs_of s pages) (take n lines) y all)

@@ -1,5 +1,5 @@
 -- What contracts see of a worklist: its maps as lists of reasons, and how one level follows another.
-use Rattle.std.specs.Prelude.{◌≡◌, ◌++◌, List, map}
+use Rattle.std.specs.Prelude.{◌≡◌, ◌++◌, List, [], map}
 use Rattle.std.specs.List.{Contains}
 use Rattle.vk_spec.specs.Lists.{NoRepeats, IsWithin}
 use Rattle.vk_spec.specs.Settings.{Setting}
@@ -8,6 +8,7 @@ use Rattle.vk_resolution.specs.Asking as plain
 use Rattle.vk_resolution.specs.Asking.{root_facts_of}
 use Rattle.vk_resolution.specs.Consequences.{by_root}
 use Rattle.vk_resolution.specs.Reasons.{Reason, facts_of}
+use Rattle.vk_resolution.specs.Closing.{NotesReasons}
 use Rattle.vk_model.specs.declared.facts.Fact.{Fact}
 use Rattle.vk_model.specs.declared.reasons.Cause.{Cause}
 use Rattle.vk_model.specs.FactViews.{fact_view, cause_view}
@@ -27,10 +28,11 @@ pub record AreRoots (setting : Setting) (given : List Reason) : Type 0 where
   pub facts : facts_of given ≡ root_facts_of setting
   pub causes : (r : Reason) → Contains given r → r.cause ≡ by_root
 
--- the fresh facts stand on no line, each once
-pub record IsApart (lines fresh : List plain.Fact) : Type 0 where
-  pub apart : (x : plain.Fact) → Contains fresh x → Contains lines x → ⊥
-  pub distinct : NoRepeats fresh
+-- what was brought up and stood nowhere stands behind the old entries, each fact once with the cause that came first
+pub record IsNoted (old brought new : List (Fact × Cause)) : Type 0 where
+  pub more : List (Fact × Cause)
+  pub behind : new ≡ old ++ more
+  pub noted : NotesReasons (facts_in old) (reasons_in brought) [] (reasons_in more)
 
 -- the fresh reasons, in order, stand behind the lines
 pub record IsNextLevel (lines fresh new : List Reason) : Type 0 where

@@ -24,40 +24,35 @@ use vk_model::{Cause, Fact};
 // Puts the given facts, in order, on the first lines.
 fn first_level(
     lines: &mut IndexMap<Fact, Cause>,
-    fresh: &mut IndexMap<Fact, Cause>,
     given: &mut Vec<(Fact, Cause)>,
     most: u32,
 ) -> Result<(), Stop<CloseFault>>
     requires lines { lines.old.entries ≡ [] }
-    requires fresh { fresh.old.entries ≡ [] }
     ensures ok { OnOk result
         (IsFirstLevel (reasons_in given.old.items) (reasons_in lines.new.entries)) }
     ensures distinct { OnOk result (NoRepeats (facts_in lines.new.entries)) }
     ensures few { OnOk result (length lines.new.entries ≤ most) }
-    ensures fresh { OnOk result (fresh.new.entries ≡ []) }
     ensures none { OnOk result (given.new.items ≡ []) }
     ensures facts { OnFault result most (IsTooMuch [] (reasons_in given.old.items) [] most) }
     ensures calm { has_failed result ≡ false }
 {
-    note_all(lines, fresh, most, given)?;
-    next_level(lines, fresh, given)?;
+    note_all(lines, most, given)?;
+    next_level(lines, 0, given)?;
     Ok(())
 }
 
-// Takes up all lines, level by level, until nothing is fresh.
+// Takes up all lines, level by level, until nothing new stands behind them.
 fn close_levels<C: Catalogue, S: Source, L: Ledger>(
     cat: &mut C,
     source: &mut S,
     lines: &mut IndexMap<Fact, Cause>,
     most: u32,
-    fresh: &mut IndexMap<Fact, Cause>,
     brought: &mut Vec<(Fact, Cause)>,
     steps: &mut Steps<L>,
 ) -> Result<(), Stop<CloseFault>>
     requires limit { (S.setting source.old).max_facts ≡ most }
     requires few { length lines.old.entries ≤ most }
     requires distinct { NoRepeats (facts_in lines.old.entries) }
-    requires fresh { fresh.old.entries ≡ [] }
     requires none { brought.old.items ≡ [] }
     requires tracks { OnPages (λ pages. S.tracks source.old pages []) (C.state cat.old) }
     requires closing { OnPages
@@ -80,12 +75,13 @@ fn close_levels<C: Catalogue, S: Source, L: Ledger>(
 {
     let mut taken = 0;
     loop {
-        take_up_level(cat, source, lines, taken, most, fresh, brought, steps)?;
-        if fresh.is_empty() {
+        let settled = lines.len();
+        take_up_level(cat, source, lines, taken, most, brought, steps)?;
+        if lines.len() == settled {
             return Ok(());
         }
-        taken = lines.len();
-        next_level(lines, fresh, brought)?;
+        next_level(lines, settled, brought)?;
+        taken = settled;
     }
 }
 
@@ -95,13 +91,11 @@ fn close_lines<C: Catalogue, S: Source, L: Ledger>(
     source: &mut S,
     lines: &mut IndexMap<Fact, Cause>,
     most: u32,
-    fresh: &mut IndexMap<Fact, Cause>,
     given: &mut Vec<(Fact, Cause)>,
     steps: &mut Steps<L>,
 ) -> Result<(), Stop<CloseFault>>
     requires limit { (S.setting source.old).max_facts ≡ most }
     requires lines { lines.old.entries ≡ [] }
-    requires fresh { fresh.old.entries ≡ [] }
     requires tracks { OnPages (λ pages. S.tracks source.old pages []) (C.state cat.old) }
     requires roots { AreRoots (S.setting source.old) (reasons_in given.old.items) }
     ensures ok { OnOk result (OnPages
@@ -118,8 +112,8 @@ fn close_lines<C: Catalogue, S: Source, L: Ledger>(
     ensures tracks { OnOk result (OnPages
         (λ pages. S.tracks source.new pages (facts_in lines.new.entries)) (C.state cat.old)) }
 {
-    first_level(lines, fresh, given, most)?;
-    close_levels(cat, source, lines, most, fresh, given, steps)
+    first_level(lines, given, most)?;
+    close_levels(cat, source, lines, most, given, steps)
 }
 
 /// All that follows from the root facts, which are given: the least list in its order, each fact
@@ -150,7 +144,6 @@ pub fn close_from<C: Catalogue, S: Source, L: Ledger>(
         (λ pages. S.tracks source.new pages (facts_in m.entries)) (C.state cat.old)) }
 {
     let mut lines = IndexMap::new(alloc);
-    let mut fresh = IndexMap::new(alloc);
-    close_lines(cat, source, &mut lines, most, &mut fresh, &mut given, steps)?;
+    close_lines(cat, source, &mut lines, most, &mut given, steps)?;
     Ok(lines)
 }
