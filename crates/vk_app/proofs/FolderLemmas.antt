@@ -1,6 +1,6 @@
 -- The folders of a plan's items.
 use Rattle.std.proofs.Common.{◌≡◌, ◌<◌, ◌∷◌, ◌++◌, ◌+◌, ℕ, Bool, true, false, not, cond, List, [], length, map, take, get_or, refl, ap, sym, subst, ◌∙◌}
-use Rattle.std.specs.Prelude.{Option, Some, None, IfSome, IsOk, Result, Ok, Err, nat_lt, bytes_eq, if◌then◌else◌}
+use Rattle.std.specs.Prelude.{Option, Some, None, IfSome, IsOk, Result, Ok, Err, option_map, nat_lt}
 use Rattle.std.specs.List.{Contains, position, prefix_len, list_any}
 use Rattle.std.proofs.lemmas.Slice.Eq.{bytes_eq-Decides}
 use Rattle.std.proofs.lemmas.List.{length-map, map-append, take_more}
@@ -32,10 +32,9 @@ use Rattle.vk_spec.specs.Catalogues.{CatalogueState, OnlyAsked, OnPages, Origin}
 use Rattle.vk_spec.proofs.OptionLemmas.{of_each, of_both}
 use Rattle.vk_spec.proofs.VersionLemmas.{version_decides}
 use Rattle.vk_resolution.proofs.Members.{any_contains, both_true, map_contains}
-use Rattle.vk_world.specs.Answered.{pairs_found}
-use Rattle.vk_world.specs.KnownVersions.{same_pair, with_pair}
 use Rattle.std.proofs.lemmas.Option.{IfSome_then}
-use Rattle.vk_spec.specs.States.{Told}
+use Rattle.vk_spec.specs.Files.{Files}
+use Rattle.vk_spec.specs.States.{State, Told}
 use Rattle.vk_base.specs.declared.stops.Stop.{Stop}
 use Rattle.vk_model.specs.FaultViews.{item_view}
 use Rattle.vk_model.specs.FactViews.{reasons_view}
@@ -43,9 +42,14 @@ use Rattle.vk_model.specs.declared.plans.Item as made
 use Rattle.vk_model.specs.declared.plans.Outcome.{Outcome}
 use Rattle.vk_model.specs.declared.plans.Outcome.TheVariants as outcome
 use Rattle.vk_opening.specs.Starts.{Start}
-use Rattle.vk_pages.specs.Pages.{page_of}
+use Rattle.vk_pages.specs.Homes.{home_of}
+use Rattle.vk_pages.specs.Pages.{page_at, page_of}
 use Rattle.vk_pages.proofs.PageLaws.{is_page}
-use Rattle.vk_world.specs.Worlds.{pages_in}
+use Rattle.vk_world.specs.HomeNotes.{FoundHome}
+use Rattle.vk_world.specs.Listed.{listed_in}
+use Rattle.vk_world.specs.VersionFolders.{version_folder, folder_found}
+use Rattle.vk_world.specs.Worlds.{WorldView, pages_in, places_in, start_in, state_of}
+use Rattle.vk_world.proofs.ListedLemmas.{some_is, version_on_page, folder_of_listed}
 use Rattle.vk_worklist.specs.declared.faults.CloseFault.{CloseFault}
 use Rattle.vk_app.specs.Resolutions.{Settles}
 use Rattle.vk_app.specs.Resolved.{Resolves}
@@ -93,39 +97,34 @@ place_in p f xs =
     let long : length xs ≡ length (map f xs) = sym (length-map xs f) in
     ap (λ n. cond (nat_lt n (length xs)) (Some n) None) same ∙ ap (λ l. cond (nat_lt (prefix_len (λ y. not (p y)) (map f xs)) l) (Some (prefix_len (λ y. not (p y)) (map f xs))) None) long
 
--- ---- what a world knows after an item was seen to
+-- ---- the folder of an item
 
-pair_there : (port : List ℕ) (v : Version) (pairs : List (List ℕ × Version)) → Contains (with_pair port v pairs) (port, v)
-pair_there port v pairs = by (list_any (λ p. same_pair port v p.0 p.1) pairs) refl
+-- the version that a page has for its own ask stands in a folder
+pub listed_folder : (port : List ℕ) (files : Files) (found : FoundHome) (v : Version) → version_in (page_at port files found) (ask_of v) ≡ Some v → (folder : Path) × (folder_found found v ≡ Some folder)
+listed_folder port files found v e = by found (listed_in found (ask_of v)) refl (sym (version_on_page port files found (ask_of v)) ∙ e)
   where
-    one : (p : List ℕ × Version) → same_pair port v p.0 p.1 ≡ true → p ≡ (port, v)
-    one p e =
-        let same = both_true (bytes_eq port p.0) (same_version v p.1) e in
-        let name : port ≡ p.0 = (bytes_eq-Decides port p.0).0 same.0 in
-        let version : v ≡ p.1 = (version_decides v p.1).0 same.1 in
-        sym (ap (λ (x : List ℕ). (x, v)) name ∙ ap (λ (w : Version). (p.0, w)) version)
+    by : (found : FoundHome) (l : Option (Version × Path)) → listed_in found (ask_of v) ≡ l → option_map (λ (p : Version × Path). p.0) l ≡ Some v → (folder : Path) × (folder_found found v ≡ Some folder)
+    by (Err wrong) None is same = (cc)
+    by (Err wrong) (Some l) is same = (cc)
+    by (Ok home) None is same = (cc)
+    by (Ok home) (Some l) is same = (l.1, subst (λ w. version_folder home w ≡ Some l.1) (some_is same) (folder_of_listed home (ask_of v) l is))
 
-    by : (b : Bool) → list_any (λ p. same_pair port v p.0 p.1) pairs ≡ b → Contains (if b then pairs else pairs ++ (port, v) ∷ []) (port, v)
-    by true e = let p = any_contains (λ q. same_pair port v q.0 q.1) pairs e in subst (Contains pairs) (one p.0 p.2) p.1
-    by false e = Contains-append_right pairs ((port, v) ∷ []) (port, v) (contains_first (port, v) [])
-
-pub known_after : (pages : Option Pages) (port : List ℕ) (v : Version) (found : Option Version) (before after : List (List ℕ × Version))
-    → IfSome pages (λ ps. HasVersion ps port v) → IfSome pages (λ ps. found ≡ version_in (ps port) (ask_of v)) → after ≡ pairs_found port found before → IfSome pages (λ ps. Contains after (port, v))
-known_after pages port v found before after has says is = of_both pages has says (λ ps h e.
-    let some : found ≡ Some v = e ∙ h.listed in
-    subst (λ l. Contains l (port, v)) (sym (is ∙ ap (λ f. pairs_found port f before) some)) (pair_there port v before))
-
--- the folder that it then tells
-pub folder_told : (old new : CatalogueState Condition) (known : List (List ℕ × Version)) (port : List ℕ) (v : Version) (folder : Path) → OnlyAsked false old new
-    → IfSome old.pages (λ ps. Contains known (port, v)) → (Contains known (port, v) → IfSome new.pages (λ ps. new.origin.places port v ≡ Some folder))
-    → IfSome old.pages (λ ps. old.origin.places port v ∷ [] ≡ Some folder ∷ [])
-folder_told old new known port v folder only seen stands = by old.pages (only.pages) seen
+-- so does each version on the pages of a world
+stands_somewhere : {T : Type 0} (state : T → State) (w : WorldView T) (port : List ℕ) (v : Version) → OnPages (λ ps. HasVersion ps port v) (state_of state w) → OnPages (λ ps. (folder : Path) × ((state_of state w).origin.places port v ≡ Some folder)) (state_of state w)
+stands_somewhere state w port v has = by (state w.tree).told has
   where
-    by : (o : Option Pages) → new.pages ≡ o → IfSome o (λ ps. Contains known (port, v)) → IfSome o (λ ps. old.origin.places port v ∷ [] ≡ Some folder ∷ [])
-    by None is h = tt
-    by (Some ps) is h =
-        let there : new.origin.places port v ≡ Some folder = subst (λ q. IfSome q (λ ps. new.origin.places port v ≡ Some folder)) is (stands h) in
-        ap (λ o. o ∷ []) (sym (ap (λ (o : Origin). o.places port v) only.origin) ∙ there)
+    by : (o : Option Told) → IfSome (pages_in (start_in w.learned) o) (λ ps. HasVersion ps port v) → IfSome (pages_in (start_in w.learned) o) (λ ps. (folder : Path) × (places_in (start_in w.learned) o port v ≡ Some folder))
+    by None h = tt
+    by (Some t) h = listed_folder port t.files (home_of (start_in w.learned) port t.files) v h.listed
+
+-- a folder that is answered is that of the item
+pub folder_answered : (s : CatalogueState Condition) (port : List ℕ) (v : Version) (folder : Path) → OnPages (λ ps. Some folder ≡ s.origin.places port v) s → OnPages (λ ps. s.origin.places port v ∷ [] ≡ Some folder ∷ []) s
+folder_answered s port v folder told = IfSome_then s.pages told (λ ps e. ap (λ o. o ∷ []) (sym e))
+
+-- and none isn't answered
+pub never_without : {T : Type 0} (state : T → State) (w : WorldView T) (port : List ℕ) (v : Version) (folder : Path) → OnPages (λ ps. HasVersion ps port v) (state_of state w) → OnPages (λ ps. None ≡ (state_of state w).origin.places port v) (state_of state w)
+    → OnPages (λ ps. (state_of state w).origin.places port v ∷ [] ≡ Some folder ∷ []) (state_of state w)
+never_without state w port v folder has none = of_both (state_of state w).pages (stands_somewhere state w port v has) none (λ ps stands e. let clash : None ≡ Some stands.0 = e ∙ stands.1 in (cc))
 
 -- ---- and of all items so far
 

@@ -15,10 +15,7 @@ use Rattle.vk_opening.specs.Starts.{Start}
 use Rattle.vk_pages.specs.Homes.{home_of}
 use Rattle.vk_pages.specs.Pages.{page_at, page_of}
 use Rattle.vk_pages.proofs.PageLaws.{is_page}
-use Rattle.vk_world.specs.HomeNotes.{FoundHome}
-use Rattle.vk_world.specs.Listed.{listed_in}
-use Rattle.vk_world.specs.VersionFolders.{version_folder, folder_found, place_in}
-use Rattle.vk_world.proofs.ListedLemmas.{some_is, version_on_page, folder_of_listed}
+use Rattle.vk_world.specs.VersionFolders.{place_in}
 use Rattle.vk_abi.specs.Plans.{Shared, Pair}
 use Rattle.vk_abi.specs.LawsOnPlans.{ArePaths}
 use Rattle.vk_abi.proofs.Existence.{texts_exist}
@@ -26,19 +23,9 @@ use Rattle.vk_app.specs.Resolutions.{Resolution, early, resolved, too_many, Sett
 use Rattle.vk_app.specs.Shown.{Shown, printed, shown_for}
 use Rattle.vk_app.specs.Texts.{place_of, AreFolders, PlanTells, not_planned, shown_at, ShowsPlaced, ShowsText}
 use Rattle.vk_app.specs.Folders.{HaveItems}
-use Rattle.vk_app.proofs.FolderLemmas.{all_have_versions}
+use Rattle.vk_app.proofs.FolderLemmas.{all_have_versions, listed_folder}
 
 -- ---- folders
-
--- the version that a page has for its own ask stands in a folder
-listed_folder : (port : List ℕ) (files : Files) (found : FoundHome) (v : Version) → version_in (page_at port files found) (ask_of v) ≡ Some v → (folder : Path) × (folder_found found v ≡ Some folder)
-listed_folder port files found v e = by found (listed_in found (ask_of v)) refl (sym (version_on_page port files found (ask_of v)) ∙ e)
-  where
-    by : (found : FoundHome) (l : Option (Version × Path)) → listed_in found (ask_of v) ≡ l → option_map (λ (p : Version × Path). p.0) l ≡ Some v → (folder : Path) × (folder_found found v ≡ Some folder)
-    by (Err wrong) None is same = (cc)
-    by (Err wrong) (Some l) is same = (cc)
-    by (Ok home) None is same = (cc)
-    by (Ok home) (Some l) is same = (l.1, subst (λ w. version_folder home w ≡ Some l.1) (some_is same) (folder_of_listed home (ask_of v) l is))
 
 -- where each of these has something, there is a list of what they have
 all_some : {X Y : Type 0} (f : X → Option Y) (xs : List X) → ((x : X) → Contains xs x → (y : Y) × (f x ≡ Some y)) → (ys : List Y) × (map f xs ≡ map Some ys)

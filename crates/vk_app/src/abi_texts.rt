@@ -7,7 +7,7 @@ ghost use Rattle.vk_base.specs.Stops.{was_out};
 ghost use Rattle.vk_resolution.specs.Settings.{same_instance};
 ghost use Rattle.vk_model.specs.FaultViews.{item_view};
 ghost use Rattle.vk_model.specs.SettingViews.{instance_view, setting_view};
-ghost use Rattle.vk_world.specs.Worlds.{known_in, state_of};
+ghost use Rattle.vk_world.specs.Worlds.{state_of};
 ghost use Rattle.vk_abi.specs.Plans.{pair_view};
 ghost use Rattle.vk_app.specs.Texts.{place_of, text_at};
 ghost use Rattle.vk_app.specs.Ends.{EndsWith, end_view};
@@ -41,43 +41,7 @@ pub struct Spot {
     pub folders: List<TreePath>,
 }
 
-// Asks for the version of an item once more, so that its folder is known. No file is read for that.
-fn see_version<T: Tree>(world: &mut World<T>, item: &Item) -> Result<(), Outage>
-    requires { OnPages (λ pages. HasItem pages (item_view item.now))
-        (state_of T.state world.old) }
-    ensures known { OnOk result (OnPages (λ _. Contains (known_in world.new.learned)
-        (item.now.inst.port, item.now.version)) (state_of T.state world.old)) }
-    ensures asked { OnlyAsked (was_out result) (state_of T.state world.old)
-        (state_of T.state world.new) }
-{
-    match world.version(&item.inst.port, item.version.ask()) {
-        Ok(found) => {
-            drop(found);
-            Ok(())
-        }
-        Err(outage) => Err(outage),
-    }
-}
-
-// The folder of an item whose version was asked for.
-fn known_folder<T: Tree>(
-    alloc: Global,
-    world: &World<T>,
-    project: &Project,
-    item: &Item,
-) -> Result<TreePath, Memory>
-    ensures { IfOk result (λ folder. Contains (known_in world.now.learned)
-        (item.now.inst.port, item.now.version)
-        → OnPages (λ _. (state_of T.state world.now).origin.places item.now.inst.port
-        item.now.version ≡ Some folder) (state_of T.state world.now)) }
-{
-    match world.folder(&item.inst.port, &item.version) {
-        Some(folder) => Ok(folder.clone()?),
-        None => project.folder.child(alloc, item.inst.port.as_str()),
-    }
-}
-
-// The folder where the version of an item stands.
+// The folder where the version of an item stands: where files are told, the world has it.
 fn folder_of<T: Tree>(
     alloc: Global,
     world: &mut World<T>,
@@ -91,8 +55,10 @@ fn folder_of<T: Tree>(
     ensures asked { OnlyAsked (was_out result) (state_of T.state world.old)
         (state_of T.state world.new) }
 {
-    see_version(world, item)?;
-    Ok(known_folder(alloc, world, project, item)?)
+    match world.folder(&item.inst.port, &item.version)? {
+        Some(folder) => Ok(folder),
+        None => Ok(project.folder.child(alloc, item.inst.port.as_str())?),
+    }
 }
 
 // The folders where the versions of items stand.

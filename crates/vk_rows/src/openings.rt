@@ -1,4 +1,4 @@
-//! Opening a project, and the folders that its world knows.
+//! Opening a project, and the folders where versions stand in its world.
 
 use crate::projects::{port_of, version_of};
 use std::alloc::Global;
@@ -54,15 +54,21 @@ pub fn open_on(alloc: Global, mut tree: MemTree, project: &Project, reply: &mut 
     }
 }
 
-fn tell_folder(world: &World<MemTree>, port: &PortName, version: &Version, reply: &mut Reply) {
+fn tell_folder(
+    world: &mut World<MemTree>,
+    port: &PortName,
+    version: &Version,
+    reply: &mut Reply,
+) {
     match world.folder(port, version) {
-        Some(path) => reply.push_path(path),
-        None => reply.push("none"),
+        Ok(Some(path)) => reply.push_path(&path),
+        Ok(None) => reply.push("none"),
+        Err(stop) => stopped(stop, reply),
     }
 }
 
-/// `folder PORT VERSION`: where a version stands that the world answered.
-pub fn folder(world: &World<MemTree>, row: &str, reply: &mut Reply) {
+/// `folder PORT VERSION`: where a version of a port stands.
+pub fn folder(world: &mut World<MemTree>, row: &str, reply: &mut Reply) {
     let (port, version) = cut(row);
     let Some(port) = port_of(port, reply) else {
         return;

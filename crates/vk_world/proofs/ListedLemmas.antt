@@ -17,8 +17,7 @@ use Rattle.vk_pages.specs.Homes.{Home, in_overlay, in_registry}
 use Rattle.vk_pages.specs.Pages.{row_folder, row_manifest, page_row, page_at}
 use Rattle.vk_world.specs.VersionFolders.{version_folder}
 use Rattle.vk_world.specs.HomeNotes.{FoundHome}
-use Rattle.vk_world.specs.Listed.{own_listed, row_listed, table_listed, listed_at, listed_in, row_meant}
-use Rattle.vk_world.specs.Answered.{given_in}
+use Rattle.vk_world.specs.Listed.{given_in, own_listed, row_listed, table_listed, listed_at, listed_in, row_meant}
 
 pub some_is : {X : Type 0} {x y : X} → Some x ≡ Some y → x ≡ y
 some_is e = (cc)
@@ -98,6 +97,38 @@ none_is_meant (r ∷ rows) ask none = by (same_ask (ask_of r.version) ask) refl 
     by true e rest = absurd (none (subst (Contains (asks_of (r ∷ rows))) (asks_equal (ask_of r.version) ask e) (contains_first (ask_in r) (asks_of rows))))
     by false e rest = rest
 
+-- ---- the row that has a version
+
+-- a row that an ask doesn't mean has no version with that ask
+other_version : (v w : Version) → same_ask (ask_of w) (ask_of v) ≡ false → same_version v w ≡ false
+other_version v w other = by (same_version v w) refl
+  where
+    by : (b : Bool) → same_version v w ≡ b → same_version v w ≡ false
+    by true same = let ask : same_ask (ask_of w) (ask_of v) ≡ true = subst (λ u. same_ask (ask_of u) (ask_of v) ≡ true) ((version_decides v w).0 same) (ask_itself (ask_of v)) in absurd (true≢false (sym ask ∙ other))
+    by false other = other
+
+-- where no row is meant, none has the version
+pub none_with : (rows : List Row) (v : Version) → row_meant rows (ask_of v) ≡ None → find (λ r. same_version v r.version) rows ≡ None
+none_with [] v none = refl
+none_with (r ∷ rows) v none = by (same_ask (ask_of r.version) (ask_of v)) refl (none_with rows v) none
+  where
+    by : (b : Bool) → same_ask (ask_of r.version) (ask_of v) ≡ b → (row_meant rows (ask_of v) ≡ None → find (λ q. same_version v q.version) rows ≡ None) → cond b (Some r) (row_meant rows (ask_of v)) ≡ None → find (λ q. same_version v q.version) (r ∷ rows) ≡ None
+    by true same rest is = (cc)
+    by false other rest is = ap (λ b. cond b (Some r) (find (λ q. same_version v q.version) rows)) (other_version v r.version other) ∙ rest is
+
+-- the row that is meant has the version, or none has
+pub meant_with : (rows : List Row) (v : Version) (r : Row) → NoRepeats (asks_of rows) → row_meant rows (ask_of v) ≡ Some r → cond (same_version v r.version) (Some r) None ≡ find (λ q. same_version v q.version) rows
+meant_with [] v r distinct is = (cc)
+meant_with (q ∷ rows) v r distinct is = by (same_ask (ask_of q.version) (ask_of v)) refl (meant_with rows v r distinct.1) is
+  where
+    first : same_ask (ask_of q.version) (ask_of v) ≡ true → cond (same_version v q.version) (Some q) None ≡ find (λ p. same_version v p.version) (q ∷ rows)
+    first same = ap (cond (same_version v q.version) (Some q)) (sym (none_with rows v (none_is_meant rows (ask_of v) (subst (λ a. Contains (asks_of rows) a → ⊥) (asks_equal (ask_of q.version) (ask_of v) same) distinct.0))))
+
+    by : (b : Bool) → same_ask (ask_of q.version) (ask_of v) ≡ b → (row_meant rows (ask_of v) ≡ Some r → cond (same_version v r.version) (Some r) None ≡ find (λ p. same_version v p.version) rows)
+        → cond b (Some q) (row_meant rows (ask_of v)) ≡ Some r → cond (same_version v r.version) (Some r) None ≡ find (λ p. same_version v p.version) (q ∷ rows)
+    by true same rest at = subst (λ (p : Row). cond (same_version v p.version) (Some p) None ≡ find (λ p. same_version v p.version) (q ∷ rows)) (some_is at) (first same)
+    by false other rest at = rest at ∙ sym (ap (λ b. cond b (Some q) (find (λ p. same_version v p.version) rows)) (other_version v q.version other))
+
 -- ---- folders
 
 own_version : (v : Version) → same_version v v ≡ true
@@ -143,7 +174,3 @@ table_folder registry (r ∷ rows) ask l e = by (same_ask (ask_of r.version) ask
 pub folder_of_listed : (home : Home) (ask : Ask) (l : Version × Path) → listed_at home ask ≡ Some l → version_folder home l.0 ≡ Some l.1
 folder_of_listed (in_overlay folder w m) ask l e = own_folder folder w l (same_ask (ask_of w) ask) e
 folder_of_listed (in_registry given registry rows) ask l e = table_folder registry rows ask l e
-
--- an overlay's own version stands in its folder
-pub folder_of_own : (folder : Path) (v : Version) (m : Manifest Condition) → version_folder (in_overlay folder v m) v ≡ Some folder
-folder_of_own folder v m = ap (λ b. if b then Some folder else None) (own_version v)

@@ -10,7 +10,7 @@ use Rattle.vk_files.proofs.NoteLemmas.{right_found}
 use Rattle.vk_files.proofs.NotedLemmas.{noted}
 use Rattle.vk_opening.specs.Starts.{Start}
 use Rattle.vk_world.specs.PortAsks.{same_asked}
-use Rattle.vk_world.specs.PairLaws.{asked_decides}
+use Rattle.vk_world.specs.AskLaws.{asked_decides}
 use Rattle.vk_world.specs.ManifestNotes.{FoundManifest, manifests_in, manifest_noted, IsManifestOf, IsNoteOf, AreManifests}
 use Rattle.vk_world.specs.declared.manifests.Manifests.{Manifests}
 use Rattle.vk_world.specs.declared.port_asks.PortAsk.{PortAsk}

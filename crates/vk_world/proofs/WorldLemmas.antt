@@ -27,9 +27,10 @@ use Rattle.vk_pages.specs.HomeViews.{layout_view}
 use Rattle.vk_pages.specs.Pages.{page_of}
 use Rattle.vk_pages.specs.Asked.{page_paths}
 use Rattle.vk_world.specs.Learning.{Learns}
-use Rattle.vk_world.specs.Libraries.{start_of, IsRight, Stays}
+use Rattle.vk_spec.specs.Versions.{Version}
+use Rattle.vk_world.specs.Libraries.{start_of, IsRight, SaysFolderOf, Stays}
 use Rattle.vk_world.specs.Worlds.{paths_in, opened_in, asked_since, log_before, without_asked, places_in, page_paths_in}
-use Rattle.vk_world.specs.Worlds.{ArePagePaths, origin_on, learned_view, world_state, IsSoundOn, IsSound, IsReadSince}
+use Rattle.vk_world.specs.Worlds.{ArePagePaths, origin_on, pages_in, learned_view, world_state, IsSoundOn, IsSound, IsReadSince}
 use Rattle.vk_world.specs.declared.libraries.Library.{Library}
 
 -- ---- lists
@@ -141,7 +142,7 @@ same_failed view (Ok x) = refl
 same_failed view (Err outage.Failed) = refl
 same_failed view (Err (outage.Memory m)) = refl
 
-only_asked : {X : Type 0} {answer : Result X Outage} {Says : Files → X → Type 0} (before after : Library) (port : List ℕ) {s s' : State} → IsSound s before → Stays before after
+pub only_asked : {X : Type 0} {answer : Result X Outage} {Says : Files → X → Type 0} (before after : Library) (port : List ℕ) {s s' : State} → IsSound s before → Stays before after
     → Learns answer Says (λ f. page_paths (start_of before) f port) (IsRight before) (IsRight after) (held before.files s) (held after.files s') → OnlyAsked (was_out answer) (world_state s (learned_view before)) (world_state s' (learned_view after))
 only_asked before after port {s = s} {s' = s'} sound stays l =
     let looks = l.once.looks in
@@ -185,6 +186,17 @@ asks_learned {X} {answer = answer} {Says = Says} before after {s = s} {s' = s'} 
     told (Err e) o is content old = tt
     told (Ok x) None is content old = tt
     told (Ok x) (Some t) is content old = page_says t is x (content old.files old.right).1
+
+-- where the files are told, a version stands where they say
+pub folder_told : {answer : Result (Option Path) Outage} {paths : Files → List Path} (before after : Library) (port : List ℕ) (v : Version) {s s' : State} → IsSound s before
+    → Learns answer (SaysFolderOf (start_of before) port v) paths (IsRight before) (IsRight after) (held before.files s) (held after.files s') → IfOk answer (λ folder. IfSome (pages_in (start_of before) s.told) (λ _. folder ≡ places_in (start_of before) s.told port v))
+folder_told {answer = answer} before after port v {s = s} sound l = by answer s.told l.content sound.told
+  where
+    by : (r : Result (Option Path) Outage) (o : Option Told) → IfSome o (λ t. IsOf t.files (kept_of before.files) → IsRight before t.files → IsRight after t.files × IfOk r (SaysFolderOf (start_of before) port v t.files)) → IfSome o (IsSoundOn before)
+        → IfOk r (λ folder. IfSome (pages_in (start_of before) o) (λ _. folder ≡ places_in (start_of before) o port v))
+    by (Err e) o content old = tt
+    by (Ok folder) None content old = tt
+    by (Ok folder) (Some t) content old = (content old.files old.right).1
 
 -- what holds on a port's page holds of the page of the files
 pub on_page : (port : List ℕ) (P : Page Condition → Type 0) (lib : Library) (s : State) (t : Told) → s.told ≡ Some t → OnPage port P (world_state s (learned_view lib)) → P (page_of (start_of lib) t.files port)

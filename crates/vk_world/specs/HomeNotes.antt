@@ -1,6 +1,7 @@
 -- The homes of ports that were found, and the baselines that were read for them.
 use Rattle.std.specs.Prelude.{◌≡◌, ℕ, List, map, Option, Result, bytes_eq}
 use Rattle.std.specs.Map.{lookup}
+use Rattle.std.specs.declared.boxed.Box.{Box}
 use Rattle.vk_spec.specs.Files.{Files}
 use Rattle.vk_spec.specs.Pages as plain
 use Rattle.vk_catalogue.specs.Views.{or_wrong}
@@ -22,9 +23,12 @@ FoundHome = Result the.Home plain.Wrong
 abbrev pub found_home : Result Home Wrong → FoundHome
 found_home = or_wrong home_view
 
+abbrev pub boxed_home : {Z : Type 0} → Box (Result Home Wrong) Z → FoundHome
+boxed_home home = found_home home.value
+
 -- the ports, each with what was found, in the order in which they were asked for
 abbrev pub homes_in : Homes → List (List ℕ × FoundHome)
-homes_in homes = map (λ e. (e.0, found_home e.1)) homes.found.entries
+homes_in homes = map (λ e. (e.0, boxed_home e.1)) homes.found.entries
 
 -- what was found for a port
 abbrev pub home_noted : List ℕ → Homes → Option FoundHome

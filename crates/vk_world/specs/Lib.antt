@@ -3,12 +3,10 @@ pub mod HomeNotes
 pub mod VersionFolders
 -- what functions, laws and examples say besides
 pub mod Learning
-pub mod KnownVersions
 pub mod PortAsks
-pub mod PairLaws
+pub mod AskLaws
 pub mod ManifestNotes
 pub mod Listed
-pub mod Answered
 pub mod ManifestAnswers
 pub mod Libraries
 pub mod Worlds

@@ -14,14 +14,15 @@ use Rattle.vk_pages.specs.Wrongs.{manifest_file}
 use Rattle.vk_pages.specs.Homes.{Home, in_overlay, in_registry}
 use Rattle.vk_pages.specs.Pages.{row_folder}
 
--- what is given at a home, and the folder of the port or of its registry
+-- what is given at a home
 abbrev pub given_at : Home → Given
 given_at (in_overlay folder v m) = overlay v
 given_at (in_registry given registry rows) = given
 
-abbrev pub folder_at : Home → Path
-folder_at (in_overlay folder v m) = folder
-folder_at (in_registry given registry rows) = registry
+-- the same of what was found for a port
+abbrev pub given_in : Result Home Wrong → Result Given Wrong
+given_in (Ok home) = Ok (given_at home)
+given_in (Err wrong) = Err wrong
 
 -- the row that an ask means
 abbrev pub row_meant : List Row → Ask → Option Row

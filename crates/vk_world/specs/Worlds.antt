@@ -5,7 +5,6 @@ use Rattle.std.specs.List.{Contains}
 use Rattle.vk_spec.specs.Lists.{NoRepeats}
 use Rattle.vk_spec.specs.Paths.{Path}
 use Rattle.vk_spec.specs.States.{Told, State, with_asked}
-use Rattle.vk_spec.specs.Versions.{Version}
 use Rattle.vk_spec.specs.Manifests.{Override}
 use Rattle.vk_spec.specs.Catalogues.{Pages, Places, Origin, CatalogueState}
 use Rattle.vk_spec.specs.Conditions.{Condition}
@@ -19,10 +18,8 @@ use Rattle.vk_opening.specs.declared.starts.Overlay.{Overlay}
 use Rattle.vk_pages.specs.Pages.{page_of}
 use Rattle.vk_pages.specs.Asked.{page_paths}
 use Rattle.vk_pages.specs.declared.homes.Layout.{Layout}
-use Rattle.vk_world.specs.KnownVersions.{folders_in, pairs_of}
 use Rattle.vk_world.specs.Libraries.{start_of, IsRight}
 use Rattle.vk_world.specs.VersionFolders.{place_in}
-use Rattle.vk_world.specs.declared.answered.PortVersion.{PortVersion}
 use Rattle.vk_world.specs.declared.libraries.Library.{Library}
 
 -- what is known of the project, with its overlays as they are kept
@@ -35,16 +32,15 @@ pub record Ground : Type 0 where
 abbrev pub ground_of : Layout → Ground
 ground_of l = record { folder = l.folder; config = config_view l.config; overlays = l.overlays; overrides = l.overrides }
 
--- what a world learned: the project, the files that were read, those of the opening first, how many
--- these were, and the folders of the versions that were answered
+-- what a world learned: the project, the files that were read, those of the opening first, and how
+-- many these were
 pub record Learned : Type 0 where
   pub ground : Ground
   pub kept : Kept
   pub opened : ℕ
-  pub folders : List (PortVersion × Path)
 
 abbrev pub learned_view : Library → Learned
-learned_view lib = record { ground = ground_of lib.layout; kept = kept_of lib.files; opened = lib.opened; folders = folders_in lib.known }
+learned_view lib = record { ground = ground_of lib.layout; kept = kept_of lib.files; opened = lib.opened }
 
 -- what is known of the project
 abbrev pub start_in : Learned → Start
@@ -126,10 +122,6 @@ pub record WorldView (T : Type 0) : Type 0 where
 -- what is known of a world as a catalogue, by what is known of its tree
 abbrev pub state_of : {T : Type 0} → (T → State) → WorldView T → CatalogueState Condition
 state_of state w = world_state (state w.tree) w.learned
-
--- the ports and versions that were answered
-abbrev pub known_in : Learned → List (List ℕ × Version)
-known_in l = pairs_of l.folders
 
 -- all that is kept is that of what the tree tells, whose log ends with what was looked at since, of
 -- which each path is one of a port's page

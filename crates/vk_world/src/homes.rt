@@ -12,7 +12,8 @@ ghost use Rattle.vk_pages.specs.HomeViews.{layout_view};
 ghost use Rattle.vk_pages.specs.BaselineNotes.{AreBaselines};
 ghost use Rattle.vk_pages.specs.NoteViews.{notes_of};
 ghost use Rattle.vk_world.specs.Learning.{Learns, Means, SaysNothing};
-ghost use Rattle.vk_world.specs.HomeNotes.{found_home, homes_in, home_noted, AreHomes};
+ghost use Rattle.vk_world.specs.HomeNotes.{boxed_home, found_home, homes_in, home_noted};
+ghost use Rattle.vk_world.specs.HomeNotes.{AreHomes};
 
 use crate::keeping::keep;
 use crate::settling::settle;
@@ -28,7 +29,7 @@ use vk_tree::Tree;
 #[derive(Drop)]
 pub struct Homes {
     baselines: Baselines,
-    found: IndexMap<PortName, Result<Home, Wrong>>,
+    found: IndexMap<PortName, Box<Result<Home, Wrong>>>,
 }
 
 // The home of a port, or what is wrong.
@@ -50,6 +51,25 @@ fn find_home<T: Tree>(
     settle(home_of(alloc, layout, files, baselines, tree, port))
 }
 
+// The same in a block of its own, since a map moves its values as it grows.
+fn boxed_home<T: Tree>(
+    alloc: Global,
+    layout: &Layout,
+    files: &mut FileCache,
+    baselines: &mut Baselines,
+    tree: &mut T,
+    port: &PortName,
+) -> Result<Box<Result<Home, Wrong>>, Outage>
+    ensures { Learns result (Means boxed_home (home_of (layout_view layout.now) port.now))
+        (λ f. home_paths (layout_view layout.now) f port.now)
+        (AreBaselines (layout_view layout.now) (notes_of baselines.old))
+        (AreBaselines (layout_view layout.now) (notes_of baselines.new))
+        (held files.old (T.state tree.old)) (held files.new (T.state tree.new)) }
+{
+    let home = find_home(alloc, layout, files, baselines, tree, port)?;
+    Ok(Box::new(alloc, home)?)
+}
+
 impl Homes {
     /// None was found yet. Takes no memory.
     pub fn new(alloc: Global) -> Homes
@@ -63,10 +83,10 @@ impl Homes {
     }
 
     // Keeps what was found for a port, for which there is room.
-    fn keep(&mut self, port: PortName, home: Result<Home, Wrong>)
+    fn keep(&mut self, port: PortName, home: Box<Result<Home, Wrong>>)
         requires room { 0 < spare self.old.found }
         requires new { home_noted port self.old ≡ None }
-        ensures homes { homes_in self.new ≡ homes_in self.old ++ (port, found_home home) ∷ [] }
+        ensures homes { homes_in self.new ≡ homes_in self.old ++ (port, boxed_home home) ∷ [] }
         ensures baselines { self.new.baselines ≡ self.old.baselines }
     {
         keep(&mut self.found, port, home);
@@ -91,7 +111,7 @@ impl Homes {
     {
         let key = port.clone()?;
         self.found.reserve(1)?;
-        let found = find_home(alloc, layout, files, &mut self.baselines, tree, port)?;
+        let found = boxed_home(alloc, layout, files, &mut self.baselines, tree, port)?;
         let place = self.found.len();
         self.keep(key, found);
         Ok(place)
@@ -126,6 +146,6 @@ impl Homes {
         ensures { option_map (λ e. e.1) (slice_get (homes_in self.now) place)
             ≡ Some (found_home result.now) }
     {
-        self.found.get_index(place).unwrap().1
+        self.found.get_index(place).unwrap().1.as_ref()
     }
 }

@@ -3,7 +3,6 @@
 //! twice, and that each path that is looked at is one of those that some port's page asks for.
 #![tactic(auto)]
 
-mod answered;
 mod answering;
 mod homes;
 mod keeping;

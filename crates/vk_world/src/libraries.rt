@@ -2,26 +2,22 @@
 ghost use Rattle.std.specs.Prelude.{◌≡◌, [], IfOk, bytes_eq, length};
 ghost use Rattle.vk_spec.specs.Files.{Files};
 ghost use Rattle.vk_version.specs.AskViews.{ask_view};
-ghost use Rattle.vk_catalogue.specs.Views.{given_answer, version_answer};
 ghost use Rattle.vk_files.specs.Notes.{IsNoteAt};
 ghost use Rattle.vk_files.specs.Views.{held, kept_of};
 ghost use Rattle.vk_opening.specs.Views.{start_view, opened_files};
 ghost use Rattle.vk_pages.specs.Asked.{home_paths, page_paths};
 ghost use Rattle.vk_world.specs.Learning.{Learns, SaysNothing};
-ghost use Rattle.vk_world.specs.KnownVersions.{folders_in, pairs_of};
 ghost use Rattle.vk_world.specs.HomeNotes.{homes_in};
-ghost use Rattle.vk_world.specs.Answered.{pairs_given, pairs_listed};
 ghost use Rattle.vk_world.specs.Libraries.{start_of, IsRight, Stays, SaysGivenOf, SaysVersionOf};
-ghost use Rattle.vk_world.specs.Libraries.{SaysManifestOf};
+ghost use Rattle.vk_world.specs.Libraries.{SaysFolderOf, SaysManifestOf};
 
-use crate::answered::KnownVersions;
-use crate::answering::{answer_given, answer_version};
+use crate::answering::{answer_folder, answer_given, answer_version};
 use crate::homes::Homes;
 use crate::manifests::{Manifests, shared};
 use crate::row_manifests::manifest_for;
 use std::alloc::Global;
 use std::rc::Rc;
-use vk_base::{Outage, PortName};
+use vk_base::{Outage, PortName, TreePath};
 use vk_catalogue::{Given, Wrong};
 use vk_files::FileCache;
 use vk_model::Manifest;
@@ -40,7 +36,6 @@ pub struct Library {
     pub opened: usize,
     pub homes: Homes,
     pub manifests: Manifests,
-    pub known: KnownVersions,
 }
 
 impl Library {
@@ -50,7 +45,6 @@ impl Library {
         ensures files { kept_of result.files ≡ opened_files start }
         ensures opened { result.opened ≡ length (opened_files start) }
         ensures right { (files : Files) → IsRight result files }
-        ensures known { folders_in result.known ≡ [] }
     {
         let Start {
             folder,
@@ -70,7 +64,6 @@ impl Library {
             files,
             homes: Homes::new(alloc),
             manifests: Manifests::new(alloc),
-            known: KnownVersions::new(alloc),
         }
     }
 
@@ -86,7 +79,6 @@ impl Library {
             (held self.new.files (T.state tree.new)) }
         ensures there { IfOk result (IsNoteAt (bytes_eq port.now) (homes_in self.new.homes)) }
         ensures stays { Stays self.old self.new }
-        ensures known { self.new.known ≡ self.old.known }
     {
         self.homes
             .look(alloc, &self.layout, &mut self.files, tree, port)
@@ -103,12 +95,9 @@ impl Library {
             (λ f. home_paths (start_of self.old) f port.now) (IsRight self.old) (IsRight self.new)
             (held self.old.files (T.state tree.old)) (held self.new.files (T.state tree.new)) }
         ensures stays { Stays self.old self.new }
-        ensures known { pairs_of (folders_in self.new.known) ≡ pairs_given port.now
-            (given_answer result) (pairs_of (folders_in self.old.known)) }
     {
         let place = self.look(alloc, tree, port)?;
-        let found = self.homes.at(place);
-        answer_given(&mut self.known, port, found)
+        answer_given(self.homes.at(place))
     }
 
     /// The version of a port that an ask means; `None` exactly where there is none.
@@ -124,12 +113,26 @@ impl Library {
             (λ f. home_paths (start_of self.old) f port.now) (IsRight self.old) (IsRight self.new)
             (held self.old.files (T.state tree.old)) (held self.new.files (T.state tree.new)) }
         ensures stays { Stays self.old self.new }
-        ensures known { pairs_of (folders_in self.new.known) ≡ pairs_listed port.now
-            (version_answer result) (pairs_of (folders_in self.old.known)) }
     {
         let place = self.look(alloc, tree, port)?;
-        let found = self.homes.at(place);
-        answer_version(alloc, &mut self.known, port, found, ask)
+        answer_version(self.homes.at(place), ask)
+    }
+
+    /// Where a version of a port stands; `None` exactly where the port has no such version.
+    pub fn folder<T: Tree>(
+        &mut self,
+        alloc: Global,
+        tree: &mut T,
+        port: &PortName,
+        version: &Version,
+    ) -> Result<Option<TreePath>, Outage>
+        ensures learns { Learns result (SaysFolderOf (start_of self.old) port.now version.now)
+            (λ f. home_paths (start_of self.old) f port.now) (IsRight self.old) (IsRight self.new)
+            (held self.old.files (T.state tree.old)) (held self.new.files (T.state tree.new)) }
+        ensures stays { Stays self.old self.new }
+    {
+        let place = self.look(alloc, tree, port)?;
+        answer_folder(alloc, self.homes.at(place), version)
     }
 
     // Reads the manifest of the version that an ask means.
@@ -145,7 +148,6 @@ impl Library {
             (λ f. page_paths (start_of self.old) f port.now) (IsRight self.old) (IsRight self.new)
             (held self.old.files (T.state tree.old)) (held self.new.files (T.state tree.new)) }
         ensures stays { Stays self.old self.new }
-        ensures known { self.new.known ≡ self.old.known }
     {
         let place = self.look(alloc, tree, port)?;
         let found = self.homes.at(place);
@@ -165,10 +167,9 @@ impl Library {
             (λ f. page_paths (start_of self.old) f port.now) (IsRight self.old) (IsRight self.new)
             (held self.old.files (T.state tree.old)) (held self.new.files (T.state tree.new)) }
         ensures stays { Stays self.old self.new }
-        ensures known { self.new.known ≡ self.old.known }
     {
         let found = self.read_manifest(alloc, tree, port, ask)?;
-        self.manifests.keep(port, ask, &found)?;
+        self.manifests.keep(alloc, port, ask, &found)?;
         Ok(found)
     }
 
@@ -186,7 +187,6 @@ impl Library {
             (λ f. page_paths (start_of self.old) f port.now) (IsRight self.old) (IsRight self.new)
             (held self.old.files (T.state tree.old)) (held self.new.files (T.state tree.new)) }
         ensures stays { Stays self.old self.new }
-        ensures known { self.new.known ≡ self.old.known }
     {
         match self.manifests.get(port, ask) {
             Some(found) => shared(found),

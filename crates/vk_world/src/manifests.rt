@@ -7,7 +7,7 @@ ghost use Rattle.vk_version.specs.AskViews.{ask_view};
 ghost use Rattle.vk_catalogue.specs.Views.{manifest_said};
 ghost use Rattle.vk_opening.specs.Starts.{Start};
 ghost use Rattle.vk_world.specs.ManifestNotes.{manifests_in, manifest_noted, AreManifests};
-ghost use Rattle.vk_world.specs.ManifestNotes.{IsManifestOf};
+ghost use Rattle.vk_world.specs.ManifestNotes.{IsManifestOf, kept_manifest};
 
 use crate::port_asks::{AskOf, PortAsk};
 use indexmap::IndexMap;
@@ -18,21 +18,35 @@ use vk_catalogue::Wrong;
 use vk_model::Manifest;
 use vk_version::Ask;
 
+/// A manifest, or what is wrong with it, which is rare and large and so in a block of its own.
+pub type Kept = Result<Rc<Manifest>, Box<Wrong>>;
+
 /// The manifests that were found, or what is wrong with them, by port and ask. Each was compared
 /// with its table when it was found, and stays as it is.
 #[derive(Drop)]
 pub struct Manifests {
-    found: IndexMap<PortAsk, Result<Rc<Manifest>, Wrong>>,
+    found: IndexMap<PortAsk, Kept>,
 }
 
 /// What was found, once more.
-pub fn shared(found: &Result<Rc<Manifest>, Wrong>) -> Result<Result<Rc<Manifest>, Wrong>, Outage>
-    ensures told { IfOk result (λ again. manifest_said again ≡ manifest_said found.now) }
+pub fn shared(kept: &Kept) -> Result<Result<Rc<Manifest>, Wrong>, Outage>
+    ensures told { IfOk result (λ again. manifest_said again ≡ kept_manifest kept.now) }
+    ensures calm { was_out result ≡ false }
+{
+    match kept {
+        Ok(manifest) => Ok(Ok(manifest.clone()?)),
+        Err(wrong) => Ok(Err(wrong.as_ref().clone()?)),
+    }
+}
+
+// What was found, to be kept.
+fn kept(alloc: Global, found: &Result<Rc<Manifest>, Wrong>) -> Result<Kept, Outage>
+    ensures told { IfOk result (λ kept. kept_manifest kept ≡ manifest_said found.now) }
     ensures calm { was_out result ≡ false }
 {
     match found {
         Ok(manifest) => Ok(Ok(manifest.clone()?)),
-        Err(wrong) => Ok(Err(wrong.clone()?)),
+        Err(wrong) => Ok(Err(Box::new(alloc, wrong.clone()?)?)),
     }
 }
 
@@ -49,6 +63,7 @@ impl Manifests {
     /// Keeps what was found for a port and an ask. When memory runs out, all stays as it was.
     pub fn keep(
         &mut self,
+        alloc: Global,
         port: &PortName,
         ask: &Ask,
         found: &Result<Rc<Manifest>, Wrong>,
@@ -59,14 +74,14 @@ impl Manifests {
         ensures calm { was_out result ≡ false }
     {
         let key = AskOf { port, ask }.owned()?;
-        let kept = shared(found)?;
+        let kept = kept(alloc, found)?;
         self.found.insert(key, kept)?;
         Ok(())
     }
 
     /// What was found for a port and an ask; `None` exactly where nothing was.
-    pub fn get(&self, port: &PortName, ask: &Ask) -> Option<&Result<Rc<Manifest>, Wrong>>
-        ensures { option_map manifest_said (option_copied result)
+    pub fn get(&self, port: &PortName, ask: &Ask) -> Option<&Kept>
+        ensures { option_map kept_manifest (option_copied result)
             ≡ manifest_noted port.now (ask_view ask.now) self.now }
     {
         self.found.get(AskOf { port, ask })

@@ -3,7 +3,7 @@ ghost use Rattle.std.specs.Prelude.{◌≡◌, IfOk};
 ghost use Rattle.std.specs.Cmp.{partial_equiv_from_equiv};
 ghost use Rattle.vk_version.specs.AskViews.{ask_view};
 ghost use Rattle.vk_world.specs.PortAsks.{same_asked, asked_fed};
-ghost use Rattle.vk_world.specs.PairLaws.{asked_laws, asked_hashed, asked_respected};
+ghost use Rattle.vk_world.specs.AskLaws.{asked_laws, asked_hashed, asked_respected};
 
 use indexmap::Equivalent;
 use std::alloc::AllocError;

@@ -1,15 +1,11 @@
 //! A catalogue of ports over the files of a tree.
-ghost use Rattle.std.specs.Prelude.{◌≡◌, ◌↔◌, [], None, Some, IfSome};
-ghost use Rattle.std.specs.List.{Contains};
-ghost use Rattle.vk_spec.specs.Catalogues.{Asks, OnPage, CanAskVersion, CanAskManifest};
-ghost use Rattle.vk_spec.specs.Catalogues.{SaysGiven, SaysVersion, SaysManifest};
-ghost use Rattle.vk_version.specs.AskViews.{ask_view};
-ghost use Rattle.vk_catalogue.specs.Views.{given_answer, version_answer, manifest_answer};
+ghost use Rattle.std.specs.Prelude.{◌≡◌, IfOk, IfSome};
+ghost use Rattle.vk_spec.specs.Catalogues.{OnlyAsked, OnPages};
+ghost use Rattle.vk_base.specs.Stops.{was_out};
 ghost use Rattle.vk_files.specs.Kept.{IsOf, paths_of};
 ghost use Rattle.vk_opening.specs.Opened.{Opens};
 ghost use Rattle.vk_opening.specs.Views.{start_view, opened_files};
-ghost use Rattle.vk_world.specs.Answered.{pairs_given, pairs_listed};
-ghost use Rattle.vk_world.specs.Worlds.{state_of, origin_on, pages_in, known_in, IsReadSince};
+ghost use Rattle.vk_world.specs.Worlds.{state_of, origin_on, pages_in, IsReadSince};
 
 use crate::libraries::Library;
 use std::alloc::Global;
@@ -85,7 +81,6 @@ impl<T: Tree> World<T> {
             (T.state tree).told }
         ensures origin { (state_of T.state result).origin ≡ origin_on (start_view start)
             (paths_of (opened_files start)) (T.state tree) }
-        ensures known { known_in result.learned ≡ [] }
     {
         World {
             alloc,
@@ -118,39 +113,28 @@ impl<T: Tree> World<T> {
         }
     }
 
-    /// The folder where a version of a port stands; `None` exactly where that version wasn't
-    /// answered. Takes no memory.
-    pub fn folder(&self, port: &PortName, version: &Version) -> Option<&TreePath>
-        ensures none { (result ≡ None) ↔
-            (Contains (known_in self.now.learned) (port.now, version.now) → ⊥) }
-        ensures stands { IfSome result
-            (λ folder. IfSome (state_of T.state self.now).pages
-            (λ _. (state_of T.state self.now).origin.places port.now version.now ≡ Some
-            folder.now)) }
+    /// The folder where a version of a port stands; `None` exactly where the port has no such
+    /// version. The port is asked about, as in the calls of a catalogue.
+    pub fn folder(&mut self, port: &PortName, version: &Version) -> Result<Option<TreePath>, Outage>
+        ensures stands { IfOk result (λ folder. OnPages
+            (λ _. folder ≡ (state_of T.state self.old).origin.places port.now version.now)
+            (state_of T.state self.old)) }
+        ensures asked { OnlyAsked (was_out result) (state_of T.state self.old)
+            (state_of T.state self.new) }
     {
-        self.library.known.get(port, version)
+        self.library
+            .folder(self.alloc, &mut self.tree, port, version)
     }
 }
 
 impl<T: Tree> Catalogue for World<T> {
     ghost state = { state_of T.state };
 
-    fn given(&mut self, port: &PortName) -> Result<Result<Given, Wrong>, Outage>
-        ensures asks { Asks port.now SaysGiven (given_answer result) (state_of T.state self.old)
-            (state_of T.state self.new) }
-        ensures known { known_in self.new.learned ≡ pairs_given port.now (given_answer result)
-            (known_in self.old.learned) }
-    {
+    fn given(&mut self, port: &PortName) -> Result<Result<Given, Wrong>, Outage> {
         self.library.given(self.alloc, &mut self.tree, port)
     }
 
-    fn version(&mut self, port: &PortName, ask: &Ask) -> Result<Option<Version>, Outage>
-        requires { OnPage port.now CanAskVersion (state_of T.state self.old) }
-        ensures asks { Asks port.now (SaysVersion (ask_view ask.now)) (version_answer result)
-            (state_of T.state self.old) (state_of T.state self.new) }
-        ensures known { known_in self.new.learned ≡ pairs_listed port.now (version_answer result)
-            (known_in self.old.learned) }
-    {
+    fn version(&mut self, port: &PortName, ask: &Ask) -> Result<Option<Version>, Outage> {
         self.library.version(self.alloc, &mut self.tree, port, ask)
     }
 
@@ -158,12 +142,7 @@ impl<T: Tree> Catalogue for World<T> {
         &mut self,
         port: &PortName,
         ask: &Ask,
-    ) -> Result<Result<Rc<Manifest>, Wrong>, Outage>
-        requires { OnPage port.now (CanAskManifest (ask_view ask.now)) (state_of T.state self.old) }
-        ensures asks { Asks port.now (SaysManifest (ask_view ask.now)) (manifest_answer result)
-            (state_of T.state self.old) (state_of T.state self.new) }
-        ensures known { known_in self.new.learned ≡ known_in self.old.learned }
-    {
+    ) -> Result<Result<Rc<Manifest>, Wrong>, Outage> {
         self.library.manifest(self.alloc, &mut self.tree, port, ask)
     }
 

@@ -18,4 +18,4 @@ returns-in-None g c =
 pub returns-in-Some : goal.returns-in-Some
 returns-in-Some g c =
     meant_learned c.args.port.now c.args.registry.now c.args.table.now (ask_view c.args.ask.now) (row_view c.in-Some.row.now)
-    (sym c.row_meant.ensures ∙ ap (option_map (λ r. row_view r.now)) c.in-Some.is) c.row_manifest.ensures
+    (sym c.row_meant.ensures.row ∙ ap (option_map (λ r. row_view r.now)) c.in-Some.is) c.row_manifest.ensures

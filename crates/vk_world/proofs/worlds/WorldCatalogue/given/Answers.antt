@@ -9,7 +9,7 @@ use Rattle.vk_world.proofs.worlds.WorldCatalogue.given.Goals as goal
 pub invariant_of-self : goal.invariant_of-self
 invariant_of-self g c = still_sound c.self.inside.library c.given.new.self c.args.port.now c.self.invariant c.given.ensures.stays (of_home (start_of c.self.inside.library) c.args.port.now c.given.ensures.learns)
 
-pub returns-clause-asks : goal.returns-clause-asks
-returns-clause-asks g c =
+pub returns : goal.returns
+returns g c =
     rw (← c.self.view_is)
     (asks_learned c.self.inside.library c.given.new.self given_said c.args.port.now SaysGiven is_page c.self.invariant c.given.ensures.stays (λ t told x says. says) (of_home (start_of c.self.inside.library) c.args.port.now c.given.ensures.learns))

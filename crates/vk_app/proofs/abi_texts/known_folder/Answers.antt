@@ -1,7 +1,0 @@
-use Rattle.vk_base.specs.Names.{port_rule}
-use Rattle.vk_base.proofs.NameLemmas.{rule_from_no_fault}
-use Rattle.vk_opening.proofs.PartLemmas.{name_is_part}
-use Rattle.vk_app.proofs.abi_texts.known_folder.Goals as goal
-
-pub child-requires : goal.child-requires
-child-requires g c = rw (c.as_str.ensures.text) (name_is_part port_rule c.args.item.now.inst.port (rule_from_no_fault port_rule _ c.as_str.ensures.name))
