@@ -1,21 +1,20 @@
 -- What the floors of a clear closure come to.
 use Rattle.std.proofs.Common.{◌≡◌, ◌≢◌, ◌⊎◌, ℕ, Bool, true, false, cond, List, [], ◌∷◌, inl, inr, refl, ap, sym, ◌∙◌, subst}
 use Rattle.std.specs.Prelude.{Option, Some, None, IsSome, IfSome, Result, Ok, Err, IsOk, IfOk, flat_map}
-use Rattle.std.specs.declared.cmp.Ordering.{Ordering}
-use Rattle.std.specs.declared.cmp.Ordering.TheVariants.{Less, Equal, Greater}
-use Rattle.std.specs.Ordering.{is_eq, ordering_then, eq_by_cmp, nat_cmp}
-use Rattle.std.specs.Cmp.{eq_by_cmp_equiv}
+use Rattle.std.specs.declared.cmp.Ordering.TheVariants.{Less, Equal}
+use Rattle.std.specs.Ordering.{ordering_then, nat_cmp}
 use Rattle.std.specs.Cmp.Lexicographic.{slice_cmp}
-use Rattle.std.specs.List.{Contains, AllByRecursion}
+use Rattle.std.specs.List.{Contains}
 use Rattle.std.specs.List.Sorted.{IsStrictlySortedBy}
 use Rattle.std.specs.Map.{keys_of}
-use Rattle.std.proofs.lemmas.Map.Keys.{sorted_head, sorted_tail, IsDistinct-from_sorted}
-use Rattle.std.proofs.lemmas.Map.Views.{lookup-from_Contains, Contains-keys_from_lookup}
+use Rattle.std.proofs.lemmas.Map.Keys.{sorted_head, sorted_tail}
+use Rattle.std.proofs.lemmas.Map.Views.{Contains-keys_from_lookup}
+use Rattle.std.proofs.lemmas.Slice.Eq.{bytes_eq-Decides}
 use Rattle.vk_spec.specs.Versions.{Version, Ask, ask_of}
 use Rattle.vk_spec.specs.Settings.{Setting}
 use Rattle.vk_spec.specs.Pages.{Wrong, Given, overlay, override, baseline, given_ask, is_pinned_by}
 use Rattle.vk_spec.specs.Catalogues.{ArePages}
-use Rattle.vk_spec.proofs.ListLemmas.{contains_nothing, contains_first, contains_cases, contains-flat_map, flat_map-contains}
+use Rattle.vk_spec.proofs.ListLemmas.{contains_nothing, contains_first, contains-flat_map, flat_map-contains}
 use Rattle.vk_spec.proofs.OptionLemmas.{of_both}
 use Rattle.vk_version.specs.Orders.{at_most}
 use Rattle.vk_version.proofs.TestLemmas.{at_most-IsOrder}
@@ -50,10 +49,14 @@ use Rattle.vk_choices.specs.declared.chosen.ChooseFault.{ChooseFault}
 use Rattle.vk_choices.specs.declared.settling.Settled.{Settled}
 use Rattle.vk_choices.specs.ChoiceViews.{choices_view}
 use Rattle.vk_choices.specs.Conflicts.{AreConflicts, OnConflicts, conflicts_in}
-use Rattle.vk_choices.specs.Floors.{Rows, row_of, in_row, floors_at, versions_of, HaveFloors, CanAskFloors}
+use Rattle.vk_choices.specs.declared.asks.Asked.{Asked}
+use Rattle.vk_choices.specs.Rows.{Rows, row_of, in_row, listed_of, AreInOrder}
+use Rattle.vk_choices.specs.Asks.{HaveAsks}
+use Rattle.vk_choices.specs.Floors.{versions_of, HaveFloors, floors_for, CanAskFloors}
 use Rattle.vk_choices.specs.Tops.{IsAboveAll}
-use Rattle.vk_choices.specs.Settling.{AreRows, AreSettled, Settles, chosen_in, told_in}
-use Rattle.vk_choices.proofs.RowLemmas.{bytes_total, bytes_same}
+use Rattle.vk_choices.specs.Settling.{AreRows, AreSettled, AreSettledFor, chosen_in, told_in}
+use Rattle.vk_choices.proofs.RowLemmas.{each_of, row_is}
+use Rattle.vk_choices.proofs.FloorLemmas.{have_floors}
 use Rattle.vk_choices.proofs.ConflictLemmas.{greatest_some}
 
 -- ---- the floors of a pinned port are its given version
@@ -204,10 +207,6 @@ can_ask o reasons clear =
 
 -- ---- the rows of a clear closure
 
-each_of : {X : Type 0} (P : X → Type 0) (xs : List X) (x : X) → AllByRecursion P xs → Contains xs x → P x
-each_of P [] x all h = absurd (contains_nothing x h)
-each_of P (y ∷ ys) x all h = elim (contains_cases y x ys h) [ inl same ↦ subst P same all.0 | inr later ↦ each_of P ys x all.1 later ]
-
 ports_ascend : (ports : List (List ℕ)) → IsStrictlySortedBy (slice_cmp nat_cmp) ports → Ascends (λ p. p ∷ []) ports
 ports_ascend [] sorted = tt
 ports_ascend (p ∷ ports) sorted = (
@@ -219,7 +218,7 @@ there : (o : Option (List Floor)) → (in_row o ≡ [] → ⊥) → IsSome o
 there None some = absurd (some refl)
 there (Some floors) some = refl
 
-module _ (setting : Setting) (pages : Pages) (reasons : List Reason) (rows : Rows) (clear : IsClear (inputs_of setting pages) reasons) (have : HaveFloors pages (facts_of reasons) rows) where
+module _ (setting : Setting) (pages : Pages) (reasons : List Reason) (rows : Rows Floor) (clear : IsClear (inputs_of setting pages) reasons) (have : HaveFloors pages (facts_of reasons) rows) where
   abbrev facts : List Fact
   facts = facts_of reasons
 
@@ -229,14 +228,11 @@ module _ (setting : Setting) (pages : Pages) (reasons : List Reason) (rows : Row
   least : IsLeast (rules_of (inputs_of setting pages)) (facts_of reasons)
   least = clear.are_reasons.facts.least
 
-  row_is : (e : List ℕ × List Floor) → Contains rows e → row_of rows e.0 ≡ Some e.1
-  row_is e h = lookup-from_Contains (eq_by_cmp_equiv bytes_total) e.0 e.1 rows (IsDistinct-from_sorted (slice_cmp nat_cmp) (keys_of rows) have.ordered) h
-
-  floors_are_row : (e : List ℕ × List Floor) → Contains rows e → floors_at rows e.0 ≡ e.1
-  floors_are_row e h = ap in_row (row_is e h)
+  floors_are_row : (e : List ℕ × List Floor) → Contains rows e → listed_of rows e.0 ≡ e.1
+  floors_are_row e h = ap in_row (row_is rows have.ordered e h)
 
   not_empty : (e : List ℕ × List Floor) → Contains rows e → e.1 ≡ [] → ⊥
-  not_empty e h none = let clash : Some e.1 ≡ None = sym (row_is e h) ∙ have.some e.0 (floors_are_row e h ∙ none) in (cc)
+  not_empty e h none = let clash : Some e.1 ≡ None = sym (row_is rows have.ordered e h) ∙ have.some e.0 (floors_are_row e h ∙ none) in (cc)
 
   in_facts : (e : List ℕ × List Floor) → Contains rows e → (f : Floor) → Contains e.1 f → Contains facts (floor e.0 (ask_of f.version))
   in_facts e h f k = at_contains facts f.line (floor e.0 (ask_of f.version)) (have.lines e.0 f (subst (λ l. Contains l f) (sym (floors_are_row e h)) k))
@@ -265,16 +261,8 @@ module _ (setting : Setting) (pages : Pages) (reasons : List Reason) (rows : Row
   ports_from p h =
       let r = has_floor facts p h in
       let v = found setting pages facts least clear.clear p r.0 (have.sound p r.0 r.1) r.1 in
-      let held : Contains (versions_of (floors_at rows p)) v.0 = subst (λ l. Contains l v.0) (sym (have.versions p)) (floor_is all_inputs facts p r.0 v.0 r.1 v.1) in
-      Contains-keys_from_lookup same p rows (there (row_of rows p) (λ none. contains_nothing v.0 (subst (λ (l : List Floor). Contains (versions_of l) v.0) none held)))
-    where
-      same : (x y : List ℕ) → eq_by_cmp (slice_cmp nat_cmp) x y ≡ true → x ≡ y
-      same x y e = same_by x y (slice_cmp nat_cmp x y) refl e
-        where
-          same_by : (x y : List ℕ) (o : Ordering) → slice_cmp nat_cmp x y ≡ o → is_eq o ≡ true → x ≡ y
-          same_by x y Less at e = (cc)
-          same_by x y Equal at e = bytes_same x y at
-          same_by x y Greater at e = (cc)
+      let held : Contains (versions_of (listed_of rows p)) v.0 = subst (λ l. Contains l v.0) (sym (have.versions p)) (floor_is all_inputs facts p r.0 v.0 r.1 v.1) in
+      Contains-keys_from_lookup (λ x y. (bytes_eq-Decides x y).0) p rows (there (row_of rows p) (λ none. contains_nothing v.0 (subst (λ (l : List Floor). Contains (versions_of l) v.0) none held)))
 
   ports_are : keys_of rows ≡ floored_ports_of (facts_of reasons)
   ports_are = ascending_one (λ p. p ∷ []) (keys_of rows) (floored_ports_of facts) (ports_ascend (keys_of rows) have.ordered) (in_order-ascends (λ p. p ∷ []) (flat_map ports_in facts)) ports_to ports_from
@@ -303,20 +291,23 @@ module _ (setting : Setting) (pages : Pages) (reasons : List Reason) (rows : Row
 
 -- ---- what is answered
 
-module _ (o : Option Pages) (reasons : List Reason) (rows : Rows) (settled : Settled) (have : IfSome o (λ pages. HaveFloors pages (facts_of reasons) rows)) (settles : Settles rows settled) where
+module _ (o : Option Pages) (reasons : List Reason) (rows : Rows Asked) (settled : Settled) (have : HaveAsks (facts_of reasons) rows) (ordered : AreInOrder rows) (settles : IfSome o (λ pages. AreSettledFor pages rows settled)) where
+  all_floors : (pages : Pages) → AreSettledFor pages rows settled → HaveFloors pages (facts_of reasons) (floors_for pages rows)
+  all_floors pages so = have_floors pages (facts_of reasons) rows have ordered so.sound
+
   pub choices_answered : (result : Result Choices (Stop ChooseFault)) → IfOk result (λ c. choices_view c ≡ chosen_in settled) → IfOk result (λ c. told_in settled ≡ [])
       → IfOk result (λ c. IfSome o (λ pages. (setting : Setting) → IsClear (inputs_of setting pages) reasons → IsChoices (inputs_of setting pages) (facts_of reasons) (choices_view c)))
   choices_answered (Err e) is none = tt
   choices_answered (Ok c) is none =
-      of_both o have have (λ pages floors again. λ setting clear. (
+      of_both o settles settles (λ pages so again. λ setting clear. (
       subst (IsChoices (inputs_of setting pages) (facts_of reasons)) (sym is)
-      (choices_are setting pages reasons rows clear floors (chosen_in settled) (told_in settled) (settles setting pages (facts_of reasons) (rows_are setting pages reasons rows clear floors)) none)
+      (choices_are setting pages reasons (floors_for pages rows) clear (all_floors pages so) (chosen_in settled) (told_in settled) (so.settles setting pages (facts_of reasons) (rows_are setting pages reasons (floors_for pages rows) clear (all_floors pages so))) none)
       ))
 
   pub conflicts_answered : (result : Result Choices (Stop ChooseFault)) → OnConflicts result (λ lines. lines ≡ lines_of fault_line (told_in settled)) → OnConflicts result (λ lines. told_in settled ≢ [])
       → OnConflicts result (λ lines. IfSome o (λ pages. (setting : Setting) → IsClear (inputs_of setting pages) reasons → AreConflicts (inputs_of setting pages) (facts_of reasons) lines))
   conflicts_answered (Ok c) is some = tt
   conflicts_answered (Err e) is some =
-      of_both (stop_fault_in e) is some (λ fault same there. of_both o have have (λ pages floors again. λ setting clear. (
-      conflicts_are setting pages reasons rows clear floors (chosen_in settled) (told_in settled) (settles setting pages (facts_of reasons) (rows_are setting pages reasons rows clear floors)) (conflicts_in fault) same there
+      of_both (stop_fault_in e) is some (λ fault same there. of_both o settles settles (λ pages so again. λ setting clear. (
+      conflicts_are setting pages reasons (floors_for pages rows) clear (all_floors pages so) (chosen_in settled) (told_in settled) (so.settles setting pages (facts_of reasons) (rows_are setting pages reasons (floors_for pages rows) clear (all_floors pages so))) (conflicts_in fault) same there
       )))

@@ -1,117 +1,178 @@
--- Rows have the floors of facts, one fact after the other.
-use Rattle.std.proofs.Common.{◌≡◌, ◌<◌, ◌+◌, take, get_or, arith, ℕ, zero, suc, Bool, true, false, cond, List, [], ◌∷◌, ◌++◌, length, inl, inr, refl, ap, ap₂, sym, ◌∙◌, subst}
-use Rattle.std.specs.Prelude.{Option, Some, None, IfSome, option_map, option_to_list, bytes_eq}
-use Rattle.std.specs.List.{Contains, cons_option}
-use Rattle.std.proofs.lemmas.List.{take_more, map-append, length-map}
-use Rattle.std.proofs.lemmas.List.Elements.{Contains-push_cases, Contains-append_cases, Contains-get_or, filter_map-append}
+-- The floors of ports are those of facts, where they are the floors for what the facts ask.
+use Rattle.std.proofs.Common.{◌≡◌, ◌<◌, ◌+◌, take, get_or, ℕ, Bool, true, false, cond, List, [], ◌∷◌, ◌++◌, length, map, refl, ap, ap₂, sym, ◌∙◌, subst}
+use Rattle.std.specs.Prelude.{Option, Some, None, IfSome, option_map, option_to_list, filter_map, bytes_eq}
+use Rattle.std.specs.declared.cmp.Ordering.TheVariants.{Less}
+use Rattle.std.specs.Ordering.{nat_cmp}
+use Rattle.std.specs.Cmp.Lexicographic.{slice_cmp}
+use Rattle.std.specs.List.{Contains, AllByRecursion, cons_option}
+use Rattle.std.specs.List.Sorted.{IsStrictlySortedBy}
+use Rattle.std.specs.Map.{keys_of}
+use Rattle.std.proofs.lemmas.List.{take_more, map-append}
+use Rattle.std.proofs.lemmas.List.Elements.{filter_map-append}
+use Rattle.std.proofs.lemmas.Map.Keys.{sorted_head}
+use Rattle.std.proofs.lemmas.Map.Views.{Contains-from_lookup}
 use Rattle.std.proofs.lemmas.Slice.Eq.{bytes_eq-Decides}
 use Rattle.vk_spec.specs.Versions.{Version, Ask, ask_of}
 use Rattle.vk_spec.specs.Catalogues.{ArePages}
-use Rattle.vk_spec.proofs.OptionLemmas.{of_each, of_both}
+use Rattle.vk_spec.proofs.ListLemmas.{contains_nothing}
+use Rattle.vk_spec.proofs.OptionLemmas.{of_both}
+use Rattle.vk_version.specs.AskViews.{ask_view}
 use Rattle.vk_resolution.specs.Givens.{Pages, version_at}
 use Rattle.vk_resolution.specs.Asking.{Fact, need, floor, visit}
 use Rattle.vk_resolution.specs.Choices.{floor_in}
-use Rattle.vk_resolution.specs.Reasons.{fact_at, facts_of}
-use Rattle.vk_resolution.proofs.Members.{map_contains, option_contains}
+use Rattle.vk_resolution.specs.Reasons.{fact_at}
+use Rattle.vk_resolution.proofs.Members.{contains_map, contains-filter_map, filter_map-contains}
 use Rattle.vk_resolution.proofs.ChoiceLemmas.{version_ask}
 use Rattle.vk_resolution.proofs.Soundness.{map_some}
-use Rattle.vk_model.specs.declared.reasons.Reason.{Reason}
-use Rattle.vk_model.specs.FactViews.{fact_view, reason_view, reasons_view}
+use Rattle.vk_choices.specs.declared.asks.Asked.{Asked}
 use Rattle.vk_choices.specs.declared.floors.Floor.{Floor}
-use Rattle.vk_choices.specs.Floors.{Rows, floors_at, versions_of, on_line, floors_in, IsNoted, HaveFloors, CanAskFloor, CanAskFloors}
+use Rattle.vk_choices.specs.Rows.{Rows, row_of, in_row, listed_of, NoneIsEmpty, AreInOrder}
+use Rattle.vk_choices.specs.Asks.{AskOnLine, asked_view, asks_at, ask_in, HaveAsks}
+use Rattle.vk_choices.specs.Floors.{versions_of, HaveFloors, on_line, floor_for, AreFloors, row_with, floors_for}
+use Rattle.vk_choices.proofs.RowLemmas.{absent, are_apart, is_first, others_ascend}
 
--- ---- one fact more
+-- ---- one row before others
 
-one_version : (n : ℕ) (o : Option Version) → versions_of (option_to_list (option_map (on_line n) o)) ≡ cons_option o []
-one_version n None = refl
-one_version n (Some v) = refl
+front_by : (p q : List ℕ) (floors : List Floor) (rest : Rows Floor) (b : Bool) → bytes_eq p q ≡ b → (b ≡ true → listed_of rest p ≡ []) → listed_of (row_with q floors ++ rest) p ≡ cond b floors (listed_of rest p)
+front_by p q [] rest true same none = none refl
+front_by p q [] rest false other none = refl
+front_by p q (f ∷ floors) rest true same none = ap (λ c. in_row (cond c (Some (f ∷ floors)) (row_of rest p))) same
+front_by p q (f ∷ floors) rest false other none = ap (λ c. in_row (cond c (Some (f ∷ floors)) (row_of rest p))) other
 
-stays : (facts : List Fact) (x y : Fact) (n : ℕ) → fact_at facts n ≡ Some y → fact_at (facts ++ x ∷ []) n ≡ Some y
-stays facts x y zero e = (cc)
-stays [] x y (suc n) e = (cc)
-stays (z ∷ facts) x y (suc zero) e = e
-stays (z ∷ facts) x y (suc (suc n)) e = stays facts x y (suc n) e
+some_by : (f : Floor) (floors : List Floor) (o : Option (List Floor)) (b : Bool) → (in_row o ≡ [] → o ≡ None) → in_row (cond b (Some (f ∷ floors)) o) ≡ [] → cond b (Some (f ∷ floors)) o ≡ None
+some_by f floors o true rest e = (cc)
+some_by f floors o false rest e = rest e
 
-comes : (facts : List Fact) (x : Fact) → fact_at (facts ++ x ∷ []) (suc (length facts)) ≡ Some x
-comes [] x = refl
-comes (z ∷ facts) x = comes facts x
+some_front : (q : List ℕ) (floors : List Floor) (rest : Rows Floor) → NoneIsEmpty rest → NoneIsEmpty (row_with q floors ++ rest)
+some_front q [] rest some p e = some p e
+some_front q (f ∷ floors) rest some p e = some_by f floors (row_of rest p) (bytes_eq p q) (some p) e
 
-known_by : (pages : Pages) (p q : List ℕ) (a : Ask) (v : Version) (b : Bool) → bytes_eq q p ≡ b → cond b (version_at pages p a) None ≡ Some v → floor q a ≡ floor p (ask_of v)
-known_by pages p q a v true same e = ap₂ floor ((bytes_eq-Decides q p).0 same) (sym (version_ask pages p a v e))
-known_by pages p q a v false other e = (cc)
+above_front : (P : List ℕ → Type 0) (q : List ℕ) (floors : List Floor) (rest : Rows Floor) → P q → AllByRecursion P (keys_of rest) → AllByRecursion P (keys_of (row_with q floors ++ rest))
+above_front P q [] rest first all = all
+above_front P q (f ∷ floors) rest first all = (first, all)
 
--- a floor has its version's text and port-version
-pub known : (pages : Pages) (p : List ℕ) (x : Fact) (v : Version) → floor_in pages p x ≡ Some v → x ≡ floor p (ask_of v)
-known pages p (need who f) v e = (cc)
-known pages p (floor q a) v e = known_by pages p q a v (bytes_eq q p) refl e
-known pages p (visit i f a) v e = (cc)
+ordered_front : (q : List ℕ) (floors : List Floor) (rest : Rows Floor) → AllByRecursion (λ p. slice_cmp nat_cmp q p ≡ Less) (keys_of rest) → AreInOrder rest → AreInOrder (row_with q floors ++ rest)
+unfolding IsStrictlySortedBy
+ordered_front q [] rest above ordered = ordered
+ordered_front q (f ∷ floors) rest above ordered = (above, ordered)
 
-pub more_floors : (pages : Pages) (facts : List Fact) (x : Fact) (old new : Rows) → HaveFloors pages facts old → IsNoted pages x (suc (length facts)) old new → HaveFloors pages (facts ++ x ∷ []) new
-more_floors pages facts x old new have noted = record {
-  versions = λ p. (
-      ap versions_of (noted.floors p)
-      ∙ map-append (λ f. f.version) (floors_at old p) (floors_in pages p (suc (length facts)) x)
-      ∙ ap₂ (λ (l m : List Version). l ++ m) (have.versions p) (one_version (suc (length facts)) (floor_in pages p x))
-      ∙ sym (filter_map-append (floor_in pages p) facts (x ∷ []))
-      );
-  lines = lines;
-  some = noted.some have.some;
-  ordered = noted.ordered have.ordered;
-  sound = sound;
-}
-  where
-    added : (p : List ℕ) (f : Floor) → Contains (floors_in pages p (suc (length facts)) x) f → fact_at (facts ++ x ∷ []) f.line ≡ Some (floor p (ask_of f.version))
-    added p f h =
-        let r = map_some (on_line (suc (length facts))) (floor_in pages p x) f (option_contains (option_map (on_line (suc (length facts))) (floor_in pages p x)) f h) in
-        subst (λ (g : Floor). fact_at (facts ++ x ∷ []) g.line ≡ Some (floor p (ask_of g.version))) r.2 (comes facts x ∙ ap Some (known pages p x r.0 r.1))
+-- ---- the floors for what is asked
 
-    lines : (p : List ℕ) (f : Floor) → Contains (floors_at new p) f → fact_at (facts ++ x ∷ []) f.line ≡ Some (floor p (ask_of f.version))
-    lines p f h =
-        elim (Contains-append_cases (floors_at old p) (floors_in pages p (suc (length facts)) x) f (subst (λ l. Contains l f) (noted.floors p) h)) [
-          | inl was ↦ stays facts x (floor p (ask_of f.version)) f.line (have.lines p f was)
-          | inr is ↦ added p f is
-        ]
+module _ (pages : Pages) where
+  abbrev floors_in : List ℕ × List Asked → List Floor
+  floors_in e = filter_map (floor_for pages e.0) (map asked_view e.1)
 
-    sound : (p : List ℕ) (a : Ask) → Contains (facts ++ x ∷ []) (floor p a) → ArePages pages
-    sound p a h = elim (Contains-push_cases facts x (floor p a) h) [ inl was ↦ have.sound p a was | inr is ↦ noted.sound p a is ]
+  then_by : (p : List ℕ) (e : List ℕ × List Asked) (rows : Rows Asked) (b : Bool) → bytes_eq p e.0 ≡ b → listed_of (floors_for pages rows) p ≡ filter_map (floor_for pages p) (asks_at rows p)
+      → cond b (floors_in e) (listed_of (floors_for pages rows) p) ≡ filter_map (floor_for pages p) (map asked_view (in_row (cond b (Some e.1) (row_of rows p))))
+  then_by p e rows true same rest = ap (λ q. filter_map (floor_for pages q) (map asked_view e.1)) (sym ((bytes_eq-Decides p e.0).0 same))
+  then_by p e rows false other rest = rest
 
--- ---- the facts of reasons, one more
+  pub listed_for : (rows : Rows Asked) → AreInOrder rows → (p : List ℕ) → listed_of (floors_for pages rows) p ≡ filter_map (floor_for pages p) (asks_at rows p)
+  listed_for [] ordered p = refl
+  listed_for (e ∷ rows) ordered p =
+      let rest = listed_for rows (others_ascend e rows ordered) p in
+      let none : bytes_eq p e.0 ≡ true → listed_of (floors_for pages rows) p ≡ [] = λ same. (
+      rest ∙ ap (λ o. filter_map (floor_for pages p) (map asked_view (in_row o))) (absent p rows (λ h. are_apart e.0 p (is_first e rows ordered p h) (sym ((bytes_eq-Decides p e.0).0 same))))
+      ) in
+      front_by p e.0 (floors_in e) (floors_for pages rows) (bytes_eq p e.0) refl none
+      ∙ then_by p e rows (bytes_eq p e.0) refl rest
 
-pub length_take : {X : Type 0} (xs : List X) (i : ℕ) → i < length xs → length (take i xs) ≡ i
-length_take xs zero h = refl
-length_take [] (suc i) h = absurd (omega (arith, h))
-length_take (x ∷ xs) (suc i) h = ap suc (length_take xs i (omega (arith, h)))
+  some_for : (rows : Rows Asked) → NoneIsEmpty (floors_for pages rows)
+  some_for [] p none = refl
+  some_for (e ∷ rows) p none = some_front e.0 (floors_in e) (floors_for pages rows) (some_for rows) p none
 
-abbrev facts_to : List Reason → ℕ → List Fact
-facts_to reasons i = facts_of (reasons_view (take i reasons))
+  above_for : (P : List ℕ → Type 0) (rows : Rows Asked) → AllByRecursion P (keys_of rows) → AllByRecursion P (keys_of (floors_for pages rows))
+  above_for P [] all = tt
+  above_for P (e ∷ rows) all = above_front P e.0 (floors_in e) (floors_for pages rows) all.0 (above_for P rows all.1)
 
-facts_more : (reasons : List Reason) (i : ℕ) (r : Reason) → i < length reasons → r ≡ get_or reasons i r → facts_to reasons (i + 1) ≡ facts_to reasons i ++ fact_view r.fact ∷ []
-facts_more reasons i r within is =
-    ap (λ l. facts_of (reasons_view l)) (take_more reasons i r within ∙ ap (λ x. take i reasons ++ x ∷ []) (sym is))
-    ∙ ap facts_of (map-append reason_view (take i reasons) (r ∷ []))
-    ∙ map-append (λ x. x.fact) (reasons_view (take i reasons)) (reason_view r ∷ [])
+  ordered_for : (rows : Rows Asked) → AreInOrder rows → AreInOrder (floors_for pages rows)
+  ordered_for [] ordered = ordered
+  ordered_for (e ∷ rows) ordered =
+      ordered_front e.0 (floors_in e) (floors_for pages rows)
+      (above_for (λ p. slice_cmp nat_cmp e.0 p ≡ Less) rows (sorted_head (slice_cmp nat_cmp) e.0 (keys_of rows) ordered))
+      (ordered_for rows (others_ascend e rows ordered))
 
-facts_length : (reasons : List Reason) (i : ℕ) → i < length reasons → i + 1 ≡ suc (length (facts_to reasons i))
-facts_length reasons i within =
-    let a = length-map (reasons_view (take i reasons)) (λ x. x.fact) in
-    let b = length-map (take i reasons) reason_view in
-    let d = length_take reasons i within in
-    omega (arith, a, b, d)
+  -- ---- versions
 
-pub floors_more : (o : Option Pages) (reasons : List Reason) (i n : ℕ) (r : Reason) (old new : Rows) → i < length reasons → r ≡ get_or reasons i r → n ≡ i + 1
-    → IfSome o (λ pages. HaveFloors pages (facts_to reasons i) old) → IfSome o (λ pages. IsNoted pages (fact_view r.fact) n old new) → IfSome o (λ pages. HaveFloors pages (facts_to reasons (i + 1)) new)
-floors_more o reasons i n r old new within is line have step =
-    of_both o have step (λ pages before more.
-    subst (λ l. HaveFloors pages l new) (sym (facts_more reasons i r within is))
-    (more_floors pages (facts_to reasons i) (fact_view r.fact) old new before (subst (λ k. IsNoted pages (fact_view r.fact) k old new) (line ∙ facts_length reasons i within) more)))
+  one_version : (n : ℕ) (o : Option Version) (floors : List Floor) → versions_of (cons_option (option_map (on_line n) o) floors) ≡ cons_option o (versions_of floors)
+  one_version n None floors = refl
+  one_version n (Some v) floors = refl
 
--- ---- what may be asked
+  versions_for : (p : List ℕ) (asks : List AskOnLine) → versions_of (filter_map (floor_for pages p) asks) ≡ filter_map (version_at pages p) (map (λ a. a.ask) asks)
+  versions_for p [] = refl
+  versions_for p (a ∷ asks) = one_version a.line (version_at pages p a.ask) (filter_map (floor_for pages p) asks) ∙ ap (cons_option (version_at pages p a.ask)) (versions_for p asks)
 
-each_of : (reasons : List Reason) (i : ℕ) (r : Reason) → i < length reasons → r ≡ get_or reasons i r → Contains (facts_of (reasons_view reasons)) (fact_view r.fact)
-each_of reasons i r within is =
-    subst (λ (k : Reason). Contains (facts_of (reasons_view reasons)) (fact_view k.fact)) (sym is)
-    (map_contains (λ x. x.fact) (reasons_view reasons) (reason_view (get_or reasons i r)) (map_contains reason_view reasons (get_or reasons i r) (Contains-get_or reasons i r within)))
+  asked_by : (p : List ℕ) (a : Ask) (asks : List Ask) (b : Bool) → filter_map (version_at pages p) (cons_option (cond b (Some a) None) asks) ≡ cons_option (cond b (version_at pages p a) None) (filter_map (version_at pages p) asks)
+  asked_by p a asks true = refl
+  asked_by p a asks false = refl
 
-pub can_ask_each : (o : Option Pages) (reasons : List Reason) (i : ℕ) (r : Reason) → i < length reasons → r ≡ get_or reasons i r → IfSome o (CanAskFloors (facts_of (reasons_view reasons))) → IfSome o (CanAskFloor (fact_view r.fact))
-can_ask_each o reasons i r within is can =
-    of_both o can (of_each o (λ pages. tt)) (λ pages all (u : Unit {0}). λ p a e. all p a (subst (Contains (facts_of (reasons_view reasons))) e (each_of reasons i r within is)))
+  one_asked : (p : List ℕ) (x : Fact) (asks : List Ask) → filter_map (version_at pages p) (cons_option (ask_in p x) asks) ≡ cons_option (floor_in pages p x) (filter_map (version_at pages p) asks)
+  one_asked p (need who f) asks = refl
+  one_asked p (floor q a) asks = asked_by p a asks (bytes_eq q p)
+  one_asked p (visit i f a) asks = refl
+
+  versions_asked : (p : List ℕ) (facts : List Fact) → filter_map (version_at pages p) (filter_map (ask_in p) facts) ≡ filter_map (floor_in pages p) facts
+  versions_asked p [] = refl
+  versions_asked p (x ∷ facts) = one_asked p x (filter_map (ask_in p) facts) ∙ ap (cons_option (floor_in pages p x)) (versions_asked p facts)
+
+  -- ---- all of it
+
+  module _ (facts : List Fact) (rows : Rows Asked) (have : HaveAsks facts rows) where
+    line_for : (p : List ℕ) (f : Floor) → Contains (filter_map (floor_for pages p) (asks_at rows p)) f → fact_at facts f.line ≡ Some (floor p (ask_of f.version))
+    line_for p f h =
+        let a = contains-filter_map (floor_for pages p) (asks_at rows p) f h in
+        let v = map_some (on_line a.0.line) (version_at pages p a.0.ask) f a.2 in
+        subst (λ (g : Floor). fact_at facts g.line ≡ Some (floor p (ask_of g.version))) v.2
+        (have.lines p a.0 a.1 ∙ ap (λ b. Some (floor p b)) (sym (version_ask pages p a.0.ask v.0 v.1)))
+
+    is_asked : (p : List ℕ) (a : Ask) → Contains facts (floor p a) → (b : AskOnLine) × Contains (asks_at rows p) b
+    is_asked p a h =
+        let asks : ask_in p (floor p a) ≡ Some a = ap (λ c. cond c (Some a) None) ((bytes_eq-Decides p p).1 refl) in
+        let b = contains_map (λ (x : AskOnLine). x.ask) (asks_at rows p) a (subst (λ l. Contains l a) (sym (have.asks p)) (filter_map-contains (ask_in p) facts (floor p a) a h asks)) in
+        (b.0, b.1)
+
+    in_a_row : (p : List ℕ) (a : AskOnLine) (o : Option (List Asked)) → row_of rows p ≡ o → Contains (map asked_view (in_row o)) a → (e : List ℕ × List Asked) × Contains rows e × Contains (map asked_view e.1) a
+    in_a_row p a None is h = absurd (contains_nothing a h)
+    in_a_row p a (Some xs) is h = ((p, xs), Contains-from_lookup (λ q r. (bytes_eq-Decides q r).0) p xs rows is, h)
+
+    pub have_floors : AreInOrder rows → ((e : List ℕ × List Asked) (a : AskOnLine) → Contains rows e → Contains (map asked_view e.1) a → ArePages pages) → HaveFloors pages facts (floors_for pages rows)
+    have_floors ordered sound = record {
+      versions = λ p. (
+          ap versions_of (listed_for rows ordered p)
+          ∙ versions_for p (asks_at rows p)
+          ∙ ap (filter_map (version_at pages p)) (have.asks p)
+          ∙ versions_asked p facts
+          );
+      lines = λ p f h. line_for p f (subst (λ l. Contains l f) (listed_for rows ordered p) h);
+      some = some_for rows;
+      ordered = ordered_for rows ordered;
+      sound = λ p a h. (let b = is_asked p a h in let e = in_a_row p b.0 (row_of rows p) refl b.1 in sound e.0 b.0 e.1 e.2);
+    }
+
+-- ---- one ask more
+
+one_floor : (pages : Pages) (p : List ℕ) (a : AskOnLine) (o : Option Floor) → o ≡ floor_for pages p a → option_to_list o ≡ filter_map (floor_for pages p) (a ∷ [])
+one_floor pages p a None e = ap (λ (r : Option Floor). cons_option r []) e
+one_floor pages p a (Some f) e = ap (λ (r : Option Floor). cons_option r []) e
+
+module _ (p : List ℕ) (asks : List Asked) (i : ℕ) (x : Asked) (within : i < length asks) (is : x ≡ get_or asks i x) where
+  asks_more : map asked_view (take (i + 1) asks) ≡ map asked_view (take i asks) ++ asked_view x ∷ []
+  asks_more = ap (map asked_view) (take_more asks i x within ∙ ap (λ y. take i asks ++ y ∷ []) (sym is)) ∙ map-append asked_view (take i asks) (x ∷ [])
+
+  one_more : (pages : Pages) (found : Option Version) (old new : List Floor) → AreFloors pages p (map asked_view (take i asks)) old → found ≡ version_at pages p (ask_view x.ask.now) → ArePages pages → new ≡ old ++ option_to_list (option_map (on_line x.line) found)
+      → AreFloors pages p (map asked_view (take (i + 1) asks)) new
+  one_more pages found old new before says are more =
+      subst (λ l. AreFloors pages p l new) (sym asks_more)
+      (record {
+        are = (
+            more
+            ∙ ap₂ (λ (l m : List Floor). l ++ m) before.are (one_floor pages p (asked_view x) (option_map (on_line x.line) found) (ap (option_map (on_line x.line)) says))
+            ∙ sym (filter_map-append (floor_for pages p) (map asked_view (take i asks)) (asked_view x ∷ []))
+            );
+        sound = λ a h. are;
+      })
+
+  pub floors_more : (o : Option Pages) (found : Option Version) (old new : List Floor) → IfSome o (λ pages. AreFloors pages p (map asked_view (take i asks)) old) → IfSome o (λ pages. found ≡ version_at pages p (ask_view x.ask.now)) → IfSome o (λ pages. ArePages pages)
+      → new ≡ old ++ option_to_list (option_map (on_line x.line) found) → IfSome o (λ pages. AreFloors pages p (map asked_view (take (i + 1) asks)) new)
+  floors_more o found old new before says kept more =
+      of_both o before (of_both {R = λ pages. (found ≡ version_at pages p (ask_view x.ask.now)) × ArePages pages} o says kept (λ pages said are. (said, are))) (λ pages floors both. one_more pages found old new floors both.0 both.1 more)

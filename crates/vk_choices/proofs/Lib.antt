@@ -1,4 +1,5 @@
 mod RowLemmas
+mod AskLemmas
 mod FloorLemmas
 mod TopLemmas
 mod ConflictLemmas

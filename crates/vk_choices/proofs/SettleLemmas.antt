@@ -1,18 +1,18 @@
 -- Ports are settled one after the other.
-use Rattle.std.proofs.Common.{◌≡◌, ◌<◌, ◌⊎◌, get_or, ℕ, Bool, true, false, cond, List, [], ◌∷◌, ◌++◌, length, map, inl, inr, refl, ap, ap₂, sym, ◌∙◌, subst, arith}
-use Rattle.std.specs.Prelude.{Option, Some, None, Result, Ok, Err, OnOk, flat_map, bytes_eq}
-use Rattle.std.specs.declared.cmp.Ordering.TheVariants.{Less, Equal}
+use Rattle.std.proofs.Common.{◌≡◌, ◌⊎◌, get_or, ℕ, Bool, List, [], ◌∷◌, ◌++◌, map, inl, inr, refl, ap, ap₂, sym, ◌∙◌, subst}
+use Rattle.std.specs.Prelude.{Option, Some, None, IfSome, Result, Ok, Err, OnOk, flat_map, bytes_eq}
+use Rattle.std.specs.declared.cmp.Ordering.TheVariants.{Less}
 use Rattle.std.specs.Ordering.{nat_cmp}
-use Rattle.std.specs.Cmp.{tied_itself}
 use Rattle.std.specs.Cmp.Lexicographic.{slice_cmp}
-use Rattle.std.specs.List.{Contains, All}
+use Rattle.std.specs.List.{Contains}
 use Rattle.std.specs.Map.{keys_of, lookup}
 use Rattle.std.proofs.lemmas.List.{append-nil, map-append}
 use Rattle.std.proofs.lemmas.List.Concat.{flat_map-append}
-use Rattle.std.proofs.lemmas.List.Elements.{Contains-push, Contains-push_cases, Contains-append_left, Contains-append_cases, All-contains}
-use Rattle.std.proofs.lemmas.Slice.Eq.{bytes_eq-Decides}
+use Rattle.std.proofs.lemmas.List.Elements.{Contains-push, Contains-push_cases, Contains-append_left, Contains-append_right, Contains-append_cases}
 use Rattle.vk_spec.specs.Versions.{Version}
 use Rattle.vk_spec.specs.Settings.{Setting}
+use Rattle.vk_spec.specs.Catalogues.{CanAskVersion}
+use Rattle.vk_spec.proofs.OptionLemmas.{of_both}
 use Rattle.vk_spec.proofs.ListLemmas.{contains_nothing, contains_first, contains_later}
 use Rattle.vk_resolution.specs.Givens.{Pages}
 use Rattle.vk_resolution.specs.Asking.{Fact}
@@ -22,15 +22,18 @@ use Rattle.vk_resolution.specs.Faults.{conflicts_of}
 use Rattle.vk_resolution.specs.Planner.{inputs_of}
 use Rattle.vk_resolution.specs.Selections as choice
 use Rattle.vk_resolution.specs.Selections.{IsChoice}
-use Rattle.vk_resolution.proofs.Members.{contains_single}
+use Rattle.vk_resolution.proofs.Members.{contains_single, map_contains}
 use Rattle.vk_choices.specs.declared.chosen.Choice.{Choice}
 use Rattle.vk_choices.specs.declared.floors.Floor.{Floor}
 use Rattle.vk_choices.specs.declared.settling.Settled.{Settled}
 use Rattle.vk_choices.specs.ChoiceViews.{choice_view}
-use Rattle.vk_choices.specs.Floors.{Rows}
-use Rattle.vk_choices.specs.Tops.{IsAboveAll, IsGreatest, AreFirstTwo}
-use Rattle.vk_choices.specs.Settling.{choice_on, conflict_on, chosen_in, told_in, IsAdded, by_choice, by_conflict, IsRow, AreSettled, Settles, ports_in}
-use Rattle.vk_choices.proofs.RowLemmas.{bytes_total}
+use Rattle.vk_choices.specs.declared.asks.Asked.{Asked}
+use Rattle.vk_choices.specs.Rows.{Rows, AreInOrder}
+use Rattle.vk_choices.specs.Asks.{asked_view}
+use Rattle.vk_choices.specs.Floors.{AreFloors, row_with, floors_for, CanAskPorts}
+use Rattle.vk_choices.specs.Tops.{IsAboveAll, IsGreatest, IsFirst, AreFirstTwo, both, is_later_top}
+use Rattle.vk_choices.specs.Settling.{choice_on, conflict_on, chosen_in, told_in, TellsTwo, IsAdded, by_choice, by_conflict, IsRow, AreSettled, AreSettledFor, Settles, ports_in}
+use Rattle.vk_choices.proofs.RowLemmas.{absent, are_apart, is_first}
 use Rattle.vk_choices.proofs.TopLemmas.{got, got_whole}
 use Rattle.vk_choices.proofs.ConflictLemmas.{greatest_some, greatest_none, conflict_told}
 
@@ -76,7 +79,7 @@ module _ (setting : Setting) (pages : Pages) (facts : List Fact) where
     told = ap₂ (λ (l m : List plain.Fault). l ++ m) was.told is.told ∙ sym (flat_map-append (λ q. conflicts_of (inputs_of setting pages) facts q (chosen_of (inputs_of setting pages) facts q)) ports (p ∷ []));
   }
 
-pub added_settles : (done : Rows) (p : List ℕ) (floors : List Floor) (old new : Settled) → Settles done old → IsAdded p floors old new → Settles (done ++ (p, floors) ∷ []) new
+added_settles : (done : Rows Floor) (p : List ℕ) (floors : List Floor) (old new : Settled) → Settles done old → IsAdded p floors old new → Settles (done ++ (p, floors) ∷ []) new
 added_settles done p floors old new was (by_choice f h above chosen told) setting pages facts rows =
     let row : IsRow setting pages facts p floors = rows (p, floors) (Contains-push done (p, floors)) in
     let before = was setting pages facts (λ e k. rows e (Contains-append_left done ((p, floors) ∷ []) e k)) in
@@ -92,12 +95,50 @@ added_settles done p floors old new was (by_conflict none two chosen) setting pa
     (subst (λ (cs : List choice.Choice). AreSettled setting pages facts (keys_of done ++ p ∷ []) cs (told_in new)) (append-nil (chosen_in old) ∙ sym chosen)
     (subst (λ (fs : List plain.Fault). AreSettled setting pages facts (keys_of done ++ p ∷ []) (chosen_in old ++ []) fs) (sym two.told) after))
 
-pub nothing_settled : (s : Settled) → chosen_in s ≡ [] → told_in s ≡ [] → Settles [] s
-nothing_settled s chosen told setting pages facts rows = record {
-  each = λ c h. absurd (contains_nothing c (subst (λ (l : List choice.Choice). Contains l c) chosen h));
-  all = λ have. ap (map (λ (c : choice.Choice). c.port)) chosen;
-  told = told;
+-- a port without floors is settled by nothing
+none_first : (test : Floor → Bool) (o : Option Floor) → IsFirst test [] o → o ≡ None
+none_first test None first = refl
+none_first test (Some f) first = absurd (contains_nothing f first.0)
+
+none_told : (p : List ℕ) (old new : List plain.Fault) → TellsTwo p [] old new → new ≡ old
+none_told p old new tells =
+    let none : tells.two ≡ None = tells.are.told ∙ ap (λ o. both o tells.are.second) (none_first (is_later_top [] None) tells.are.first tells.are.is_first) in
+    tells.told ∙ ap (λ two. old ++ conflict_on p two) none ∙ append-nil old
+
+none_settles : (done : Rows Floor) (p : List ℕ) (old new : Settled) → Settles done old → IsAdded p [] old new → Settles done new
+none_settles done p old new was (by_choice f h above chosen told) setting pages facts rows = absurd (contains_nothing f h)
+none_settles done p old new was (by_conflict none two chosen) setting pages facts rows =
+    subst (λ (cs : List choice.Choice). AreSettled setting pages facts (keys_of done) cs (told_in new)) (sym chosen)
+    (subst (λ (fs : List plain.Fault). AreSettled setting pages facts (keys_of done) (chosen_in old) fs) (sym (none_told p (told_in old) (told_in new) two)) (was setting pages facts rows))
+
+row_settles : (done : Rows Floor) (p : List ℕ) (floors : List Floor) (old new : Settled) → Settles done old → IsAdded p floors old new → Settles (done ++ row_with p floors) new
+row_settles done p [] old new was added = subst (λ (l : Rows Floor). Settles l new) (sym (append-nil done)) (none_settles done p old new was added)
+row_settles done p (f ∷ floors) old new was added = added_settles done p (f ∷ floors) old new was added
+
+-- ---- the ports of which something is asked
+
+more_settled : (pages : Pages) (done : Rows Asked) (p : List ℕ) (asks : List Asked) (floors : List Floor) (old new : Settled) → AreSettledFor pages done old → AreFloors pages p (map asked_view asks) floors → IsAdded p floors old new → AreSettledFor pages (done ++ (p, asks) ∷ []) new
+more_settled pages done p asks floors old new was are added = record {
+  settles =
+      subst (λ (l : Rows Floor). Settles l new)
+      (ap (λ (l : List Floor). floors_for pages done ++ row_with p l) are.are ∙ ap (λ (l : Rows Floor). floors_for pages done ++ l) (sym (append-nil _)) ∙ sym (flat_map-append _ done ((p, asks) ∷ [])))
+      (row_settles (floors_for pages done) p floors old new was.settles added);
+  sound = λ e a h k. (
+      elim (Contains-push_cases done (p, asks) e h) [
+        | inl old ↦ was.sound e a old k
+        | inr same ↦ are.sound a (subst (λ (d : List ℕ × List Asked). Contains (map asked_view d.1) a) (sym same) k)
+      ]
+      );
 }
+
+pub more_settled_on : (o : Option Pages) (done : Rows Asked) (p : List ℕ) (asks : List Asked) (floors : List Floor) (old new : Settled) → IfSome o (λ pages. AreSettledFor pages done old) → IfSome o (λ pages. AreFloors pages p (map asked_view asks) floors) → IsAdded p floors old new
+    → IfSome o (λ pages. AreSettledFor pages (done ++ (p, asks) ∷ []) new)
+more_settled_on o done p asks floors old new was are added = of_both o was are (λ pages before now. more_settled pages done p asks floors old new before now added)
+
+-- the port that comes next can be asked for
+pub can_ask_next : (o : Option Pages) (all done left : Rows Asked) (e : List ℕ × List Asked) → done ++ e ∷ left ≡ all → IfSome o (CanAskPorts (keys_of all)) → IfSome o (λ pages. CanAskVersion (pages e.0))
+can_ask_next o all done left e split can =
+    of_both o can can (λ pages each again. each e.0 (map_contains (λ (d : List ℕ × List Asked). d.0) all e (subst (λ (l : Rows Asked). Contains l e) split (Contains-append_right done (e ∷ left) e (contains_first e left)))))
 
 -- ---- the ports that are settled
 
@@ -117,32 +158,15 @@ settled_cases p q floors old new added h = elim (ports_by p floors old new added
 ]
 
 -- settled ports stand before those that are left
-abbrev pub AreBehind : Rows → Settled → Type 0
+abbrev pub AreBehind : Rows Asked → Settled → Type 0
 AreBehind left s = (p q : List ℕ) → Contains (ports_in s) p → Contains (keys_of left) q → slice_cmp nat_cmp p q ≡ Less
 
-pub behind_more : (p : List ℕ) (floors : List Floor) (all left : Rows) (old new : Settled) → all ≡ (p, floors) ∷ left → All (λ q. slice_cmp nat_cmp p q ≡ Less) (keys_of left) → AreBehind all old → IsAdded p floors old new → AreBehind left new
-behind_more p floors all left old new split first behind added q r h k =
-    elim (settled_cases p q floors old new added h) [
-      | inl was ↦ behind q r was (subst (λ (l : Rows). Contains (keys_of l) r) (sym split) (contains_later p r (keys_of left) k))
-      | inr same ↦ subst (λ s. slice_cmp nat_cmp s r ≡ Less) same (All-contains (λ s. slice_cmp nat_cmp p s ≡ Less) (keys_of left) r first k)
+pub behind_more : (e : List ℕ × List Asked) (left : Rows Asked) (floors : List Floor) (old new : Settled) → AreInOrder (e ∷ left) → AreBehind (e ∷ left) old → IsAdded e.0 floors old new → AreBehind left new
+behind_more e left floors old new ordered behind added q r h k =
+    elim (settled_cases e.0 q floors old new added h) [
+      | inl was ↦ behind q r was (contains_later e.0 r (keys_of left) k)
+      | inr same ↦ subst (λ s. slice_cmp nat_cmp s r ≡ Less) same (is_first e left ordered r k)
     ]
 
-absent_by : (p : List ℕ) (e : List ℕ × Choice) (es : List (List ℕ × Choice)) (b : Bool) → bytes_eq p e.0 ≡ b → (Contains (keys_of (e ∷ es)) p → ⊥) → lookup (bytes_eq p) es ≡ None → cond b (Some e.1) (lookup (bytes_eq p) es) ≡ None
-absent_by p e es true same new rest = absurd (new (subst (Contains (keys_of (e ∷ es))) (sym ((bytes_eq-Decides p e.0).0 same)) (contains_first e.0 (keys_of es))))
-absent_by p e es false other new rest = rest
-
-pub absent : (p : List ℕ) (es : List (List ℕ × Choice)) → (Contains (keys_of es) p → ⊥) → lookup (bytes_eq p) es ≡ None
-absent p [] new = refl
-absent p (e ∷ es) new = absent_by p e es (bytes_eq p e.0) refl new (absent p es (λ h. new (contains_later e.0 p (keys_of es) h)))
-
-pub is_new : (p : List ℕ) (floors : List Floor) (all left : Rows) (s : Settled) → all ≡ (p, floors) ∷ left → AreBehind all s → lookup (bytes_eq p) s.choices.ports.entries ≡ None
-is_new p floors all left s split behind =
-    absent p s.choices.ports.entries (λ h. (
-    let less : slice_cmp nat_cmp p p ≡ Less = behind p p h (subst (λ (l : Rows). Contains (keys_of l) p) (sym split) (contains_first p (keys_of left))) in
-    let clash : Equal ≡ Less = sym (tied_itself bytes_total p) ∙ less in
-    (cc)
-    ))
-
-pub none_left : (rows : Rows) → (0 < length rows → ⊥) → rows ≡ []
-none_left [] none = refl
-none_left (e ∷ es) none = absurd (none (omega arith))
+pub is_new : (e : List ℕ × List Asked) (left : Rows Asked) (s : Settled) → AreBehind (e ∷ left) s → lookup (bytes_eq e.0) s.choices.ports.entries ≡ None
+is_new e left s behind = absent e.0 s.choices.ports.entries (λ h. are_apart e.0 e.0 (behind e.0 e.0 h (contains_first e.0 (keys_of left))) refl)

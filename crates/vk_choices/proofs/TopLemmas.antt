@@ -7,7 +7,7 @@ use Rattle.std.specs.Ordering.{is_lt}
 use Rattle.std.specs.List.{Contains, list_all, list_any}
 use Rattle.std.specs.List.Sorted.{IsPermutation}
 use Rattle.std.proofs.lemmas.List.Sorted.{Contains-permutation, IsPermutation-sym}
-use Rattle.std.proofs.lemmas.List.{take_more}
+use Rattle.std.proofs.lemmas.List.{take_more, length-take-le}
 use Rattle.std.proofs.lemmas.List.Elements.{Contains-push, Contains-push_cases, Contains-append_left}
 use Rattle.vk_spec.specs.Versions.{Version, ask_of}
 use Rattle.vk_spec.proofs.ListLemmas.{contains_first, contains_later}
@@ -21,7 +21,6 @@ use Rattle.vk_choices.specs.declared.floors.Floor.{Floor}
 use Rattle.vk_resolution.specs.Faults as plain
 use Rattle.vk_choices.specs.Settling.{TellsTwo}
 use Rattle.vk_choices.specs.Tops.{IsAboveAll, IsGreatest, IsHighest, is_below, is_sooner, is_after, is_ahead, is_later_top, IsFirst, AreFirstTwo, floor_version, ask_key}
-use Rattle.vk_choices.proofs.FloorLemmas.{length_take}
 
 -- ---- places
 
@@ -100,7 +99,7 @@ module _ (floors : List Floor) (i best : ℕ) (d e : Floor) (within : i < length
   pub new_highest : at_most (get_or floors best d).version (get_or floors i e).version ≡ true → IsHighest (take (i + 1) floors) i
   new_highest rise =
       subst (λ (l : List Floor). IsHighest l i) (sym (take_more floors i e within))
-      (subst (λ k. IsHighest (take i floors ++ get_or floors i e ∷ []) k) (length_take floors i within)
+      (subst (λ k. IsHighest (take i floors ++ get_or floors i e ∷ []) k) (length-take-le i floors (omega (arith, within)))
       (rises (take i floors) (get_or floors i e) best is (subst (λ (x : Floor). at_most x.version (get_or floors i e).version ≡ true) (sym candidate) rise)))
 
   pub same_highest : at_most (get_or floors best d).version (get_or floors i e).version ≡ false → IsHighest (take (i + 1) floors) best

@@ -1,9 +1,10 @@
 -- What the floors of ports come to: choices, or conflicts that are told.
-use Rattle.std.specs.Prelude.{◌≡◌, ◌++◌, ℕ, false, List, [], ◌∷◌, map, flat_map, Option, Some, None}
+use Rattle.std.specs.Prelude.{◌≡◌, ◌++◌, ℕ, false, List, [], ◌∷◌, map, flat_map, Option, Some, None, IfSome}
 use Rattle.std.specs.List.{Contains}
 use Rattle.std.specs.Map.{keys_of}
 use Rattle.vk_spec.specs.Versions.{Version, ask_of}
 use Rattle.vk_spec.specs.Settings.{Setting}
+use Rattle.vk_spec.specs.Catalogues.{ArePages}
 use Rattle.vk_resolution.specs.Givens.{Pages, is_pinned}
 use Rattle.vk_resolution.specs.Asking.{Fact, floor}
 use Rattle.vk_resolution.specs.Choices.{chosen_of, floors_of, greatest_of}
@@ -14,10 +15,13 @@ use Rattle.vk_resolution.specs.Planner.{inputs_of}
 use Rattle.vk_resolution.specs.Selections as choice
 use Rattle.vk_resolution.specs.Selections.{IsChoice}
 use Rattle.vk_model.specs.FaultViews.{fault_view}
+use Rattle.vk_choices.specs.declared.asks.Asked.{Asked}
 use Rattle.vk_choices.specs.declared.floors.Floor.{Floor}
 use Rattle.vk_choices.specs.declared.settling.Settled.{Settled}
 use Rattle.vk_choices.specs.ChoiceViews.{choices_view}
-use Rattle.vk_choices.specs.Floors.{Rows, versions_of}
+use Rattle.vk_choices.specs.Asks.{AskOnLine, asked_view}
+use Rattle.vk_choices.specs.Rows.{Rows}
+use Rattle.vk_choices.specs.Floors.{versions_of, AreFloors, floors_for}
 use Rattle.vk_choices.specs.Tops.{IsAboveAll, IsGreatest, AreFirstTwo}
 
 -- a floor as the choice of its port
@@ -48,6 +52,12 @@ pub data IsAdded (p : List ℕ) (floors : List Floor) (old new : Settled) : Type
   by_choice : (f : Floor) → Contains floors f → IsAboveAll floors f.version → chosen_in new ≡ chosen_in old ++ choice_on p f ∷ [] → told_in new ≡ told_in old → IsAdded p floors old new
   by_conflict : IsGreatest floors None → TellsTwo p floors (told_in old) (told_in new) → chosen_in new ≡ chosen_in old → IsAdded p floors old new
 
+-- so a port of which this is asked is settled by its floors
+pub record IsAddedFor (o : Option Pages) (p : List ℕ) (asks : List AskOnLine) (old new : Settled) : Type 0 where
+  pub floors : List Floor
+  pub are : IfSome o (λ pages. AreFloors pages p asks floors)
+  pub added : IsAdded p floors old new
+
 -- what is known of a port's floors, where they are all that the facts have
 pub record IsRow (setting : Setting) (pages : Pages) (facts : List Fact) (p : List ℕ) (floors : List Floor) : Type 0 where
   pub chosen : chosen_of (inputs_of setting pages) facts p ≡ greatest_of (inputs_of setting pages) (versions_of floors)
@@ -57,7 +67,7 @@ pub record IsRow (setting : Setting) (pages : Pages) (facts : List Fact) (p : Li
   pub apart : (f g : Floor) → Contains floors f → Contains floors g → ask_of f.version ≡ ask_of g.version → f.version ≡ g.version
 
 -- so it is of each row
-abbrev pub AreRows : Setting → Pages → List Fact → Rows → Type 0
+abbrev pub AreRows : Setting → Pages → List Fact → Rows Floor → Type 0
 AreRows setting pages facts rows = (e : List ℕ × List Floor) → Contains rows e → IsRow setting pages facts e.0 e.1
 
 -- the choices and the conflicts of some ports
@@ -67,8 +77,13 @@ pub record AreSettled (setting : Setting) (pages : Pages) (facts : List Fact) (p
   pub told : conflicts ≡ flat_map (λ p. conflicts_of (inputs_of setting pages) facts p (chosen_of (inputs_of setting pages) facts p)) ports
 
 -- where the rows are those of facts, these are the choices and the conflicts of their ports
-abbrev pub Settles : Rows → Settled → Type 0
+abbrev pub Settles : Rows Floor → Settled → Type 0
 Settles rows s = (setting : Setting) (pages : Pages) (facts : List Fact) → AreRows setting pages facts rows → AreSettled setting pages facts (keys_of rows) (chosen_in s) (told_in s)
+
+-- these are the choices and the conflicts of the ports of which this is asked, and where anything is asked, these are pages
+pub record AreSettledFor (pages : Pages) (rows : Rows Asked) (s : Settled) : Type 0 where
+  pub settles : Settles (floors_for pages rows) s
+  pub sound : (e : List ℕ × List Asked) (a : AskOnLine) → Contains rows e → Contains (map asked_view e.1) a → ArePages pages
 
 -- the ports that have a choice
 abbrev pub ports_in : Settled → List (List ℕ)

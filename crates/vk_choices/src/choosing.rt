@@ -14,8 +14,8 @@ ghost use Rattle.vk_choices.specs.Clear.{IsClear, IsClearOn};
 ghost use Rattle.vk_choices.specs.Conflicts.{AreConflicts, OnConflicts};
 ghost use Rattle.vk_choices.specs.Settling.{chosen_in, told_in};
 
+use crate::asks::asks_of;
 use crate::chosen::{Choices, ChooseFault};
-use crate::floors::rows_of;
 use crate::settling::{Settled, settle};
 use std::alloc::Global;
 use vk_base::Stop;
@@ -61,7 +61,7 @@ pub fn choose<C: Catalogue>(
         (C.state cat.old)) }
     ensures asked { OnlyAsked (has_failed result) (C.state cat.old) (C.state cat.new) }
 {
-    let rows = rows_of(alloc, cat, reasons)?;
-    let settled = settle(alloc, rows)?;
+    let rows = asks_of(alloc, reasons)?;
+    let settled = settle(alloc, cat, &rows)?;
     unless_conflicts(alloc, settled)
 }

@@ -1,20 +1,16 @@
-//! The floors of ports.
-ghost use Rattle.std.specs.Prelude.{◌≡◌, ◌<◌, ◌^◌, None, IfOk, OnOk, length};
+//! The floors of a port.
+ghost use Rattle.std.specs.Prelude.{◌≡◌, ◌++◌, IfOk, OnOk, map, option_map};
+ghost use Rattle.std.specs.Option.{option_to_list};
 ghost use Rattle.vk_spec.specs.Catalogues.{CanAskVersion, OnlyAsked, OnPage, OnPages};
 ghost use Rattle.vk_base.specs.Stops.{was_out};
-ghost use Rattle.vk_version.specs.AskViews.{ask_view};
-ghost use Rattle.vk_resolution.specs.Asking.{floor};
-ghost use Rattle.vk_resolution.specs.Reasons.{facts_of};
-ghost use Rattle.vk_model.specs.FactViews.{fact_view, reasons_view};
-ghost use Rattle.vk_choices.specs.Floors.{CanAskFloor, CanAskFloors, HasOneMore, HaveFloors};
-ghost use Rattle.vk_choices.specs.Floors.{IsNoted, row_of};
+ghost use Rattle.vk_choices.specs.Asks.{asked_view};
+ghost use Rattle.vk_choices.specs.Floors.{AreFloors, on_line};
 
+use crate::asks::Asked;
 use std::alloc::Global;
-use std::collections::BTreeMap;
 use vk_base::{List, Memory, Outage, PortName};
 use vk_catalogue::Catalogue;
-use vk_model::{Fact, Reason};
-use vk_version::{Ask, Version};
+use vk_version::Version;
 
 /// A version that a port is required to be at least, and the line that says so, counted from 1.
 #[derive(Drop)]
@@ -23,89 +19,33 @@ pub(crate) struct Floor {
     pub line: u32,
 }
 
-/// The floors of each port that has any, in the order of their lines.
-pub(crate) type Rows = BTreeMap<PortName, List<Floor>>;
-
-// The first floor of a port.
-fn begin_row(alloc: Global, rows: &mut Rows, port: &PortName, floor: Floor) -> Result<(), Memory>
-    requires { row_of rows.old.entries port.now ≡ None }
-    ensures { OnOk result (HasOneMore port.now floor rows.old.entries rows.new.entries) }
+// Puts the version for a line behind the floors, if there is one.
+fn push_found(floors: &mut List<Floor>, found: Option<Version>, line: u32) -> Result<(), Memory>
+    ensures { OnOk result (floors.new
+        ≡ floors.old ++ option_to_list (option_map (on_line line) found)) }
 {
-    let mut floors = List::new(alloc);
-    floors.push(floor)?;
-    rows.insert(port.clone()?, floors)?;
-    Ok(())
-}
-
-// One floor more of a port.
-fn add_floor(alloc: Global, rows: &mut Rows, port: &PortName, floor: Floor) -> Result<(), Memory>
-    ensures { OnOk result (HasOneMore port.now floor rows.old.entries rows.new.entries) }
-{
-    match rows.get_mut(port) {
-        Some(floors) => Ok(floors.push(floor)?),
-        None => begin_row(alloc, rows, port, floor),
-    }
-}
-
-// Notes the floor of a line, if its version is there.
-fn note_floor<C: Catalogue>(
-    alloc: Global,
-    cat: &mut C,
-    rows: &mut Rows,
-    port: &PortName,
-    ask: &Ask,
-    line: u32,
-) -> Result<(), Outage>
-    requires { OnPage port.now CanAskVersion (C.state cat.old) }
-    ensures asked { OnlyAsked (was_out result) (C.state cat.old) (C.state cat.new) }
-    ensures noted { OnOk result (OnPages (λ pages. IsNoted pages
-        (floor port.now (ask_view ask.now)) line rows.old.entries rows.new.entries)
-        (C.state cat.old)) }
-{
-    match cat.version(port, ask)? {
-        Some(version) => Ok(add_floor(alloc, rows, port, Floor { version, line })?),
+    match found {
+        Some(version) => Ok(floors.push(Floor { version, line })?),
         None => Ok(()),
     }
 }
 
-// Notes the fact of a line, if it is a floor.
-fn note_fact<C: Catalogue>(
+/// The floors of a port of which this is asked: a version that isn't there is none.
+pub(crate) fn floors_of<C: Catalogue>(
     alloc: Global,
     cat: &mut C,
-    rows: &mut Rows,
-    fact: &Fact,
-    line: u32,
-) -> Result<(), Outage>
-    requires { OnPages (CanAskFloor (fact_view fact.now)) (C.state cat.old) }
+    port: &PortName,
+    asks: &[Asked<'_>],
+) -> Result<List<Floor>, Outage>
+    requires { OnPage port.now CanAskVersion (C.state cat.old) }
     ensures asked { OnlyAsked (was_out result) (C.state cat.old) (C.state cat.new) }
-    ensures noted { OnOk result (OnPages (λ pages. IsNoted pages (fact_view fact.now) line
-        rows.old.entries rows.new.entries) (C.state cat.old)) }
+    ensures floors { IfOk result (λ floors. OnPages (λ pages. AreFloors pages port.now
+        (map asked_view asks.now) floors) (C.state cat.old)) }
 {
-    match fact {
-        Fact::Need { .. } => Ok(()),
-        Fact::Floor { port, ask } => note_floor(alloc, cat, rows, port, ask, line),
-        Fact::Visit { .. } => Ok(()),
+    let mut floors = List::with_capacity(alloc, asks.len())?;
+    for asked in asks {
+        let found = cat.version(port, asked.ask)?;
+        push_found(&mut floors, found, asked.line)?;
     }
-}
-
-/// The floors of these reasons.
-pub(crate) fn rows_of<C: Catalogue>(
-    alloc: Global,
-    cat: &mut C,
-    reasons: &[Reason],
-) -> Result<Rows, Outage>
-    requires small { length reasons.now < 2 ^ 32 }
-    requires given { OnPages (CanAskFloors (facts_of (reasons_view reasons.now)))
-        (C.state cat.old) }
-    ensures asked { OnlyAsked (was_out result) (C.state cat.old) (C.state cat.new) }
-    ensures floors { IfOk result (λ rows. OnPages (λ pages. HaveFloors pages
-        (facts_of (reasons_view reasons.now)) rows.entries) (C.state cat.old)) }
-{
-    let mut rows = BTreeMap::new(alloc);
-    let mut line = 0;
-    for reason in reasons {
-        line += 1;
-        note_fact(alloc, cat, &mut rows, &reason.fact, line)?;
-    }
-    Ok(rows)
+    Ok(floors)
 }

@@ -3,6 +3,7 @@
 //! floors, and that conflicts are told exactly where a port has none.
 #![tactic(auto)]
 
+mod asks;
 mod choosing;
 mod chosen;
 mod floors;

@@ -1,18 +1,26 @@
 //! What the floors of ports come to.
 ghost use Rattle.std.specs.Prelude.{◌≡◌, ◌++◌, ◌∷◌, [], None, IfOk, OnOk, bytes_eq, map};
 ghost use Rattle.std.specs.List.Sorted.{IsPermutation};
-ghost use Rattle.std.specs.Map.{lookup};
+ghost use Rattle.std.specs.Map.{keys_of, lookup};
+ghost use Rattle.vk_spec.specs.Catalogues.{CanAskVersion, OnlyAsked, OnPage, OnPages};
+ghost use Rattle.vk_base.specs.Stops.{was_out};
 ghost use Rattle.vk_resolution.specs.Faults as plain;
 ghost use Rattle.vk_model.specs.FaultViews.{fault_view};
+ghost use Rattle.vk_choices.specs.Asks.{asked_view};
 ghost use Rattle.vk_choices.specs.ChoiceViews.{choices_view};
-ghost use Rattle.vk_choices.specs.Settling.{IsAdded, Settles, TellsTwo, choice_on};
+ghost use Rattle.vk_choices.specs.Floors.{CanAskPorts};
+ghost use Rattle.vk_choices.specs.Rows.{AreInOrder};
+ghost use Rattle.vk_choices.specs.Settling.{AreSettledFor, IsAdded, IsAddedFor, TellsTwo};
+ghost use Rattle.vk_choices.specs.Settling.{choice_on};
 
+use crate::asks::{Asked, Rows};
 use crate::chosen::{Choice, Choices};
-use crate::floors::{Floor, Rows};
+use crate::floors::{Floor, floors_of};
 use crate::tops::{first_two, greatest};
 use indexmap::IndexMap;
 use std::alloc::Global;
-use vk_base::{List, Memory, PortName};
+use vk_base::{List, Memory, Outage, PortName};
+use vk_catalogue::Catalogue;
 use vk_model::Fault;
 
 /// The choices of ports, and the conflicts of those that have none.
@@ -88,11 +96,39 @@ impl Settled {
             None => put_conflict(&mut self.conflicts, port, &by_ask(floors)),
         }
     }
+
+    // Settles one port more, of which this is asked.
+    fn settle_asked<C: Catalogue>(
+        &mut self,
+        alloc: Global,
+        cat: &mut C,
+        port: &PortName,
+        asks: &[Asked<'_>],
+    ) -> Result<(), Outage>
+        requires new { lookup (bytes_eq port.now) self.old.choices.ports.entries ≡ None }
+        requires given { OnPage port.now CanAskVersion (C.state cat.old) }
+        ensures asked { OnlyAsked (was_out result) (C.state cat.old) (C.state cat.new) }
+        ensures added { OnOk result (IsAddedFor (C.state cat.old).pages port.now
+            (map asked_view asks.now) self.old self.new) }
+    {
+        let floors = floors_of(alloc, cat, port, asks)?;
+        self.settle_port(port.clone()?, floors)?;
+        Ok(())
+    }
 }
 
-/// The choices and the conflicts of these ports.
-pub(crate) fn settle(alloc: Global, mut rows: Rows) -> Result<Settled, Memory>
-    ensures { IfOk result (Settles rows.entries) }
+/// The choices and the conflicts of these ports, of which the catalogue is asked for the versions
+/// of one port after the other.
+pub(crate) fn settle<C: Catalogue>(
+    alloc: Global,
+    cat: &mut C,
+    rows: &Rows<'_>,
+) -> Result<Settled, Outage>
+    requires ordered { AreInOrder rows.now.entries }
+    requires given { OnPages (CanAskPorts (keys_of rows.now.entries)) (C.state cat.old) }
+    ensures asked { OnlyAsked (was_out result) (C.state cat.old) (C.state cat.new) }
+    ensures settled { IfOk result (λ s. OnPages (λ pages. AreSettledFor pages rows.now.entries s)
+        (C.state cat.old)) }
 {
     let mut settled = Settled {
         choices: Choices {
@@ -100,8 +136,8 @@ pub(crate) fn settle(alloc: Global, mut rows: Rows) -> Result<Settled, Memory>
         },
         conflicts: Vec::new(alloc),
     };
-    while let Some((port, floors)) = rows.pop_first() {
-        settled.settle_port(port, floors)?;
+    for (port, asks) in rows.iter() {
+        settled.settle_asked(alloc, cat, port, asks.as_slice())?;
     }
     Ok(settled)
 }

@@ -1,38 +1,37 @@
-use Rattle.std.proofs.Common.{◌≡◌, ◌++◌, ◌∷◌, [], refl, ap, sym, ◌∙◌, subst, map, true, false}
-use Rattle.std.specs.List.{Contains}
-use Rattle.std.specs.Map.{keys_of}
-use Rattle.std.proofs.lemmas.List.{append-nil, append_assoc}
-use Rattle.vk_spec.proofs.ListLemmas.{contains_nothing}
-use Rattle.vk_model.specs.FaultViews.{fault_view}
-use Rattle.vk_choices.specs.ChoiceViews.{choice_view}
-use Rattle.vk_choices.specs.declared.settling.Settled.{Settled}
-use Rattle.vk_choices.specs.Floors.{Rows}
-use Rattle.vk_choices.specs.Settling.{Settles}
-use Rattle.vk_choices.proofs.SettleLemmas.{added_settles, behind_more, is_new, nothing_settled, none_left}
+use Rattle.std.proofs.Common.{◌++◌, ◌∷◌, [], ap, sym, ◌∙◌, subst, map}
+use Rattle.std.proofs.lemmas.List.{append_assoc}
+use Rattle.vk_spec.proofs.AskLemmas.{asked_then, pages_after, pages_before}
+use Rattle.vk_spec.specs.Catalogues.{CanAskVersion}
+use Rattle.vk_choices.specs.Asks.{asked_view}
+use Rattle.vk_choices.specs.declared.asks.Asked.{Asked}
+use Rattle.vk_choices.specs.Floors.{AreFloors}
+use Rattle.vk_choices.specs.Rows.{Rows, AreInOrder}
+use Rattle.vk_choices.specs.Settling.{IsAddedFor}
+use Rattle.vk_choices.proofs.RowLemmas.{others_ascend}
+use Rattle.vk_choices.proofs.SettleLemmas.{AreBehind, behind_more, can_ask_next, is_new, more_settled_on}
 use Rattle.vk_choices.proofs.settling.settle.Goals as goal
 
-pub loop-port-init : goal.loop-port-init
-loop-port-init c =
-    let start : Settled = record { choices = record { ports = c.in_ok-with_capacity.field-0 }; conflicts = c.new.result } in
-    record {
-      done = [];
-      split = refl;
-      settles = nothing_settled start (ap (map choice_view) c.in_ok-with_capacity.ensures.empty) (ap (map fault_view) c.new.ensures.items);
-      behind = λ p q h k. absurd (contains_nothing p (subst (λ l. Contains (keys_of l) p) c.in_ok-with_capacity.ensures.empty h));
-    }
+pub settle_asked-requires-clause-new : goal.settle_asked-requires-clause-new
+settle_asked-requires-clause-new g c =
+    is_new (c.in-Some.port.now, c.in-Some.asks.now) c.next.new.self c.loop-port.settled (subst (λ l. AreBehind l c.loop-port.settled) c.in-Some.ensures.steps c.loop-port.invariant.behind)
 
-pub settle_port-requires : goal.settle_port-requires
-settle_port-requires c = is_new c.in-Some.port c.in-Some.floors c.loop-port.rows.entries c.pop_first.new.self.entries c.loop-port.settled c.in-Some.ensures.removal c.loop-port.invariant.behind
+pub settle_asked-requires-clause-given : goal.settle_asked-requires-clause-given
+settle_asked-requires-clause-given g c =
+    pages_after (λ pages. CanAskVersion (pages c.in-Some.port.now)) c.loop-port.invariant.asked
+    (can_ask_next (g.C.Catalogue.state c.args.cat.now).pages c.args.rows.now.entries c.loop-port.invariant.done c.next.new.self (c.in-Some.port.now, c.in-Some.asks.now)
+    (ap (λ (l : Rows Asked). c.loop-port.invariant.done ++ l) (sym c.in-Some.ensures.steps) ∙ c.loop-port.invariant.split) c.requires.given)
 
 pub loop-port-preserved : goal.loop-port-preserved
-loop-port-preserved c = record {
-  done = c.loop-port.invariant.done ++ (c.in-Some.port, c.in-Some.floors) ∷ [];
-  split = append_assoc c.loop-port.invariant.done ((c.in-Some.port, c.in-Some.floors) ∷ []) c.pop_first.new.self.entries ∙ ap (λ (l : Rows). c.loop-port.invariant.done ++ l) (sym c.in-Some.ensures.removal) ∙ c.loop-port.invariant.split;
-  settles = added_settles c.loop-port.invariant.done c.in-Some.port c.in-Some.floors c.loop-port.settled c.settle_port.new.self c.loop-port.invariant.settles c.in_ok-settle_port.ensures;
-  behind = behind_more c.in-Some.port c.in-Some.floors c.loop-port.rows.entries c.pop_first.new.self.entries c.loop-port.settled c.settle_port.new.self c.in-Some.ensures.removal c.in-Some.ensures.all_above c.loop-port.invariant.behind c.in_ok-settle_port.ensures;
-}
-
-pub returns : goal.returns
-returns c =
-    let none : c.loop-port.rows.entries ≡ [] = none_left c.loop-port.rows.entries (λ more. let clash : false ≡ true = c.in_default.ensures.variant.1 more in (cc)) in
-    subst (λ (l : Rows). Settles l c.loop-port.settled) (sym (append-nil c.loop-port.invariant.done) ∙ ap (λ (l : Rows). c.loop-port.invariant.done ++ l) (sym none) ∙ c.loop-port.invariant.split) c.loop-port.invariant.settles
+loop-port-preserved g c =
+    let added : IsAddedFor (g.C.Catalogue.state c.loop-port.cat).pages c.in-Some.port.now (map asked_view c.in-Some.asks.now) c.loop-port.settled c.settle_asked.new.self =
+    subst (λ l. IsAddedFor (g.C.Catalogue.state c.loop-port.cat).pages c.in-Some.port.now (map asked_view l) c.loop-port.settled c.settle_asked.new.self) c.as_slice.ensures c.in_ok-settle_asked.ensures.added in
+    record {
+      asked = asked_then c.loop-port.invariant.asked c.in_ok-settle_asked.ensures.asked;
+      done = c.loop-port.invariant.done ++ (c.in-Some.port.now, c.in-Some.asks.now) ∷ [];
+      split = append_assoc c.loop-port.invariant.done ((c.in-Some.port.now, c.in-Some.asks.now) ∷ []) c.next.new.self ∙ ap (λ (l : Rows Asked). c.loop-port.invariant.done ++ l) (sym c.in-Some.ensures.steps) ∙ c.loop-port.invariant.split;
+      ordered = others_ascend (c.in-Some.port.now, c.in-Some.asks.now) c.next.new.self (subst (λ (l : Rows Asked). AreInOrder l) c.in-Some.ensures.steps c.loop-port.invariant.ordered);
+      settled = more_settled_on (g.C.Catalogue.state c.args.cat.now).pages c.loop-port.invariant.done c.in-Some.port.now c.in-Some.asks.now added.floors c.loop-port.settled c.settle_asked.new.self c.loop-port.invariant.settled
+          (pages_before (λ pages. AreFloors pages c.in-Some.port.now (map asked_view c.in-Some.asks.now) added.floors) c.loop-port.invariant.asked added.are) added.added;
+      behind = behind_more (c.in-Some.port.now, c.in-Some.asks.now) c.next.new.self added.floors c.loop-port.settled c.settle_asked.new.self (subst (λ (l : Rows Asked). AreInOrder l) c.in-Some.ensures.steps c.loop-port.invariant.ordered)
+          (subst (λ l. AreBehind l c.loop-port.settled) c.in-Some.ensures.steps c.loop-port.invariant.behind) added.added;
+    }

@@ -1,16 +1,17 @@
-use Rattle.std.proofs.Common.{◌≡◌, ◌++◌, length}
-use Rattle.vk_choices.specs.Floors.{Rows}
-use Rattle.vk_choices.specs.Settling.{Settles}
+use Rattle.std.proofs.Common.{◌≡◌, ◌++◌, false}
+use Rattle.vk_spec.specs.Catalogues.{OnPages, OnlyAsked}
+use Rattle.vk_choices.specs.declared.asks.Asked.{Asked}
+use Rattle.vk_choices.specs.Rows.{Rows, AreInOrder}
+use Rattle.vk_choices.specs.Settling.{AreSettledFor}
 use Rattle.vk_choices.proofs.SettleLemmas.{AreBehind}
 use Rattle.vk_choices.proofs.settling.settle.Given as goal
 
 abbrev pub invariant-loop-port : goal.invariant-loop-port
-invariant-loop-port l = record {
-  done : Rows;
-  split : done ++ l.rows.entries ≡ l.initial.rows.entries;
-  settles : Settles done l.settled;
-  behind : AreBehind l.rows.entries l.settled;
+invariant-loop-port g l = record {
+  asked : OnlyAsked false (g.C.Catalogue.state l.initial.cat) (g.C.Catalogue.state l.cat);
+  done : Rows Asked;
+  split : done ++ l.port-iterator ≡ l.rows.entries;
+  ordered : AreInOrder l.port-iterator;
+  settled : OnPages (λ pages. AreSettledFor pages done l.settled) (g.C.Catalogue.state l.initial.cat);
+  behind : AreBehind l.port-iterator l.settled;
 }
-
-abbrev pub decreases-loop-port : goal.decreases-loop-port
-decreases-loop-port l = length l.rows.entries
