@@ -151,8 +151,8 @@ module _ (choices : List (List ℕ × Choice)) (needs : List Fact) (edges : List
   needs_within : (item : Item) (n : ℕ) → Contains items item → Contains item.needs n → n < length items
   needs_within item n h at =
       let m = item_made choices (seat_order choices needs) are.seats item (subst (λ l. Contains l item) are.made h) in
-      let listed : Contains (in_order number_key m.seat.needs.keys) n = subst (λ (k : Item). Contains k.needs n) m.is at in
-      let seated : Contains m.seat.needs.keys n = contains-in_order number_key m.seat.needs.keys n listed in
+      let listed : Contains (in_order number_key m.seat.needs.items) n = subst (λ (k : Item). Contains k.needs n) m.is at in
+      let seated : Contains m.seat.needs.items n = contains-in_order number_key m.seat.needs.items n listed in
       let same = are.are_seats.needs_same m.place (slice_get_within (seat_order choices needs) m.place m.instance m.at) in
       let linked = linked_is (seat_order choices needs) needs edges m.place n (same.to n (subst (λ o. Contains (needs_of_seat o) n) (sym m.seated) seated)) in
       let there = place_is (seat_order choices needs) linked.y n linked.to in

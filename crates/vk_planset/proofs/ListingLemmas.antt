@@ -1,29 +1,31 @@
 -- Features and places as they are listed.
-use Rattle.std.proofs.Common.{◌≡◌, ℕ, Bool, true, false, cond, not, List, [], ◌∷◌, ◌++◌, map, filter, inl, inr, refl, ap, sym, ◌∙◌, subst}
+use Rattle.std.proofs.Common.{◌≡◌, ℕ, Bool, true, false, cond, eqb, not, List, [], ◌∷◌, ◌++◌, map, filter, inl, inr, refl, ap, sym, ◌∙◌, subst, rules}
 use Rattle.std.specs.Prelude.{bytes_eq}
 use Rattle.std.specs.declared.cmp.Ordering.{Ordering}
 use Rattle.std.specs.declared.cmp.Ordering.TheVariants.{Less, Equal, Greater}
-use Rattle.std.specs.Ordering.{nat_cmp, ordering_then}
+use Rattle.std.specs.Ordering.{nat_cmp, ordering_then, eq_by_cmp}
+use Rattle.std.specs.Cmp.{IsTotalOrder, IsEquivalence, nat_cmp_total}
+use Rattle.std.specs.Cmp.Rules.{comparing}
 use Rattle.std.specs.Cmp.Lexicographic.{slice_cmp}
-use Rattle.std.specs.BTreeSet.{insert_key}
-use Rattle.std.specs.List.{Contains}
-use Rattle.std.specs.List.Sorted.{IsStrictlySortedBy}
-use Rattle.std.proofs.lemmas.List.{map-id}
+use Rattle.std.specs.List.{Contains, dedup}
+use Rattle.std.specs.List.Sorted.{IsPermutation, IsSorted, IsStrictlySortedBy}
+use Rattle.std.proofs.lemmas.List.{map-append, map-id}
+use Rattle.std.proofs.lemmas.List.Kept.{Any-dedup, Contains-dedup_nat, Contains-from_dedup, IsStrictlySortedBy-dedup}
+use Rattle.std.proofs.lemmas.List.Sorted.{Contains-permutation, IsPermutation-sym}
 use Rattle.std.proofs.lemmas.List.Elements.{Contains-append_left, Contains-append_right, Contains-append_cases}
 use Rattle.std.proofs.lemmas.Slice.Eq.{bytes_eq-Decides}
 use Rattle.vk_spec.specs.Manifests.{core, default}
 use Rattle.vk_spec.proofs.ListLemmas.{contains_first, contains_later}
-use Rattle.vk_spec.proofs.FileLemmas.{path_same}
 use Rattle.vk_resolution.specs.Keys.{Key, key_cmp, Ascends, IsKey, in_order}
 use Rattle.vk_resolution.specs.Planning.{feature_key}
-use Rattle.vk_resolution.proofs.Members.{true_or_false, not_true, not_false, contains_filter, filter_contains}
+use Rattle.vk_resolution.proofs.Members.{true_or_false, not_true, not_false, contains_filter, contains_map, filter_contains, map_contains}
 use Rattle.vk_resolution.proofs.Orders.{before_itself}
 use Rattle.vk_resolution.proofs.FactLemmas.{feature_key-IsKey}
 use Rattle.vk_base.specs.FeatureViews.{feature_view}
 use Rattle.vk_base.specs.declared.features.FeatureName.{FeatureName}
-use Rattle.vk_planset.specs.Members.{HasMore, number_key, feature_cmp}
+use Rattle.vk_planset.specs.Members.{HasMore, HaveSame, number_key, feature_cmp}
 use Rattle.vk_planset.specs.Seats.{listed}
-use Rattle.vk_planset.proofs.MemberLemmas.{insert_more, sorted_ascends, ascending_is}
+use Rattle.vk_planset.proofs.MemberLemmas.{more_last, sorted_ascends, ascending_is}
 
 then_equal : (o : Ordering) → ordering_then o Equal ≡ o
 then_equal Less = refl
@@ -38,37 +40,65 @@ text_key f = f ∷ []
 text_order : (f g : List ℕ) → key_cmp (text_key f) (text_key g) ≡ slice_cmp nat_cmp f g
 text_order f g = then_equal (slice_cmp nat_cmp f g)
 
-text_tied : (f g : List ℕ) → slice_cmp nat_cmp f g ≡ Equal → f ≡ g
-text_tied f g e = let same : f ∷ [] ≡ g ∷ [] = path_same (f ∷ []) (g ∷ []) (text_order f g ∙ e) in (cc)
-
 pub number_order : (m n : ℕ) → key_cmp (number_key m) (number_key n) ≡ nat_cmp m n
 number_order m n = then_equal (ordering_then (nat_cmp m n) Equal) ∙ then_equal (nat_cmp m n)
 
 pub number_key-IsKey : IsKey number_key
 number_key-IsKey m n e = let same : (m ∷ []) ∷ [] ≡ (n ∷ []) ∷ [] = e in (cc)
 
-number_tied : (m n : ℕ) → nat_cmp m n ≡ Equal → m ≡ n
-number_tied m n e = number_key-IsKey m n (path_same (number_key m) (number_key n) (number_order m n ∙ e))
-
 -- ---- one more
 
-pub put_number : (ks new : List ℕ) (n : ℕ) → new ≡ insert_key nat_cmp ks n → HasMore ks (n ∷ []) new
-put_number ks new n e =
-    subst (λ l. HasMore l (n ∷ []) new) (map-id ks) (subst (HasMore (map (λ (m : ℕ). m) ks) (n ∷ [])) (map-id (insert_key nat_cmp ks n) ∙ sym e) (insert_more nat_cmp (λ (m : ℕ). m) number_tied ks n))
+pub put_number : (ns new : List ℕ) (n : ℕ) → new ≡ ns ++ n ∷ [] → HasMore ns (n ∷ []) new
+put_number ns new n e = subst (HasMore ns (n ∷ [])) (sym e) (more_last ns n)
 
-pub put_feature : (ks new : List FeatureName) (f g : FeatureName) → g ≡ f → new ≡ insert_key feature_cmp ks g → bytes_eq (feature_view f) default ≡ false → HasMore (map feature_view ks) (listed (feature_view f)) (map feature_view new)
-put_feature ks new f g same e other =
-    subst (λ l. HasMore (map feature_view ks) l (map feature_view new)) (sym (ap (λ b. cond b [] (feature_view f ∷ [])) other))
-    (subst (λ l. HasMore (map feature_view ks) (feature_view f ∷ []) (map feature_view l)) (sym (e ∙ ap (insert_key feature_cmp ks) same))
-    (insert_more feature_cmp feature_view (λ k l tie. text_tied (feature_view k) (feature_view l) tie) ks f))
+pub put_feature : (fs new : List FeatureName) (f g : FeatureName) → g ≡ f → new ≡ fs ++ g ∷ [] → bytes_eq (feature_view f) default ≡ false → HasMore (map feature_view fs) (listed (feature_view f)) (map feature_view new)
+put_feature fs new f g same e other =
+    subst (λ l. HasMore (map feature_view fs) l (map feature_view new)) (sym (ap (λ b. cond b [] (feature_view f ∷ [])) other))
+    (subst (HasMore (map feature_view fs) (feature_view f ∷ [])) (sym (ap (map feature_view) (e ∙ ap (λ h. fs ++ h ∷ []) same) ∙ map-append feature_view fs (f ∷ []))) (more_last (map feature_view fs) (feature_view f)))
 
 -- ---- in order
 
-pub numbers_in_order : (ks : List ℕ) → IsStrictlySortedBy nat_cmp ks → ks ≡ in_order number_key ks
-numbers_in_order ks sorted =
-    ascending_is number_key number_key-IsKey ks ks
-    (subst (Ascends number_key) (map-id ks) (sorted_ascends nat_cmp (λ (m : ℕ). m) number_key (λ m n less. number_order m n ∙ less) ks sorted))
-    (record { to = λ x h. h; from = λ x h. h })
+-- ---- sorted, each once
+
+abbrev pub same_feature : FeatureName → FeatureName → Bool
+same_feature f g = bytes_eq (feature_view f) (feature_view g)
+
+pub feature_total : IsTotalOrder feature_cmp
+feature_total = Prim.search (comparing, rules)
+
+pub feature_ties : (f g : FeatureName) → same_feature f g ≡ eq_by_cmp feature_cmp f g
+feature_ties = Prim.search (comparing, rules)
+
+same_equivalence : IsEquivalence same_feature
+same_equivalence = Prim.search (comparing, rules)
+
+-- features that are sorted, each once, are the same features
+pub features_kept : (fs sorted : List FeatureName) → IsPermutation fs sorted → HaveSame (map feature_view (dedup same_feature sorted)) (map feature_view fs)
+features_kept fs sorted moved = record {
+  to = λ v h. (
+      let r = contains_map feature_view (dedup same_feature sorted) v h in
+      subst (Contains (map feature_view fs)) r.2 (map_contains feature_view fs r.0 (Contains-permutation sorted fs r.0 (IsPermutation-sym fs sorted moved) (Contains-from_dedup same_feature sorted r.0 r.1)))
+      );
+  from = λ v h. (
+      let r = contains_map feature_view fs v h in
+      let a = Any-dedup same_equivalence sorted r.0 (Contains-permutation fs sorted r.0 moved r.1) in
+      let is : feature_view a.1 ≡ v = sym ((bytes_eq-Decides (feature_view r.0) (feature_view a.1)).0 a.4) ∙ r.2 in
+      subst (Contains (map feature_view (dedup same_feature sorted))) is (map_contains feature_view (dedup same_feature sorted) a.1 (a.0, a.2, a.3))
+      );
+}
+
+number_ties : (m n : ℕ) → eqb m n ≡ eq_by_cmp nat_cmp m n
+number_ties = Prim.search (comparing, rules)
+
+-- numbers that are sorted, each once, are in order
+pub numbers_in_order : (ns sorted : List ℕ) → IsPermutation ns sorted → IsSorted nat_cmp sorted → dedup eqb sorted ≡ in_order number_key ns
+numbers_in_order ns sorted moved rises =
+    ascending_is number_key number_key-IsKey (dedup eqb sorted) ns
+    (subst (Ascends number_key) (map-id (dedup eqb sorted)) (sorted_ascends nat_cmp (λ (m : ℕ). m) number_key (λ m n less. number_order m n ∙ less) (dedup eqb sorted) (IsStrictlySortedBy-dedup nat_cmp_total number_ties sorted rises)))
+    (record {
+      to = λ n h. Contains-permutation sorted ns n (IsPermutation-sym ns sorted moved) (Contains-from_dedup eqb sorted n h);
+      from = λ n h. Contains-dedup_nat sorted n (Contains-permutation ns sorted n moved h);
+    })
 
 ascends_append : {X : Type 0} (key : X → Key) (xs ys : List X) → Ascends key xs → Ascends key ys → ((x y : X) → Contains xs x → Contains ys y → key_cmp (key x) (key y) ≡ Less) → Ascends key (xs ++ ys)
 ascends_append key [] ys one other across = other

@@ -1,15 +1,13 @@
 -- Lists by their members: nothing more, and more and more.
-use Rattle.std.proofs.Common.{◌≡◌, ◌⊎◌, List, [], ◌∷◌, ◌++◌, map, inl, inr, refl, sym, subst}
+use Rattle.std.proofs.Common.{◌≡◌, List, [], ◌∷◌, ◌++◌, map, inl, inr, subst}
 use Rattle.std.specs.Prelude.{Result, Ok, Err, OnOk}
 use Rattle.std.specs.declared.cmp.Ordering.{Ordering}
-use Rattle.std.specs.declared.cmp.Ordering.TheVariants.{Less, Equal, Greater}
-use Rattle.std.specs.Ordering.{match_ordering}
-use Rattle.std.specs.BTreeSet.{insert_key}
+use Rattle.std.specs.declared.cmp.Ordering.TheVariants.{Less}
 use Rattle.std.specs.List.{Contains, AllByRecursion}
 use Rattle.std.specs.List.Sorted.{IsStrictlySortedBy}
 use Rattle.std.proofs.lemmas.Map.Keys.{sorted_head, sorted_tail}
 use Rattle.std.proofs.lemmas.List.Elements.{Contains-append_left, Contains-append_right, Contains-append_cases}
-use Rattle.vk_spec.proofs.ListLemmas.{contains_nothing, contains_first, contains_later, contains_cases}
+use Rattle.vk_spec.proofs.ListLemmas.{contains_nothing, contains_cases}
 use Rattle.vk_resolution.specs.Keys.{Key, key_cmp, Ascends, IsKey, in_order}
 use Rattle.vk_resolution.proofs.Members.{contains_map, contains_single}
 use Rattle.vk_resolution.proofs.Orders.{contains-in_order, in_order-contains, in_order-ascends, ascending_one}
@@ -57,54 +55,14 @@ pub done_means : {A E P Q : Type 0} (result : Result A E) → (P → Q) → OnOk
 done_means (Ok x) f h = f h
 done_means (Err e) f h = tt
 
--- ---- sets in order, as they are seen
+-- ---- what is sorted, as it is seen
 
 module _ {K X : Type 0} (cmp : K → K → Ordering) (view : K → X) where
-  has_by : (o : Ordering) (k x : K) (ks later : List K) → (o ≡ Equal → view k ≡ view x) → Contains (map view later) (view k) → Contains (map view (match_ordering o (k ∷ x ∷ ks) (x ∷ ks) (x ∷ later))) (view k)
-  has_by Less k x ks later tie rest = contains_first (view k) (map view (x ∷ ks))
-  has_by Equal k x ks later tie rest = subst (λ v. Contains (v ∷ map view ks) (view k)) (tie refl) (contains_first (view k) (map view ks))
-  has_by Greater k x ks later tie rest = contains_later (view x) (view k) (map view later) rest
-
-  insert_has : ((k l : K) → cmp k l ≡ Equal → view k ≡ view l) → (ks : List K) (k : K) → Contains (map view (insert_key cmp ks k)) (view k)
-  insert_has ties [] k = contains_first (view k) []
-  insert_has ties (x ∷ ks) k = has_by (cmp k x) k x ks (insert_key cmp ks k) (ties k x) (insert_has ties ks k)
-
-  keeps_by : (o : Ordering) (k x : K) (ks later : List K) (v : X) → (Contains (map view ks) v → Contains (map view later) v) → Contains (map view (x ∷ ks)) v → Contains (map view (match_ordering o (k ∷ x ∷ ks) (x ∷ ks) (x ∷ later))) v
-  keeps_by Less k x ks later v rest h = contains_later (view k) v (map view (x ∷ ks)) h
-  keeps_by Equal k x ks later v rest h = h
-  keeps_by Greater k x ks later v rest h = elim (contains_cases (view x) v (map view ks) h) [
-    | inl same ↦ subst (λ w. Contains (w ∷ map view later) v) (sym same) (contains_first v (map view later))
-    | inr there ↦ contains_later (view x) v (map view later) (rest there)
-  ]
-
-  insert_keeps : (ks : List K) (k : K) (v : X) → Contains (map view ks) v → Contains (map view (insert_key cmp ks k)) v
-  insert_keeps [] k v h = absurd (contains_nothing v h)
-  insert_keeps (x ∷ ks) k v h = keeps_by (cmp k x) k x ks (insert_key cmp ks k) v (insert_keeps ks k v) h
-
-  only_by : (o : Ordering) (k x : K) (ks later : List K) (v : X) → (Contains (map view later) v → Contains (map view ks) v ⊎ (view k ≡ v)) → Contains (map view (match_ordering o (k ∷ x ∷ ks) (x ∷ ks) (x ∷ later))) v → Contains (map view (x ∷ ks)) v ⊎ (view k ≡ v)
-  only_by Less k x ks later v rest h = elim (contains_cases (view k) v (map view (x ∷ ks)) h) [ inl same ↦ inr same | inr there ↦ inl there ]
-  only_by Equal k x ks later v rest h = inl h
-  only_by Greater k x ks later v rest h = elim (contains_cases (view x) v (map view later) h) [
-    | inl same ↦ inl (subst (λ w. Contains (w ∷ map view ks) v) (sym same) (contains_first v (map view ks)))
-    | inr there ↦ elim (rest there) [ inl old ↦ inl (contains_later (view x) v (map view ks) old) | inr new ↦ inr new ]
-  ]
-
-  insert_only : (ks : List K) (k : K) (v : X) → Contains (map view (insert_key cmp ks k)) v → Contains (map view ks) v ⊎ (view k ≡ v)
-  insert_only [] k v h = inr (contains_single (view k) v h)
-  insert_only (x ∷ ks) k v h = only_by (cmp k x) k x ks (insert_key cmp ks k) v (insert_only ks k v) h
-
-  pub insert_more : ((k l : K) → cmp k l ≡ Equal → view k ≡ view l) → (ks : List K) (k : K) → HasMore (map view ks) (view k ∷ []) (map view (insert_key cmp ks k))
-  insert_more ties ks k = record {
-    keeps = λ v h. insert_keeps ks k v h;
-    adds = λ v h. subst (Contains (map view (insert_key cmp ks k))) (contains_single (view k) v h) (insert_has ties ks k);
-    only = λ v h. elim (insert_only ks k v h) [ inl old ↦ inl old | inr new ↦ inr (subst (Contains (view k ∷ [])) new (contains_first (view k) [])) ];
-  }
-
   holds_of : (P : K → Type 0) (ks : List K) → AllByRecursion P ks → (k : K) → Contains ks k → P k
   holds_of P [] each k h = absurd (contains_nothing k h)
   holds_of P (l ∷ ks) each k h = elim (contains_cases l k ks h) [ inl same ↦ subst P same each.0 | inr later ↦ holds_of P ks each.1 k later ]
 
-  -- what a set has in order ascends
+  -- what is strictly sorted ascends
   pub sorted_ascends : (key : X → Key) → ((k l : K) → cmp k l ≡ Less → key_cmp (key (view k)) (key (view l)) ≡ Less) → (ks : List K) → IsStrictlySortedBy cmp ks → Ascends key (map view ks)
   sorted_ascends key less [] sorted = tt
   sorted_ascends key less (k ∷ ks) sorted = (

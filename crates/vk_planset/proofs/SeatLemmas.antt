@@ -55,14 +55,14 @@ module _ {Y : Type 0} (part : Option Seat → List Y) (seats : List Seat) (place
   kept p same = subst (λ l. HasMore (part (slice_get seats p)) l (part (slice_get (set seats place new) p))) (nothing_there (p == place)) (written p [] (subst (HasMore (part (Some old)) []) (sym same) (nothing_more (part (Some old)))))
 
 module _ (seats : List Seat) (place : ℕ) (d new : Seat) (within : place < length seats) where
-  pub need_set : (need : ℕ) → new.features.keys ≡ (get_or seats place d).features.keys → HasMore (get_or seats place d).needs.keys (need ∷ []) new.needs.keys → HaveMore (λ p. []) (λ p. at_place p place (need ∷ [])) seats (set seats place new)
+  pub need_set : (need : ℕ) → new.features.items ≡ (get_or seats place d).features.items → HasMore (get_or seats place d).needs.items (need ∷ []) new.needs.items → HaveMore (λ p. []) (λ p. at_place p place (need ∷ [])) seats (set seats place new)
   need_set need same step = record {
     as_long = length-set seats place new;
     features_more = λ p h. kept features_of_seat seats place d new within p (ap (map feature_view) same);
     needs_more = λ p h. written needs_of_seat seats place d new within p (need ∷ []) step;
   }
 
-  pub feature_set : (listed : List (List ℕ)) → new.needs.keys ≡ (get_or seats place d).needs.keys → HasMore (features_in (get_or seats place d)) listed (features_in new) → HaveMore (λ p. at_place p place listed) (λ p. []) seats (set seats place new)
+  pub feature_set : (listed : List (List ℕ)) → new.needs.items ≡ (get_or seats place d).needs.items → HasMore (features_in (get_or seats place d)) listed (features_in new) → HaveMore (λ p. at_place p place listed) (λ p. []) seats (set seats place new)
   feature_set listed same step = record {
     as_long = length-set seats place new;
     features_more = λ p h. written features_of_seat seats place d new within p listed step;
@@ -85,7 +85,7 @@ pushed_at part [] s n (suc p) none new each h = same_nothing (part None) none
 pushed_at part (t ∷ seats) s n zero none new each h = each zero (omega arith)
 pushed_at part (t ∷ seats) s n (suc p) none new each h = pushed_at part seats s n p none new (λ q at. each (suc q) (omega (arith, at))) (omega (arith, h))
 
-pub seats_push : (count : ℕ) (seats : List Seat) (s : Seat) → AreSeats count (λ p. []) (λ p. []) seats → features_in s ≡ [] → s.needs.keys ≡ [] → AreSeats (count + 1) (λ p. []) (λ p. []) (seats ++ s ∷ [])
+pub seats_push : (count : ℕ) (seats : List Seat) (s : Seat) → AreSeats count (λ p. []) (λ p. []) seats → features_in s ≡ [] → s.needs.items ≡ [] → AreSeats (count + 1) (λ p. []) (λ p. []) (seats ++ s ∷ [])
 seats_push count seats s are no_features no_needs =
     let long : length (seats ++ s ∷ []) ≡ count + 1 = length-append seats (s ∷ []) ∙ ap (λ n. n + 1) are.as_many in record {
       as_many = long;

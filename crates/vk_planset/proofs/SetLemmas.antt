@@ -191,7 +191,7 @@ module _ (s : Setting) (pages : Pages) (reasons : List Reason) (entries : List (
         line = found.line;
         features = features_are inputs facts graph.0 needs edges graph.1 order distinct few is.place is.instance is.at (features_in is.seat)
             (subst (λ o. HaveSame (features_of_seat o) (seated_features order needs is.place)) is.seated (are.are_seats.features_same is.place within));
-        needs = needs_are inputs facts graph.0 needs edges graph.1 order distinct few is.place is.instance is.at is.seat.needs.keys
+        needs = needs_are inputs facts graph.0 needs edges graph.1 order distinct few is.place is.instance is.at is.seat.needs.items
             (subst (λ o. HaveSame (needs_of_seat o) (seated_needs (map (place_of order) needs) edges is.place)) is.seated (are.are_seats.needs_same is.place within));
       }
 

@@ -12,7 +12,7 @@ use Rattle.vk_planset.specs.declared.seats.Seat.{Seat}
 
 -- the item of an instance with this choice
 abbrev pub made : Instance → Seat → Choice → Item
-made i s c = record { instance = i; version = c.version; line = c.line; features = in_order feature_key (features_in s); needs = in_order number_key s.needs.keys }
+made i s c = record { instance = i; version = c.version; line = c.line; features = in_order feature_key (features_in s); needs = in_order number_key s.needs.items }
 
 -- the item, if there is a choice
 abbrev pub made_by : Instance → Seat → Option Choice → List Item

@@ -10,7 +10,7 @@ use Rattle.vk_planset.specs.declared.seats.Seat.{Seat}
 
 -- the features of a seat, in any order
 abbrev pub features_in : Seat → List (List ℕ)
-features_in s = map feature_view s.features.keys
+features_in s = map feature_view s.features.items
 
 -- those of a seat, if there is one
 abbrev pub features_of_seat : Option Seat → List (List ℕ)
@@ -24,7 +24,7 @@ features_at seats p = features_of_seat (slice_get seats p)
 -- the needs of a seat, if there is one
 abbrev pub needs_of_seat : Option Seat → List ℕ
 needs_of_seat None = []
-needs_of_seat (Some s) = s.needs.keys
+needs_of_seat (Some s) = s.needs.items
 
 -- the needs at a place
 abbrev pub needs_at : List Seat → ℕ → List ℕ

@@ -1,7 +1,6 @@
 //! The items of planned instances.
 ghost use Rattle.std.specs.Prelude.{◌≡◌, ◌++◌, IfOk, OnOk, bytes_eq, filter, map, not};
 ghost use Rattle.std.specs.Prelude.{slice_get};
-ghost use Rattle.std.specs.Ordering.{nat_cmp};
 ghost use Rattle.std.specs.List.Sorted.{IsStrictlySortedBy};
 ghost use Rattle.vk_spec.specs.Manifests.{core};
 ghost use Rattle.vk_resolution.specs.Keys.{in_order};
@@ -9,23 +8,37 @@ ghost use Rattle.vk_resolution.specs.Planning.{feature_key};
 ghost use Rattle.vk_base.specs.FeatureViews.{feature_view};
 ghost use Rattle.vk_model.specs.FaultViews.{item_view};
 ghost use Rattle.vk_model.specs.SettingViews.{instance_view};
-ghost use Rattle.vk_planset.specs.Members.{feature_cmp, number_key};
+ghost use Rattle.vk_planset.specs.Members.{HaveSame, feature_cmp, number_key};
 ghost use Rattle.vk_planset.specs.Items.{at_end, made, made_all, made_of};
 
 use crate::seats::Seat;
 use indexmap::IndexSet;
 use std::alloc::Global;
-use std::collections::BTreeSet;
 use vk_base::{FeatureName, Instance, List, Memory};
 use vk_choices::{Choice, Choices};
 use vk_model::Item;
 
-// Pushes `core`, if it is there.
-fn push_core(features: &BTreeSet<FeatureName>, list: &mut List<FeatureName>) -> Result<(), Memory>
-    ensures { OnOk result (map feature_view list.new ≡ map feature_view list.old
-        ++ filter (λ f. bytes_eq f core) (map feature_view features.now.keys)) }
+// Features by their bytes, each once.
+fn by_bytes(alloc: Global, features: &[FeatureName]) -> Result<Vec<FeatureName>, Memory>
+    ensures ordered { IfOk result (λ sorted. IsStrictlySortedBy feature_cmp sorted.items) }
+    ensures same { IfOk result (λ sorted. HaveSame (map feature_view sorted.items)
+        (map feature_view features.now)) }
 {
-    for feature in features.iter() {
+    let mut sorted = Vec::with_capacity(alloc, features.len())?;
+    for feature in features {
+        sorted.push(feature.clone()?)?;
+    }
+    sorted.sort_unstable();
+    sorted.dedup();
+    Ok(sorted)
+}
+
+// Pushes `core`, if it is there.
+fn push_core(features: &[FeatureName], list: &mut List<FeatureName>) -> Result<(), Memory>
+    ensures { OnOk result (map feature_view list.new ≡ map feature_view list.old
+        ++ filter (λ f. bytes_eq f core) (map feature_view features.now)) }
+{
+    for feature in features {
         if *feature == FeatureName::Core {
             list.push(feature.clone()?)?;
         }
@@ -33,13 +46,12 @@ fn push_core(features: &BTreeSet<FeatureName>, list: &mut List<FeatureName>) -> 
     Ok(())
 }
 
-// Pushes the others, by their bytes.
-fn push_others(features: &BTreeSet<FeatureName>, list: &mut List<FeatureName>) -> Result<(), Memory>
-    ensures others { OnOk result (map feature_view list.new ≡ map feature_view list.old
-        ++ filter (λ f. not (bytes_eq f core)) (map feature_view features.now.keys)) }
-    ensures ordered { IsStrictlySortedBy feature_cmp features.now.keys }
+// Pushes the others.
+fn push_others(features: &[FeatureName], list: &mut List<FeatureName>) -> Result<(), Memory>
+    ensures { OnOk result (map feature_view list.new ≡ map feature_view list.old
+        ++ filter (λ f. not (bytes_eq f core)) (map feature_view features.now)) }
 {
-    for feature in features.iter() {
+    for feature in features {
         if *feature != FeatureName::Core {
             list.push(feature.clone()?)?;
         }
@@ -47,38 +59,28 @@ fn push_others(features: &BTreeSet<FeatureName>, list: &mut List<FeatureName>) -
     Ok(())
 }
 
-// The features as they are listed, `core` first.
-fn feature_list(
-    alloc: Global,
-    features: &BTreeSet<FeatureName>,
-) -> Result<List<FeatureName>, Memory>
+// The features as they are listed, `core` first and then the others by their bytes.
+fn feature_list(alloc: Global, features: &[FeatureName]) -> Result<List<FeatureName>, Memory>
     ensures { IfOk result (λ list. map feature_view list
-        ≡ in_order feature_key (map feature_view features.now.keys)) }
+        ≡ in_order feature_key (map feature_view features.now)) }
 {
-    let mut list = List::with_capacity(alloc, features.len())?;
-    push_core(features, &mut list)?;
-    push_others(features, &mut list)?;
+    let features = by_bytes(alloc, features)?;
+    let sorted = features.as_slice();
+    let mut list = List::with_capacity(alloc, sorted.len())?;
+    push_core(sorted, &mut list)?;
+    push_others(sorted, &mut list)?;
     Ok(list)
 }
 
-// Pushes the places, in order.
-fn push_places(places: &BTreeSet<u32>, list: &mut List<u32>) -> Result<(), Memory>
-    ensures all { OnOk result (list.new ≡ list.old ++ places.now.keys) }
-    ensures ordered { IsStrictlySortedBy nat_cmp places.now.keys }
+// The places as they are listed: in order, each once.
+fn place_list(alloc: Global, places: &[u32]) -> Result<List<u32>, Memory>
+    ensures { IfOk result (λ list. list ≡ in_order number_key places.now) }
 {
-    for place in places.iter() {
-        list.push(*place)?;
-    }
-    Ok(())
-}
-
-// The places as they are listed.
-fn place_list(alloc: Global, places: &BTreeSet<u32>) -> Result<List<u32>, Memory>
-    ensures { IfOk result (λ list. list ≡ in_order number_key places.now.keys) }
-{
-    let mut list = List::with_capacity(alloc, places.len())?;
-    push_places(places, &mut list)?;
-    Ok(list)
+    let mut list = Vec::with_capacity(alloc, places.len())?;
+    list.extend_from_slice(places)?;
+    list.sort_unstable();
+    list.dedup();
+    Ok(List::from_vec(list))
 }
 
 // The item of an instance with this choice.

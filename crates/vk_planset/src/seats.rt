@@ -13,26 +13,26 @@ ghost use Rattle.vk_planset.specs.Seats.{seated_features, seated_needs};
 use crate::orders::{place_of, places_of};
 use indexmap::IndexSet;
 use std::alloc::Global;
-use std::collections::BTreeSet;
 use vk_base::{FeatureName, Instance, Memory};
 use vk_model::Fact;
 
-/// The features of a planned instance, but for `default`, and the places of what it depends on.
+/// The features of a planned instance, but for `default`, and the places of what it depends on, as
+/// they come: the same may stand there several times.
 #[derive(Drop)]
 pub(crate) struct Seat {
-    pub(crate) features: BTreeSet<FeatureName>,
-    pub(crate) needs: BTreeSet<u32>,
+    pub(crate) features: Vec<FeatureName>,
+    pub(crate) needs: Vec<u32>,
 }
 
 impl Seat {
     // Nothing yet.
     fn new(alloc: Global) -> Seat
         ensures features { features_in result ≡ [] }
-        ensures needs { result.needs.keys ≡ [] }
+        ensures needs { result.needs.items ≡ [] }
     {
         Seat {
-            features: BTreeSet::new(alloc),
-            needs: BTreeSet::new(alloc),
+            features: Vec::new(alloc),
+            needs: Vec::new(alloc),
         }
     }
 
@@ -40,22 +40,22 @@ impl Seat {
     fn put_feature(&mut self, feature: &FeatureName) -> Result<(), Memory>
         ensures features { OnOk result (HasMore (features_in self.old)
             (listed (feature_view feature.now)) (features_in self.new)) }
-        ensures needs { self.new.needs.keys ≡ self.old.needs.keys }
+        ensures needs { self.new.needs.items ≡ self.old.needs.items }
     {
         if *feature == FeatureName::Default {
             return Ok(());
         }
-        self.features.insert(feature.clone()?)?;
+        self.features.push(feature.clone()?)?;
         Ok(())
     }
 
     // One need more.
     fn put_need(&mut self, place: u32) -> Result<(), Memory>
         ensures needs { OnOk result
-            (HasMore self.old.needs.keys (place ∷ []) self.new.needs.keys) }
-        ensures features { self.new.features.keys ≡ self.old.features.keys }
+            (HasMore self.old.needs.items (place ∷ []) self.new.needs.items) }
+        ensures features { self.new.features.items ≡ self.old.features.items }
     {
-        self.needs.insert(place)?;
+        self.needs.push(place)?;
         Ok(())
     }
 }
