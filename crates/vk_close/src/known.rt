@@ -9,7 +9,9 @@ ghost use Rattle.vk_model.specs.WrongViews.{given_view, wrong_view};
 ghost use Rattle.vk_close.specs.Known.{base_by, given_in};
 
 use crate::pins::{Overrides, is_pinned_given, is_pinned_wrong};
-use vk_base::{Outage, PortName};
+use std::alloc::Global;
+use std::marker::Model;
+use vk_base::{Memory, Outage, PortName};
 use vk_catalogue::Catalogue;
 use vk_model::{Given, Wrong};
 use vk_version::Version;
@@ -23,6 +25,37 @@ pub(crate) struct Known {
     pub(crate) base: Option<Version>,
     /// Whether an overlay has it, or an override is for it.
     pub(crate) pinned: bool,
+}
+
+/// What is known of a port, in a block of its own: a map of ports moves little of it when it grows.
+/// Contracts see what is known.
+#[derive(Drop)]
+pub(crate) struct KnownPort {
+    block: Box<Known>,
+}
+
+impl Model for KnownPort {
+    ghost use Rattle.vk_close.specs.declared.known.Known.{Known};
+
+    ghost Value = { Known };
+
+    ghost view = { λ k. k.block.value };
+}
+
+impl KnownPort {
+    pub(crate) fn new(alloc: Global, known: Known) -> Result<KnownPort, Memory>
+        ensures { IfOk result (λ k. k ≡ known) }
+    {
+        Ok(KnownPort {
+            block: Box::new(alloc, known)?,
+        })
+    }
+
+    pub(crate) fn known(&self) -> &Known
+        ensures { result.now ≡ self.now }
+    {
+        self.block.as_ref()
+    }
 }
 
 // What the table has for what a baseline gives.

@@ -28,9 +28,9 @@ ghost use Rattle.vk_worklist.specs.Places.{IsPlace};
 ghost use Rattle.vk_worklist.specs.Ticks.{tick_of};
 
 use crate::floors::{find, is_base, is_clear, is_visited};
-use crate::known::Known;
+use crate::known::{Known, KnownPort};
 use crate::pins::Overrides;
-use crate::ports::see_to_port;
+use crate::ports::{known_at, see_to_port};
 use crate::steps::{push_all, push_given};
 use indexmap::IndexMap;
 use std::alloc::Global;
@@ -40,7 +40,7 @@ use vk_catalogue::Catalogue;
 use vk_model::{Cause, Fact, Manifest, Setting, Who};
 use vk_rules::Rules;
 use vk_version::{Ask, Version};
-use vk_worklist::{Asker, value_at};
+use vk_worklist::Asker;
 
 /// What is asked of a catalogue for the closure of a setting, the given version of each port once.
 /// It is clean as long as nothing is wrong with any fact that was asked about.
@@ -50,7 +50,7 @@ pub struct PageAsker<'a> {
     setting: &'a Setting,
     rules: Rules<'a>,
     overrides: Overrides<'a>,
-    ports: IndexMap<PortName, Known>,
+    ports: IndexMap<PortName, KnownPort>,
     clean: bool,
 }
 
@@ -163,7 +163,7 @@ impl<'a> PageAsker<'a> {
             (C.state cat.old)) }
     {
         let place = self.see_to(cat, port)?;
-        let known = value_at(&self.ports, place);
+        let known = known_at(&self.ports, place);
         push_given(port, &known.given, line, brought)?;
         Ok(known.given.is_some())
     }
@@ -189,7 +189,7 @@ impl<'a> PageAsker<'a> {
             (C.state cat.old)) }
     {
         let place = self.see_to(cat, port)?;
-        let known = value_at(&self.ports, place);
+        let known = known_at(&self.ports, place);
         if is_base(&known.given, ask) {
             return Ok(seen_floor(known, ask, &known.base));
         }

@@ -8,24 +8,38 @@ ghost use Rattle.vk_model.specs.Views.{override_view};
 ghost use Rattle.vk_worklist.specs.Places.{IsPlace};
 ghost use Rattle.vk_close.specs.Known.{AreKnown};
 
-use crate::known::{Known, ask_port};
+use crate::known::{Known, KnownPort, ask_port};
 use crate::names::copy_of;
 use crate::pins::Overrides;
 use indexmap::IndexMap;
 use vk_base::{Memory, Outage, PortName};
 use vk_catalogue::Catalogue;
-use vk_worklist::place_of;
+use vk_worklist::{place_of, value_at};
 
-fn put(ports: &mut IndexMap<PortName, Known>, key: PortName, known: Known) -> Result<(), Memory>
+/// What is known of the port at a place.
+pub(crate) fn known_at(ports: &IndexMap<PortName, KnownPort>, place: usize) -> &Known
+    requires { place < length ports.now.entries }
+    ensures { (port : List ℕ) → IsPlace ports.now.entries port place
+        → lookup (bytes_eq port) ports.now.entries ≡ Some result.now }
+{
+    value_at(ports, place).known()
+}
+
+fn put(ports: &mut IndexMap<PortName, KnownPort>, key: PortName, known: Known) -> Result<(), Memory>
     ensures { OnOk result ((p : List ℕ) → lookup (bytes_eq p) ports.new.entries
         ≡ (if bytes_eq key p then Some known else lookup (bytes_eq p) ports.old.entries)) }
 {
+    let known = KnownPort::new(*ports.allocator(), known)?;
     ports.insert(key, known)?;
     Ok(())
 }
 
 // Keeps what is known of a port.
-fn keep(ports: &mut IndexMap<PortName, Known>, port: &PortName, known: Known) -> Result<(), Memory>
+fn keep(
+    ports: &mut IndexMap<PortName, KnownPort>,
+    port: &PortName,
+    known: Known,
+) -> Result<(), Memory>
     ensures { OnOk result ((p : List ℕ) → lookup (bytes_eq p) ports.new.entries
         ≡ (if bytes_eq port.now p then Some known else lookup (bytes_eq p) ports.old.entries)) }
 {
@@ -41,7 +55,7 @@ fn keep(ports: &mut IndexMap<PortName, Known>, port: &PortName, known: Known) ->
 // Asks about a port of which nothing is known yet.
 fn ask_new<C: Catalogue>(
     overrides: &Overrides<'_>,
-    ports: &mut IndexMap<PortName, Known>,
+    ports: &mut IndexMap<PortName, KnownPort>,
     cat: &mut C,
     port: &PortName,
 ) -> Result<(), Outage>
@@ -62,7 +76,7 @@ fn ask_new<C: Catalogue>(
 /// Sees to it that a port is known, and tells its place among those that are.
 pub(crate) fn see_to_port<C: Catalogue>(
     overrides: &Overrides<'_>,
-    ports: &mut IndexMap<PortName, Known>,
+    ports: &mut IndexMap<PortName, KnownPort>,
     cat: &mut C,
     port: &PortName,
 ) -> Result<usize, Outage>

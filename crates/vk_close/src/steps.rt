@@ -11,20 +11,19 @@ ghost use Rattle.vk_close.specs.Known.{AreKnown};
 ghost use Rattle.vk_close.specs.Steps.{asked_on, falls_away, given_on, reason_on};
 ghost use Rattle.vk_worklist.specs.Entries.{reasons_in};
 
-use crate::known::Known;
+use crate::known::KnownPort;
 use crate::names::copy_of;
 use crate::pins::Overrides;
-use crate::ports::see_to_port;
+use crate::ports::{known_at, see_to_port};
 use indexmap::IndexMap;
 use vk_base::{List, Memory, Outage, PortName};
 use vk_catalogue::Catalogue;
 use vk_model::{Cause, Fact, Given};
-use vk_worklist::value_at;
 
 // Whether a port is pinned.
 fn is_pinned<C: Catalogue>(
     overrides: &Overrides<'_>,
-    ports: &mut IndexMap<PortName, Known>,
+    ports: &mut IndexMap<PortName, KnownPort>,
     cat: &mut C,
     port: &PortName,
 ) -> Result<bool, Outage>
@@ -40,13 +39,13 @@ fn is_pinned<C: Catalogue>(
         (C.state cat.old)) }
 {
     let place = see_to_port(overrides, ports, cat, port)?;
-    Ok(value_at(ports, place).pinned)
+    Ok(known_at(ports, place).pinned)
 }
 
 // Whether what a manifest asks for falls away: the floor of a pinned port does.
 fn falls_away<C: Catalogue>(
     overrides: &Overrides<'_>,
-    ports: &mut IndexMap<PortName, Known>,
+    ports: &mut IndexMap<PortName, KnownPort>,
     cat: &mut C,
     fact: &Fact,
 ) -> Result<bool, Outage>
@@ -105,7 +104,7 @@ fn push_unless(
 // Adds what a manifest asks for, unless it falls away.
 fn push_asked<C: Catalogue>(
     overrides: &Overrides<'_>,
-    ports: &mut IndexMap<PortName, Known>,
+    ports: &mut IndexMap<PortName, KnownPort>,
     cat: &mut C,
     fact: Fact,
     line: u32,
@@ -135,7 +134,7 @@ fn push_asked<C: Catalogue>(
 /// Adds all that a manifest asks for, but for what falls away.
 pub(crate) fn push_all<C: Catalogue>(
     overrides: &Overrides<'_>,
-    ports: &mut IndexMap<PortName, Known>,
+    ports: &mut IndexMap<PortName, KnownPort>,
     cat: &mut C,
     facts: List<Fact>,
     line: u32,
