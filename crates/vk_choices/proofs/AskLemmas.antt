@@ -1,9 +1,9 @@
 -- Rows have what facts ask, one fact after the other.
 use Rattle.std.proofs.Common.{◌≡◌, ◌<◌, ◌+◌, take, get_or, arith, ℕ, zero, suc, Bool, true, false, cond, List, [], ◌∷◌, ◌++◌, length, map, inl, inr, refl, ap, ap₂, sym, ◌∙◌, subst}
-use Rattle.std.specs.Prelude.{Option, Some, None, IfSome, option_map, option_to_list, filter_map, bytes_eq}
+use Rattle.std.specs.Prelude.{Option, Some, None, IfSome, Result, Ok, Err, OnOk, option_map, option_to_list, filter_map, bytes_eq}
 use Rattle.std.specs.List.{Contains, cons_option}
 use Rattle.std.specs.Map.{keys_of}
-use Rattle.std.proofs.lemmas.List.{take_more, map-append, length-map, length-take-le}
+use Rattle.std.proofs.lemmas.List.{append-nil, take_more, map-append, length-map, length-take-le}
 use Rattle.std.proofs.lemmas.List.Elements.{Contains-append_cases, filter_map-append}
 use Rattle.std.proofs.lemmas.Slice.Eq.{bytes_eq-Decides}
 use Rattle.vk_spec.specs.Versions.{Ask}
@@ -18,12 +18,35 @@ use Rattle.vk_resolution.proofs.Soundness.{map_some}
 use Rattle.vk_model.specs.declared.reasons.Reason.{Reason}
 use Rattle.vk_model.specs.FactViews.{fact_view, reason_view, reasons_view}
 use Rattle.vk_choices.specs.declared.asks.Asked.{Asked}
-use Rattle.vk_choices.specs.Rows.{Rows, row_of, in_row, AreInOrder}
+use Rattle.vk_choices.specs.Rows.{Rows, row_of, in_row, listed_of, AreInOrder, HasOneMore}
 use Rattle.vk_choices.specs.Asks.{AskOnLine, asked_view, ask_on, asks_at, ask_in, IsNoted, HaveAsks}
 use Rattle.vk_choices.specs.Floors.{CanAskFloors, CanAskPorts}
 use Rattle.vk_choices.proofs.RowLemmas.{row_is}
 
 -- ---- one fact more
+
+one_by : (x : Asked) (a : Ask) (n : ℕ) → asked_view x ≡ ask_on n a → (b : Bool) → map asked_view (cond b (x ∷ []) []) ≡ option_to_list (option_map (ask_on n) (cond b (Some a) None))
+one_by x a n is true = ap (λ y. y ∷ []) is
+one_by x a n is false = refl
+
+-- a floor is noted
+pub floor_noted : {A E : Type 0} (q : List ℕ) (x : Asked) (a : Ask) (n : ℕ) (old new : Rows Asked) (r : Result A E) → asked_view x ≡ ask_on n a → OnOk r (HasOneMore q x old new) → OnOk r (IsNoted (floor q a) n old new)
+floor_noted q x a n old new (Ok u) is more = record {
+  asks = λ p. (
+      ap (map asked_view) (more.listed p)
+      ∙ map-append asked_view (listed_of old p) (cond (bytes_eq q p) (x ∷ []) [])
+      ∙ ap (λ l. asks_at old p ++ l) (one_by x a n is (bytes_eq q p))
+      );
+  some = more.some;
+}
+floor_noted q x a n old new (Err e) is more = tt
+
+-- of any other fact there is nothing to note
+pub nothing_noted : (x : Fact) (n : ℕ) (rows : Rows Asked) → ((p : List ℕ) → ask_in p x ≡ None) → IsNoted x n rows rows
+nothing_noted x n rows none = record {
+  asks = λ p. sym (append-nil (asks_at rows p)) ∙ ap (λ o. asks_at rows p ++ option_to_list (option_map (ask_on n) o)) (sym (none p));
+  some = λ some. some;
+}
 
 one_ask : (n : ℕ) (o : Option Ask) → map (λ (a : AskOnLine). a.ask) (option_to_list (option_map (ask_on n) o)) ≡ option_to_list o
 one_ask n None = refl

@@ -117,6 +117,16 @@ row_settles done p (f ∷ floors) old new was added = added_settles done p (f �
 
 -- ---- the ports of which something is asked
 
+pub nothing_settled : (pages : Pages) (s : Settled) → chosen_in s ≡ [] → told_in s ≡ [] → AreSettledFor pages [] s
+nothing_settled pages s chosen told = record {
+  settles = λ setting pages facts rows. record {
+    each = λ c h. absurd (contains_nothing c (subst (λ (l : List choice.Choice). Contains l c) chosen h));
+    all = λ have. ap (map (λ (c : choice.Choice). c.port)) chosen;
+    told = told;
+  };
+  sound = λ e a h. absurd (contains_nothing e h);
+}
+
 more_settled : (pages : Pages) (done : Rows Asked) (p : List ℕ) (asks : List Asked) (floors : List Floor) (old new : Settled) → AreSettledFor pages done old → AreFloors pages p (map asked_view asks) floors → IsAdded p floors old new → AreSettledFor pages (done ++ (p, asks) ∷ []) new
 more_settled pages done p asks floors old new was are added = record {
   settles =
