@@ -1,10 +1,9 @@
 -- The folders of a plan's items.
 use Rattle.std.proofs.Common.{◌≡◌, ◌<◌, ◌∷◌, ◌++◌, ◌+◌, ℕ, Bool, true, false, not, cond, List, [], length, map, take, get_or, refl, ap, sym, subst, ◌∙◌}
 use Rattle.std.specs.Prelude.{Option, Some, None, IfSome, IsOk, Result, Ok, Err, option_map, nat_lt}
-use Rattle.std.specs.List.{Contains, position, prefix_len, list_any}
-use Rattle.std.proofs.lemmas.Slice.Eq.{bytes_eq-Decides}
+use Rattle.std.specs.List.{Contains, position, prefix_len}
 use Rattle.std.proofs.lemmas.List.{length-map, map-append, take_more}
-use Rattle.std.proofs.lemmas.List.Elements.{Contains-append_right, Contains-get_or}
+use Rattle.std.proofs.lemmas.List.Elements.{Contains-get_or}
 use Rattle.vk_spec.specs.Lists.{NoRepeats}
 use Rattle.vk_spec.specs.Versions.{Version, Ask, ask_of}
 use Rattle.vk_spec.specs.Pages.{version_in}
@@ -25,13 +24,11 @@ use Rattle.vk_resolution.proofs.ChoiceLemmas.{version_ask, free_choice, floors_a
 use Rattle.vk_resolution.proofs.Orders.{before_itself}
 use Rattle.vk_resolution.proofs.PlannerLemmas.{plans_keep_promises}
 use Rattle.vk_resolution.proofs.ServiceLemmas.{pages_have_rows}
-use Rattle.vk_spec.specs.Versions.{same_version}
 use Rattle.vk_spec.specs.Paths.{Path}
 use Rattle.vk_spec.specs.Conditions.{Condition}
 use Rattle.vk_spec.specs.Catalogues.{CatalogueState, OnlyAsked, OnPages, Origin}
 use Rattle.vk_spec.proofs.OptionLemmas.{of_each, of_both}
-use Rattle.vk_spec.proofs.VersionLemmas.{version_decides}
-use Rattle.vk_resolution.proofs.Members.{any_contains, both_true, map_contains}
+use Rattle.vk_resolution.proofs.Members.{map_contains}
 use Rattle.std.proofs.lemmas.Option.{IfSome_then}
 use Rattle.vk_spec.specs.Files.{Files}
 use Rattle.vk_spec.specs.States.{State, Told}

@@ -54,12 +54,7 @@ pub fn open_on(alloc: Global, mut tree: MemTree, project: &Project, reply: &mut 
     }
 }
 
-fn tell_folder(
-    world: &mut World<MemTree>,
-    port: &PortName,
-    version: &Version,
-    reply: &mut Reply,
-) {
+fn tell_folder(world: &mut World<MemTree>, port: &PortName, version: &Version, reply: &mut Reply) {
     match world.folder(port, version) {
         Ok(Some(path)) => reply.push_path(&path),
         Ok(None) => reply.push("none"),
