@@ -7,6 +7,7 @@ ghost use Rattle.std.specs.Prelude.{◌<◌, ◌^◌, length, IfSome};
 
 use std::alloc::Global;
 use std::io::{self, Write};
+use std::os::unix::fs::FileExt;
 use std::process::ExitCode;
 use std::rt::Files;
 use vk_app::{Ran, run};
@@ -64,7 +65,10 @@ fn run_line<R: Files + Alloc<A = Global>, W: Write>(
     tree: FileTree<R>,
     out: &mut OutSink<W>,
     err: &mut OutSink<W>,
-) -> FileTree<R> {
+) -> FileTree<R>
+where
+    R::File: FileExt,
+{
     let Some(words) = words_of(alloc, line) else {
         return tree;
     };

@@ -4,6 +4,7 @@ ghost use Rattle.vk_real.specs.Files.{file_state, no_calls, Ended};
 
 use crate::hosts::Host;
 use std::io::{self, ErrorKind};
+use std::os::unix::fs::FileExt;
 use std::rt::Files;
 use vk_base::{List, Memory, Outage, Stop, TreePath};
 use vk_tree::{Kind, ListFault, Listed, MoveFault, ReadFault, RemoveFault, Tree};
@@ -52,7 +53,10 @@ impl<R: Files + AllocGlobal> FileTree<R> {
     }
 }
 
-impl<R: Files + AllocGlobal> Tree for FileTree<R> {
+impl<R: Files + AllocGlobal> Tree for FileTree<R>
+where
+    R::File: FileExt,
+{
     ghost state = { file_state };
 
     fn kind(&mut self, path: &TreePath) -> Result<Kind, Outage> {

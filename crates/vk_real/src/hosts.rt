@@ -22,6 +22,27 @@ pub(crate) struct Opened<F> {
     pub(crate) size: u64,
 }
 
+/// The text of a path. Most paths are those of their parts, so nothing is made for them.
+#[derive(Drop)]
+pub(crate) enum PathText<'a> {
+    Parts(&'a str),
+    Made(Text),
+}
+
+impl<'a> PathText<'a> {
+    pub(crate) fn as_str(&self) -> &str {
+        match self {
+            PathText::Parts(text) => *text,
+            PathText::Made(text) => text.as_str(),
+        }
+    }
+}
+
+// Whether a path's text is that of its parts: it isn't rooted, goes no step up, and has some.
+fn is_its_parts(path: &TreePath) -> bool {
+    !path.is_rooted() && path.steps_up() == 0 && !path.parts_text().is_empty()
+}
+
 /// What stands at a path.
 #[derive(Clone, Copy)]
 pub(crate) enum Stand {
@@ -46,8 +67,8 @@ pub(crate) fn if_there<T: Drop>(found: io::Result<T>) -> io::Result<Option<T>> {
     }
 }
 
-// What was opened, if it is a file.
-fn if_file<F: OpenFile + Drop>(file: F) -> io::Result<Option<Opened<F>>> {
+/// What was opened, if it is a file.
+pub(crate) fn if_file<F: OpenFile + Drop>(file: F) -> io::Result<Option<Opened<F>>> {
     let found = file.metadata()?;
     if !found.is_file() {
         return Ok(None);
@@ -60,9 +81,14 @@ fn if_file<F: OpenFile + Drop>(file: F) -> io::Result<Option<Opened<F>>> {
 
 impl<R: Files + AllocGlobal> Host<R> {
     /// The text of a path, where out of memory is the host's error of that kind.
-    pub(crate) fn text(&self, path: &TreePath) -> io::Result<Text> {
-        path.text(self.rt.alloc())
-            .map_err(|_| ErrorKind::OutOfMemory.into())
+    pub(crate) fn text<'a>(&self, path: &'a TreePath) -> io::Result<PathText<'a>> {
+        if is_its_parts(path) {
+            return Ok(PathText::Parts(path.parts_text()));
+        }
+        match path.text(self.rt.alloc()) {
+            Ok(text) => Ok(PathText::Made(text)),
+            Err(_) => Err(ErrorKind::OutOfMemory.into()),
+        }
     }
 
     /// The file at a path, or the one that a link there leads to. A folder counts as none.
@@ -70,18 +96,17 @@ impl<R: Files + AllocGlobal> Host<R> {
         Ok(if_there(fs::metadata(&self.rt, path))?.filter(|found| found.is_file()))
     }
 
-    /// The file at a path, opened. It is asked what it is after that, so that its path is looked up
-    /// once.
-    pub(crate) fn open(&self, path: &str) -> io::Result<Option<Opened<R::File>>> {
+    /// What stands at a path, opened. It is asked what it is after that, so that its path is looked
+    /// up once.
+    pub(crate) fn open(&self, path: &str) -> io::Result<Option<R::File>> {
         match if_there(fs::open(&self.rt, path)) {
-            Ok(Some(file)) => if_file(file),
-            Ok(None) => Ok(None),
+            Ok(opened) => Ok(opened),
             Err(e) => self.unopened(path, e),
         }
     }
 
     // What an open that failed tells: what is no file counts as none.
-    fn unopened(&self, path: &str, e: io::Error) -> io::Result<Option<Opened<R::File>>> {
+    fn unopened(&self, path: &str, e: io::Error) -> io::Result<Option<R::File>> {
         match self.file(path) {
             Ok(None) => Ok(None),
             Ok(Some(_)) | Err(_) => Err(e),

@@ -1,11 +1,12 @@
 //! A folder of the host listed, a file read whole, or a piece of it.
-ghost use Rattle.std.specs.Prelude.{◌≤◌, IfOk, OnOk, length};
+ghost use Rattle.std.specs.Prelude.{◌≤◌, IfOk, IfSome, OnOk, length};
 ghost use Rattle.vk_real.specs.Listings.{AreParts, IsListing};
 
-use crate::hosts::{Came, Host, Opened, Stand, if_there};
+use crate::hosts::{Came, Host, Opened, Stand, if_file, if_there};
 use std::alloc::Global;
-use std::fs::{self, DirEntry};
+use std::fs::{self, DirEntry, OpenFile};
 use std::io::{self, ErrorKind, Read, Seek, SeekFrom};
+use std::os::unix::fs::FileExt;
 use std::rt::Files;
 use vk_base::{List, Text, TreePath};
 use vk_tree::{ListFault, Listed, ReadFault, may_be_part};
@@ -70,20 +71,18 @@ impl<R: Files + AllocGlobal> Host<R> {
 
     /// The file at a path, unless it is longer than the limit.
     pub(crate) fn read(&self, path: &TreePath, limit: u64) -> Came<List<u8>, ReadFault>
+    where
+        R::File: FileExt,
         ensures { IfOk result (λ read. IfOk read (λ bytes. length bytes ≤ limit)) }
     {
         let path = self.text(path)?;
-        let Some(Opened { file, size }) = self.open(path.as_str())? else {
+        let Some(mut file) = self.open(path.as_str())? else {
             return Ok(Err(ReadFault::Missing));
         };
-        if size > limit {
-            return Ok(Err(ReadFault::TooLarge));
+        if let Some(bytes) = read_at_once(self.rt.alloc(), &mut file, limit)? {
+            return Ok(Ok(List::from_vec(bytes)));
         }
-        let bytes = read_bytes(self.rt.alloc(), file, size, limit.saturating_add(1))?;
-        if bytes.len() as u64 > limit {
-            return Ok(Err(ReadFault::TooLarge));
-        }
-        Ok(Ok(List::from_vec(bytes)))
+        read_asked(self.rt.alloc(), file, limit)
     }
 
     /// The bytes of the file at a path from a place on, as many as there are up to a number.
@@ -91,7 +90,10 @@ impl<R: Files + AllocGlobal> Host<R> {
         ensures { IfOk result (λ read. IfOk read (λ bytes. length bytes ≤ most)) }
     {
         let path = self.text(path)?;
-        let Some(Opened { mut file, size }) = self.open(path.as_str())? else {
+        let Some(file) = self.open(path.as_str())? else {
+            return Ok(Err(ReadFault::Missing));
+        };
+        let Some(Opened { mut file, size }) = if_file(file)? else {
             return Ok(Err(ReadFault::Missing));
         };
         if at > 0 && !goes_to(&mut file, at)? {
@@ -102,6 +104,51 @@ impl<R: Files + AllocGlobal> Host<R> {
         bytes.truncate(most as usize);
         Ok(Ok(List::from_vec(bytes)))
     }
+}
+
+// The bytes of what has an end and gives them all by one read: a file does. `None` where what is
+// open has to be asked what it is: it has no end, no bytes, more than the limit, or it changed.
+fn read_at_once<F: FileExt + Seek>(
+    alloc: Global,
+    file: &mut F,
+    limit: u64,
+) -> io::Result<Option<Vec<u8>>>
+    ensures { IfOk result (λ read. IfSome read (λ bytes. length bytes.items ≤ limit)) }
+{
+    let size = match file.seek(SeekFrom::End(0)) {
+        Ok(size) if size > 0 && size <= limit => size,
+        Ok(_) | Err(_) => return Ok(None),
+    };
+    let mut bytes = Vec::from_elem(alloc, 0, (size as usize).saturating_add(1))?;
+    match file.read_at(&mut bytes, 0) {
+        Ok(count) if count as u64 == size => {
+            bytes.truncate(count);
+            Ok(Some(bytes))
+        }
+        Ok(_) | Err(_) => Ok(None),
+    }
+}
+
+// The bytes of what was opened, if it is a file, from its beginning.
+fn read_asked<F: Read + Seek + OpenFile + Drop>(
+    alloc: Global,
+    file: F,
+    limit: u64,
+) -> Came<List<u8>, ReadFault>
+    ensures { IfOk result (λ read. IfOk read (λ bytes. length bytes ≤ limit)) }
+{
+    let Some(Opened { mut file, size }) = if_file(file)? else {
+        return Ok(Err(ReadFault::Missing));
+    };
+    if size > limit {
+        return Ok(Err(ReadFault::TooLarge));
+    }
+    file.seek(SeekFrom::Start(0))?;
+    let bytes = read_bytes(alloc, file, size, limit.saturating_add(1))?;
+    if bytes.len() as u64 > limit {
+        return Ok(Err(ReadFault::TooLarge));
+    }
+    Ok(Ok(List::from_vec(bytes)))
 }
 
 // Goes to a place in a file; `false` where no file of the host can be as long.

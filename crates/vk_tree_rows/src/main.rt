@@ -9,6 +9,7 @@ mod walks;
 
 use sessions::Session;
 use std::alloc::Global;
+use std::os::unix::fs::FileExt;
 use std::process::ExitCode;
 use std::rt::Files;
 use vk_row_text::answer_rows;
@@ -16,7 +17,10 @@ use vk_row_text::answer_rows;
 fn answer<R: Files + Alloc<A = Global> + Clone + Drop>(
     rt: &HostRuntime,
     session: &mut Session<R>,
-) -> ExitCode {
+) -> ExitCode
+where
+    R::File: FileExt,
+{
     match answer_rows(rt, session) {
         Ok(0) => ExitCode::SUCCESS,
         _ => ExitCode::FAILURE,

@@ -14,6 +14,7 @@ ghost use Rattle.vk_spec.specs.Paths.{Begins};
 use crate::changes::{bytes_of, moved, paths_of, remove, written};
 use crate::{looks, walks};
 use std::alloc::{AllocError, Global};
+use std::os::unix::fs::FileExt;
 use std::rt::Files;
 use vk_base::{Memory, Text, TreePath};
 use vk_real::FileTree;
@@ -52,7 +53,10 @@ fn write_on_host<R: Files + Alloc<A = Global> + Clone + Drop>(
     tree: &mut FileTree<R>,
     row: &str,
     reply: &mut Reply,
-) {
+)
+where
+    R::File: FileExt,
+{
     let (path, bytes) = cut(row);
     let path = reply.path(path);
     let bytes = bytes_of(bytes, reply);
@@ -80,7 +84,10 @@ fn move_on_host<R: Files + Alloc<A = Global> + Clone + Drop>(
     tree: &mut FileTree<R>,
     row: &str,
     reply: &mut Reply,
-) {
+)
+where
+    R::File: FileExt,
+{
     let (from, to) = paths_of(row, reply);
     moved(tree.rename(&from, &to), reply);
 }
@@ -103,7 +110,10 @@ fn tell_both(
     }
 }
 
-impl<R: Files + Alloc<A = Global> + Clone + Drop> Session<R> {
+impl<R: Files + Alloc<A = Global> + Clone + Drop> Session<R>
+where
+    R::File: FileExt,
+{
     /// No files in memory, and those of the host.
     pub fn new(rt: R) -> Result<Session<R>, Memory> {
         let mem = MemTree::new(rt.alloc())?;
@@ -140,7 +150,10 @@ impl<R: Files + Alloc<A = Global> + Clone + Drop> Session<R> {
     }
 }
 
-impl<R: Files + Alloc<A = Global> + Clone + Drop> Session<R> {
+impl<R: Files + Alloc<A = Global> + Clone + Drop> Session<R>
+where
+    R::File: FileExt,
+{
     fn ask(&mut self, row: &str, reply: &mut Reply) {
         let (question, rest) = cut(row);
         match question {
@@ -166,7 +179,10 @@ fn is_done(told: Result<Option<Text>, AllocError>) -> bool {
     }
 }
 
-impl<R: Files + Alloc<A = Global> + Clone + Drop> Session<R> {
+impl<R: Files + Alloc<A = Global> + Clone + Drop> Session<R>
+where
+    R::File: FileExt,
+{
     fn is_done(&mut self, alloc: Global, row: &str, number: u32) -> bool {
         let Ok(row) = numbered(alloc, row, number) else {
             return false;
@@ -189,7 +205,10 @@ impl<R: Files + Alloc<A = Global> + Clone + Drop> Session<R> {
     }
 }
 
-impl<R: Files + Alloc<A = Global> + Clone + Drop> Answering for Session<R> {
+impl<R: Files + Alloc<A = Global> + Clone + Drop> Answering for Session<R>
+where
+    R::File: FileExt,
+{
     fn answer(&mut self, row: &str, reply: &mut Reply) {
         let (question, rest) = cut(row);
         match question {
