@@ -11,6 +11,7 @@ use Rattle.vk_planset.specs.declared.seats.Seat.{Seat}
 use Rattle.vk_planset.specs.Members.{HasMore, HaveSame}
 use Rattle.vk_planset.specs.Seats.{features_in, features_of_seat, features_at, needs_of_seat, needs_at, at_place, HaveMore, AreSeats}
 use Rattle.vk_planset.specs.Items.{at_end}
+use Rattle.vk_planset.specs.Places.{place_in}
 use Rattle.vk_planset.proofs.MemberLemmas.{nothing_more, same_more, same_nothing}
 
 set_here : {X : Type 0} (xs : List X) (i : ℕ) (y : X) → i < length xs → slice_get (set xs i y) i ≡ Some y
@@ -70,6 +71,12 @@ module _ (seats : List Seat) (place : ℕ) (d new : Seat) (within : place < leng
   }
 
 -- ---- more and more
+
+-- what a table of all has at a place
+pub placed_at : {A X : Type 0} (view : A → X) (f : X → Option ℕ) (xs : List A) (n : ℕ) (x : A) → n < length xs → x ≡ get_or xs n x → place_in (slice_get (map f (map view xs)) n) ≡ f (view x)
+placed_at view f [] n x within at = absurd (omega (arith, within))
+placed_at view f (y ∷ ys) zero x within at = ap (λ z. f (view z)) (sym at)
+placed_at view f (y ∷ ys) (suc n) x within at = placed_at view f ys n x (omega (arith, within)) at
 
 pub seats_step : (count : ℕ) (features more : ℕ → List (List ℕ)) (needs further : ℕ → List ℕ) (old new : List Seat) (all : ℕ → List (List ℕ)) (every : ℕ → List ℕ)
     → AreSeats count features needs old → HaveMore more further old new → ((p : ℕ) → all p ≡ features p ++ more p) → ((p : ℕ) → every p ≡ needs p ++ further p) → AreSeats count all every new

@@ -1,6 +1,7 @@
 //! What belongs to each planned instance: its features, and the places of what it depends on.
 ghost use Rattle.std.specs.Prelude.{◌≡◌, ◌∷◌, [], ℕ, List, IfOk, OnOk, length, map, option_map};
 ghost use Rattle.std.specs.Prelude.{slice_get};
+ghost use Rattle.vk_spec.specs.Settings as plain;
 ghost use Rattle.vk_base.specs.FeatureViews.{feature_view};
 ghost use Rattle.vk_model.specs.FactViews.{fact_view};
 ghost use Rattle.vk_model.specs.SettingViews.{instance_view};
@@ -10,7 +11,7 @@ ghost use Rattle.vk_planset.specs.Seats.{AreSeats, HaveMore, at_given, at_link, 
 ghost use Rattle.vk_planset.specs.Seats.{feature_of, features_in, listed, listed_in};
 ghost use Rattle.vk_planset.specs.Seats.{seated_features, seated_needs};
 
-use crate::orders::{place_of, places_of};
+use crate::orders::places_of;
 use indexmap::IndexSet;
 use std::alloc::Global;
 use vk_base::{FeatureName, Instance, Memory};
@@ -130,23 +131,24 @@ fn seat_need(seats: &mut [Seat], place: Option<u32>, fact: &Fact) -> Result<(), 
     }
 }
 
-// Puts the features of needs on the seats of their places.
-fn seat_needs(seats: &mut [Seat], order: &IndexSet<Instance>, needs: &[Fact]) -> Result<(), Memory>
-    requires { AreSeats (length order.now.keys) (λ p. []) (λ p. []) seats.old }
-    ensures { OnOk result (AreSeats (length order.now.keys) (seated_features
-        (map instance_view order.now.keys) (map fact_view needs.now)) (λ p. []) seats.new) }
-{
-    for fact in needs {
-        seat_need(seats, place_of(order, fact), fact)?;
-    }
-    Ok(())
-}
-
 // The place that a table has for a need.
 fn place_in(places: &[Option<u32>], need: usize) -> Option<u32>
     ensures { result ≡ place_in (slice_get places.now need) }
 {
     *places.get(need)?
+}
+
+// Puts the features of needs on the seats of their places, which a table has.
+fn seat_needs(seats: &mut [Seat], needs: &[Fact], places: &[Option<u32>]) -> Result<(), Memory>
+    ensures { OnOk result ((count : ℕ) (order : List plain.Instance)
+        → places.now ≡ map (place_of order) (map fact_view needs.now)
+        → AreSeats count (λ p. []) (λ p. []) seats.old
+        → AreSeats count (seated_features order (map fact_view needs.now)) (λ p. []) seats.new) }
+{
+    for (n, fact) in needs.iter().enumerate() {
+        seat_need(seats, place_in(places, n), fact)?;
+    }
+    Ok(())
 }
 
 // The two instances that an edge joins, if they are two.
@@ -195,17 +197,17 @@ fn seat_edges(
 // Puts the features of needs, and what the edges between the needs lead to, on the seats.
 fn fill(
     seats: &mut [Seat],
-    order: &IndexSet<Instance>,
     needs: &[Fact],
     places: &[Option<u32>],
     edges: &[(usize, usize)],
 ) -> Result<(), Memory>
-    requires { AreSeats (length order.now.keys) (λ p. []) (λ p. []) seats.old }
-    ensures { OnOk result (AreSeats (length order.now.keys) (seated_features
-        (map instance_view order.now.keys) (map fact_view needs.now))
+    ensures { OnOk result ((count : ℕ) (order : List plain.Instance)
+        → places.now ≡ map (place_of order) (map fact_view needs.now)
+        → AreSeats count (λ p. []) (λ p. []) seats.old
+        → AreSeats count (seated_features order (map fact_view needs.now))
         (seated_needs places.now edges.now) seats.new) }
 {
-    seat_needs(seats, order, needs)?;
+    seat_needs(seats, needs, places)?;
     seat_edges(seats, places, edges)
 }
 
@@ -224,6 +226,6 @@ pub(crate) fn seats_of(
 {
     let places = places_of(alloc, order, needs)?;
     let mut seats = seats_for(alloc, order.len())?;
-    fill(&mut seats, order, needs, &places, edges)?;
+    fill(&mut seats, needs, &places, edges)?;
     Ok(seats)
 }
