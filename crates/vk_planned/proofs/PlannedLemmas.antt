@@ -17,7 +17,7 @@ use Rattle.vk_resolution.specs.Least.{FollowsFrom, from_one, from_two, IsClosed}
 use Rattle.vk_resolution.specs.Planning.{is_need, visit_of, planned_from, planned_rules_of, IsPlanned}
 use Rattle.vk_resolution.specs.Laws.{StaysWithin}
 use Rattle.vk_resolution.proofs.LeastLemmas.{no_longer}
-use Rattle.vk_resolution.proofs.Members.{contains_filter, filter_contains, contains_map}
+use Rattle.vk_resolution.proofs.Members.{filter_contains, contains_map}
 use Rattle.vk_resolution.proofs.Uniqueness.{get_contains}
 use Rattle.vk_worklist.specs.Ticks.{ticks}
 use Rattle.vk_planned.specs.Followed.{IsFollowed}

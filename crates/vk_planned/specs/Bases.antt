@@ -1,5 +1,6 @@
 -- What contracts see of that which is planned from.
-use Rattle.std.specs.Prelude.{◌≡◌, List}
+use Rattle.std.specs.Prelude.{◌≡◌, List, IsSome, slice_get}
+use Rattle.vk_spec.specs.Catalogues.{ArePages}
 use Rattle.vk_resolution.specs.Givens.{Pages}
 use Rattle.vk_resolution.specs.Asking.{Fact}
 use Rattle.vk_resolution.specs.Consequences.{Inputs}
@@ -22,7 +23,8 @@ facts_at b = facts_of (reasons_view b.reasons.now)
 abbrev pub IsRuled : Basis → Type 0
 IsRuled b = b.rules ≡ b.setting.now
 
--- the reasons are clear on these pages, and the choices are made of them
+-- the reasons are clear on these pages, the choices are made of them, and where there is a choice, every page is as pages are
 pub record IsSound (b : Basis) (pages : Pages) : Type 0 where
   pub clear : IsClear (inputs_at b pages) (reasons_view b.reasons.now)
   pub chosen : IsChoices (inputs_at b pages) (facts_at b) (choices_view b.choices.now)
+  pub are : IsSome (slice_get b.choices.now.ports.entries 0) → ArePages pages

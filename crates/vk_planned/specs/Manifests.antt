@@ -1,8 +1,9 @@
 -- The manifest of the version that is chosen for a port, and what is made of it.
-use Rattle.std.specs.Prelude.{ℕ, List, [], Option, Some, None, option_map, option_and_then, Result, Ok, Err, bytes_eq}
+use Rattle.std.specs.Prelude.{◌≡◌, ℕ, List, [], Option, Some, None, option_map, option_and_then, Result, Ok, Err, bytes_eq}
 use Rattle.std.specs.Map.{lookup}
 use Rattle.std.specs.declared.rc.Rc.{Rc}
 use Rattle.vk_spec.specs.Conditions.{Condition}
+use Rattle.vk_spec.specs.Catalogues.{CanAskManifest}
 use Rattle.vk_spec.specs.Manifests as spec
 use Rattle.vk_spec.specs.Pages.{Wrong, manifest_in}
 use Rattle.vk_spec.specs.Settings.{Setting}
@@ -37,3 +38,7 @@ asked_by_found s who f (Some m) = asked_of s who f m
 abbrev pub judged_by_found : Setting → Who → List ℕ → Option Version → Option (spec.Manifest Condition) → ℕ → List Fault
 judged_by_found s who f v None n = []
 judged_by_found s who f v (Some m) n = judged s who f v m n
+
+-- the manifest of a port's choice can be asked for
+abbrev pub CanAskChosen : Pages → List (List ℕ × Choice) → List ℕ → Type 0
+CanAskChosen pages choices p = (choice : Choice) → lookup (bytes_eq p) choices ≡ Some choice → CanAskManifest (ask_of choice.version) (pages p)

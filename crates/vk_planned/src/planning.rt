@@ -1,6 +1,7 @@
 //! The planned needs.
-ghost use Rattle.std.specs.Prelude.{◌+◌, ◌<◌, ◌≤◌, List, IfOk, OnOk, length, map};
-ghost use Rattle.vk_spec.specs.Catalogues.{OnlyAsked, OnPages};
+ghost use Rattle.std.specs.Prelude.{◌+◌, ◌<◌, ◌≤◌, List, IfOk, IsSome, OnOk, length, map};
+ghost use Rattle.std.specs.Prelude.{slice_get};
+ghost use Rattle.vk_spec.specs.Catalogues.{ArePages, OnlyAsked, OnPages};
 ghost use Rattle.vk_base.specs.Stops.{was_out};
 ghost use Rattle.vk_resolution.specs.Asking as plain;
 ghost use Rattle.vk_resolution.specs.Planner.{inputs_of};
@@ -122,6 +123,19 @@ fn plan_from<C: Catalogue, L: Ledger>(
     Ok(planned)
 }
 
+// Asks for a port that has a choice, if any has: an answer shows that every page is as pages are,
+// so the manifest of each choice can be asked for.
+fn ask_first<C: Catalogue>(cat: &mut C, choices: &Choices) -> Result<(), Outage>
+    ensures asked { OnlyAsked (was_out result) (C.state cat.old) (C.state cat.new) }
+    ensures are { OnOk result (OnPages (λ pages.
+        IsSome (slice_get choices.now.ports.entries 0) → ArePages pages) (C.state cat.old)) }
+{
+    if let Some((port, _)) = choices.ports.get_index(0) {
+        let _given = cat.given(port)?;
+    }
+    Ok(())
+}
+
 /// The needs of the root, and all that the manifests of the chosen versions need in turn, with what
 /// is wrong with each. It takes at most a step for each manifest's feature that is looked at. The
 /// reasons are those of a closure without faults, and the choices are made of them. The catalogue is
@@ -152,6 +166,7 @@ pub fn plan_needs<C: Catalogue, L: Ledger>(
     ensures asked { OnlyAsked (was_out result) (C.state cat.old) (C.state cat.new) }
 {
     let rules = Rules::new(alloc, setting)?;
+    ask_first(cat, choices)?;
     let basis = Basis {
         setting,
         rules,
