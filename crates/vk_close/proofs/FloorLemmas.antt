@@ -8,7 +8,7 @@ use Rattle.vk_spec.specs.Manifests.{Override}
 use Rattle.vk_spec.specs.Pages.{Wrong, Given, overlay, override, baseline, Row, Page, row_in, version_in}
 use Rattle.vk_spec.specs.Conditions.{Condition}
 use Rattle.vk_spec.specs.Settings.{Setting}
-use Rattle.vk_spec.specs.Catalogues.{IsPage, CanAskManifest}
+use Rattle.vk_spec.specs.Catalogues.{IsPage, ArePages, CanAskManifest}
 use Rattle.vk_resolution.specs.Givens.{Pages}
 use Rattle.vk_resolution.specs.Consequences.{is_not_below, is_visited, is_visited_by}
 use Rattle.vk_resolution.specs.Faults.{floor_troubles}
@@ -92,15 +92,15 @@ can_page s pages page a sound e = record { given = given_page s pages page a pag
 
 -- ---- by what is kept
 
-here : (overrides : List Override) (pages : Pages) (ports : List (List ℕ × Known)) (port : List ℕ) (k : Known) → AreKnown overrides pages ports → lookup (bytes_eq port) ports ≡ Some k → IsKnown overrides (pages port) port k
-here overrides pages ports port k known e = subst (λ o. IfSome o (IsKnown overrides (pages port) port)) e (known port)
+here : (overrides : List Override) (pages : Pages) (ports : List (List ℕ × Known)) (port : List ℕ) (k : Known) → AreKnown overrides pages ports → lookup (bytes_eq port) ports ≡ Some k → IsKnown overrides pages port k
+here overrides pages ports port k known e = subst (λ o. IfSome o (IsKnown overrides pages port)) e (known port)
 
 module _ (a : PageAsker) (s : Setting) (port : List ℕ) (ask : Ask) (k : Known) (found : Option Version) (e : lookup (bytes_eq port) a.ports.entries ≡ Some k) where
   pub visited_here : (o : Option Pages) (b : Bool) → b ≡ visited_by (option_map given_view k.given) k.base ask found → IfSome o (λ pages. IsKept a pages)
       → IfSome o (λ pages. found ≡ found_by (option_map given_view k.given) (version_in (pages port) ask)) → IfSome o (λ pages. b ≡ is_visited (inputs_of s pages) port ask)
   visited_here None b is kept told = tt
   visited_here (Some pages) b is kept told =
-      let known : IsKnown (map override_view a.overrides) (pages port) port k = here (map override_view a.overrides) pages a.ports.entries port k kept.known e in
+      let known : IsKnown (map override_view a.overrides) pages port k = here (map override_view a.overrides) pages a.ports.entries port k kept.known e in
       is ∙ ap (visited_by (option_map given_view k.given) k.base ask) told
       ∙ ap (λ g. visited_by g k.base ask (found_by g (version_in (pages port) ask))) known.given
       ∙ ap (λ v. visited_by (given_in (pages port).given) v ask (found_by (given_in (pages port).given) (version_in (pages port) ask))) known.base
@@ -110,7 +110,7 @@ module _ (a : PageAsker) (s : Setting) (port : List ℕ) (ask : Ask) (k : Known)
       → IfSome o (λ pages. found ≡ found_by (option_map given_view k.given) (version_in (pages port) ask)) → IfSome o (λ pages. Tells b (floor_troubles port ask (row_in (pages port).rows ask) (pages port).given ≡ []))
   clear_here None b is kept told = tt
   clear_here (Some pages) b is kept told =
-      let known : IsKnown (map override_view a.overrides) (pages port) port k = here (map override_view a.overrides) pages a.ports.entries port k kept.known e in
+      let known : IsKnown (map override_view a.overrides) pages port k = here (map override_view a.overrides) pages a.ports.entries port k kept.known e in
       let same = is ∙ ap (is_clear (option_map given_view k.given)) told ∙ ap (λ g. is_clear g (found_by g (version_in (pages port) ask))) known.given in
       ((λ clear. clear_page port (pages port) ask (pages port).given (sym same ∙ clear)), (λ none. same ∙ clear_where port (pages port) ask (pages port).given none))
 
@@ -125,17 +125,12 @@ pub base_here : (a : PageAsker) (port : List ℕ) (ask : Ask) (k : Known) (b : B
     → IfSome o (λ pages. k.base ≡ found_by (option_map given_view k.given) (version_in (pages port) ask))
 base_here a port ask k b e is yes_base None kept = tt
 base_here a port ask k b e is yes_base (Some pages) kept =
-    let known : IsKnown (map override_view a.overrides) (pages port) port k = here (map override_view a.overrides) pages a.ports.entries port k kept.known e in
+    let known : IsKnown (map override_view a.overrides) pages port k = here (map override_view a.overrides) pages a.ports.entries port k kept.known e in
     known.base
     ∙ base_page (pages port) ask (pages port).given (sym (is ∙ ap (λ g. is_base g ask) known.given) ∙ yes_base)
     ∙ ap (λ g. found_by g (version_in (pages port) ask)) (sym known.given)
 
-some_here : (overrides : List Override) (pages : Pages) (port : List ℕ) (o : Option Known) → IsSome o → IfSome o (IsKnown overrides (pages port) port) → IsPage (pages port)
-some_here overrides pages port None some known = (cc)
-some_here overrides pages port (Some k) some known = known.sound
-
-pub can_here : (a : PageAsker) (s : Setting) (port : List ℕ) (ask : Ask) (o : Option Pages) → IsSome (lookup (bytes_eq port) a.ports.entries) → IfSome o (λ pages. IsKept a pages)
-    → IfSome o (λ pages. is_visited (inputs_of s pages) port ask ≡ true) → IfSome o (λ pages. CanAskManifest ask (pages port))
-can_here a s port ask None there kept visited = tt
-can_here a s port ask (Some pages) there kept visited =
-    can_page s pages (pages port) ask (some_here (map override_view a.overrides) pages port (lookup (bytes_eq port) a.ports.entries) there (kept.known port)) visited
+-- what is visited can be asked for
+pub can_here : (s : Setting) (port : List ℕ) (ask : Ask) (o : Option Pages) → IfSome o ArePages → IfSome o (λ pages. is_visited (inputs_of s pages) port ask ≡ true) → IfSome o (λ pages. CanAskManifest ask (pages port))
+can_here s port ask None sound visited = tt
+can_here s port ask (Some pages) sound visited = can_page s pages (pages port) ask (sound port) visited

@@ -1,6 +1,6 @@
 -- What is known of a port is what its page says.
-use Rattle.std.proofs.Common.{◌≡◌, ℕ, Bool, true, false, cond, List, ◌∙◌, ap, sym, subst, refl}
-use Rattle.std.specs.Prelude.{Option, Some, None, option_map, Result, Ok, Err, IfOk, IfSome, IsSome, bytes_eq}
+use Rattle.std.proofs.Common.{◌≡◌, ℕ, Bool, true, false, cond, List, [], ◌∷◌, ◌++◌, length, map, ◌∙◌, ap, sym, subst, refl}
+use Rattle.std.specs.Prelude.{Option, Some, None, option_map, Result, Ok, Err, IfOk, IfSome, IsSome, is_some, IsTrue, ◌↔◌, bytes_eq}
 use Rattle.std.specs.Map.{lookup}
 use Rattle.std.proofs.lemmas.Slice.Eq.{bytes_eq-Decides}
 use Rattle.vk_spec.specs.Manifests.{Override}
@@ -8,10 +8,17 @@ use Rattle.vk_spec.specs.Pages.{Given, Wrong, is_pinned_by}
 use Rattle.vk_spec.specs.Conditions.{Condition}
 use Rattle.vk_spec.specs.Catalogues.{CatalogueState, OnPages, ArePages}
 use Rattle.vk_resolution.specs.Givens.{Pages}
+use Rattle.vk_resolution.specs.Faults.{given_troubles}
+use Rattle.vk_resolution.specs.Reasons.{Reason}
 use Rattle.vk_base.specs.declared.stops.Outage.{Outage}
 use Rattle.vk_model.specs.WrongViews.{given_view}
+use Rattle.vk_worklist.specs.Places.{IsPlace}
+use Rattle.vk_model.specs.Views.{override_view}
 use Rattle.vk_close.specs.declared.known.Known.{Known}
+use Rattle.vk_close.specs.declared.page_askers.PageAsker.{PageAsker}
 use Rattle.vk_close.specs.Known.{given_in, base_by, IsKnown, AreKnown}
+use Rattle.vk_close.specs.Kept.{IsKept, Tells}
+use Rattle.vk_close.specs.Steps.{given_on}
 
 pinned_page : (s : CatalogueState Condition) (pinned : Bool) (overrides : List Override) (port : List ℕ) (given : Result Given Wrong) → pinned ≡ is_pinned_by overrides port given
     → OnPages (λ (pages : Pages). given ≡ (pages port).given) s → OnPages (λ (pages : Pages). pinned ≡ is_pinned_by overrides port (pages port).given) s
@@ -39,11 +46,11 @@ pub put_there : (key port : List ℕ) (known : Known) (old new : List (List ℕ 
 put_there key port known old new e put = subst IsSome (sym (put port ∙ ap (λ b. cond b (Some known) (lookup (bytes_eq port) old)) (same key port e))) (cc)
 
 put_one : (overrides : List Override) (pages : Pages) (key : List ℕ) (known : Known) (old new : List (List ℕ × Known)) → IsPut key known old new
-    → AreKnown overrides pages old → IsKnown overrides (pages key) key known → AreKnown overrides pages new
-put_one overrides pages key known old new put before is = λ q. subst (λ o. IfSome o (IsKnown overrides (pages q) q)) (sym (put q)) (by q (bytes_eq key q) refl)
+    → AreKnown overrides pages old → IsKnown overrides pages key known → AreKnown overrides pages new
+put_one overrides pages key known old new put before is = λ q. subst (λ o. IfSome o (IsKnown overrides pages q)) (sym (put q)) (by q (bytes_eq key q) refl)
   where
-    by : (q : List ℕ) (b : Bool) → bytes_eq key q ≡ b → IfSome (cond b (Some known) (lookup (bytes_eq q) old)) (IsKnown overrides (pages q) q)
-    by q true e = subst (λ p. IsKnown overrides (pages p) p known) ((bytes_eq-Decides key q).0 e) is
+    by : (q : List ℕ) (b : Bool) → bytes_eq key q ≡ b → IfSome (cond b (Some known) (lookup (bytes_eq q) old)) (IsKnown overrides pages q)
+    by q true e = subst (λ p. IsKnown overrides pages p known) ((bytes_eq-Decides key q).0 e) is
     by q false e = before q
 
 pub put_known : (o : Option Pages) (overrides : List Override) (key port : List ℕ) (known : Known) (old new : List (List ℕ × Known)) → key ≡ port → IsPut key known old new
@@ -51,4 +58,73 @@ pub put_known : (o : Option Pages) (overrides : List Override) (key port : List 
     → IfSome o (λ pages. known.pinned ≡ is_pinned_by overrides port (pages port).given) → IfSome o ArePages → IfSome o (λ pages. AreKnown overrides pages new)
 put_known None overrides key port known old new e put before given base pinned sound = tt
 put_known (Some pages) overrides key port known old new e put before given base pinned sound =
-    put_one overrides pages key known old new put before (subst (λ p. IsKnown overrides (pages p) p known) (sym e) (record { given = given; base = base; pinned = pinned; sound = sound port }))
+    put_one overrides pages key known old new put before (subst (λ p. IsKnown overrides pages p known) (sym e) (record { given = given; base = base; pinned = pinned; sound = sound }))
+
+-- ---- what every page keeps
+
+-- what is known of any port shows it
+pub pages_sound : (o : Option Pages) (overrides : List Override) (ports : List (List ℕ × Known)) → (ports ≡ [] → ⊥) → IfSome o (λ pages. AreKnown overrides pages ports) → IfSome o ArePages
+pages_sound None overrides ports some known = tt
+pages_sound (Some pages) overrides [] some known = absurd (some refl)
+pages_sound (Some pages) overrides (e ∷ ports) some known = (first_known (bytes_eq e.0 e.0) ((bytes_eq-Decides e.0 e.0).1 refl) (known e.0)).sound
+  where
+    first_known : (b : Bool) → b ≡ true → IfSome (cond b (Some e.1) (lookup (bytes_eq e.0) ports)) (IsKnown overrides pages e.0) → IsKnown overrides pages e.0 e.1
+    first_known true is h = h
+    first_known false is h = (cc)
+
+-- ---- what is known of one port
+
+module _ (overrides : List Override) (ports : List (List ℕ × Known)) (port : List ℕ) (k : Known) (e : lookup (bytes_eq port) ports ≡ Some k) where
+  here : (pages : Pages) → AreKnown overrides pages ports → IsKnown overrides pages port k
+  here pages known = subst (λ o. IfSome o (IsKnown overrides pages port)) e (known port)
+
+  pub pinned_here : (o : Option Pages) → IfSome o (λ pages. AreKnown overrides pages ports) → IfSome o (λ pages. k.pinned ≡ is_pinned_by overrides port (pages port).given)
+  pinned_here None known = tt
+  pinned_here (Some pages) known = (here pages known).pinned
+
+  pub given_here : (o : Option Pages) → IfSome o (λ pages. AreKnown overrides pages ports) → IfSome o (λ pages. option_map given_view k.given ≡ given_in (pages port).given)
+  given_here None known = tt
+  given_here (Some pages) known = (here pages known).given
+
+-- and so it is by what an asker keeps
+pub given_kept : (a : PageAsker) (port : List ℕ) (k : Known) → lookup (bytes_eq port) a.ports.entries ≡ Some k → (o : Option Pages) → IfSome o (IsKept a) → IfSome o (λ pages. option_map given_view k.given ≡ given_in (pages port).given)
+given_kept a port k e None kept = tt
+given_kept a port k e (Some pages) kept = given_here (map override_view a.overrides) a.ports.entries port k e (Some pages) kept.known
+
+-- the floor of a given version is the one that the page gives
+pub given_brought : (o : Option Pages) (line : ℕ) (port : List ℕ) (given : Option Given) (old new : List Reason) → new ≡ old ++ given_on line port given → IfSome o (λ pages. given ≡ given_in (pages port).given) → IfSome o (λ pages. new ≡ old ++ given_on line port (given_in (pages port).given))
+given_brought None line port given old new is told = tt
+given_brought (Some pages) line port given old new is told = is ∙ ap (λ g. old ++ given_on line port g) told
+
+given_tells : (port : List ℕ) (r : Result Given Wrong) → Tells (is_some (given_in r)) (given_troubles port r ≡ [])
+given_tells port (Ok given) = ((λ e. refl), (λ e. refl))
+given_tells port (Err wrong) = ((λ e. (cc)), (λ e. (cc)))
+
+-- nothing is wrong with a port that has a given version
+pub given_clear : (o : Option Pages) (port : List ℕ) (given : Option Given) (clear : Bool) → clear ≡ is_some given → IfSome o (λ pages. given ≡ given_in (pages port).given) → IfSome o (λ pages. Tells clear (given_troubles port (pages port).given ≡ []))
+given_clear None port given clear is told = tt
+given_clear (Some pages) port given clear is told = subst (λ b. Tells b (given_troubles port (pages port).given ≡ [])) (sym (is ∙ ap is_some told)) (given_tells port (pages port).given)
+
+pub mapped_some : {X Y : Type 0} (f : X → Y) (o : Option X) → is_some o ≡ is_some (option_map f o)
+mapped_some f None = refl
+mapped_some f (Some x) = refl
+
+-- ---- where something is known of a port, each page is as every page is
+
+kept_sound : (a : PageAsker) → (a.ports.entries ≡ [] → ⊥) → (o : Option Pages) → IfSome o (IsKept a) → IfSome o ArePages
+kept_sound a some None kept = tt
+kept_sound a some (Some pages) kept = pages_sound (Some pages) (map override_view a.overrides) a.ports.entries some kept.known
+
+pub placed_sound : (a : PageAsker) (port : List ℕ) (place : ℕ) → IsPlace a.ports.entries port place → (o : Option Pages) → IfSome o (IsKept a) → IfSome o ArePages
+placed_sound a port place is = kept_sound a (λ none. no_place a.ports.entries none is)
+  where
+    no_place : (es : List (List ℕ × Known)) → es ≡ [] → IsPlace es port place → ⊥
+    no_place [] none is = let at = is.at in (cc)
+    no_place (e ∷ es) none is = (cc)
+
+pub some_sound : (a : PageAsker) (empty : Bool) → (IsTrue empty ↔ (length a.ports.entries ≡ 0)) → empty ≡ false → (o : Option Pages) → IfSome o (IsKept a) → IfSome o ArePages
+some_sound a empty is full = kept_sound a (λ none. clash empty full (is.1 (ap length none)))
+  where
+    clash : (b : Bool) → b ≡ false → IsTrue b → ⊥
+    clash true e h = (cc)
+    clash false e h = (cc)

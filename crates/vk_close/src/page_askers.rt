@@ -2,7 +2,7 @@
 ghost use Rattle.std.specs.Prelude.{◌≡◌, ◌+◌, ◌≤◌, ◌<◌, ◌++◌, [], true, List, IfOk, OnOk};
 ghost use Rattle.std.specs.Prelude.{flat_map, length, map, option_map};
 ghost use Rattle.vk_spec.specs.Pages.{manifest_in};
-ghost use Rattle.vk_spec.specs.Catalogues.{OnlyAsked, OnPages, CanAskManifest};
+ghost use Rattle.vk_spec.specs.Catalogues.{OnlyAsked, OnPages, ArePages, CanAskManifest};
 ghost use Rattle.vk_base.specs.Stops.{was_out};
 ghost use Rattle.vk_base.specs.FeatureViews.{feature_view};
 ghost use Rattle.vk_version.specs.AskViews.{ask_view};
@@ -141,6 +141,22 @@ impl<'a> PageAsker<'a> {
         see_to_port(&self.overrides, &mut self.ports, cat, port)
     }
 
+    // Sees to it that a port is known where none is: what is known of any shows what every page
+    // keeps. A visit comes up after a need and a floor of its port, so it finds ports known.
+    fn see_any<C: Catalogue>(&mut self, cat: &mut C, port: &PortName) -> Result<(), Outage>
+        requires kept { OnPages (λ pages. IsKept self.old pages) (C.state cat.old) }
+        ensures setting { self.new.setting ≡ self.old.setting }
+        ensures clean { self.new.clean ≡ self.old.clean }
+        ensures asked { OnlyAsked (was_out result) (C.state cat.old) (C.state cat.new) }
+        ensures kept { OnOk result (OnPages (λ pages. IsKept self.new pages) (C.state cat.old)) }
+        ensures sound { OnOk result (OnPages ArePages (C.state cat.old)) }
+    {
+        if self.ports.is_empty() {
+            self.see_to(cat, port)?;
+        }
+        Ok(())
+    }
+
     // Adds the floor of a needed port's given version, and tells whether it has one.
     fn ask_need<C: Catalogue>(
         &mut self,
@@ -258,7 +274,7 @@ impl<'a> PageAsker<'a> {
             inst.now.port (manifest_in (pages inst.now.port) (ask_view ask.now)) ≡ []))
             (C.state cat.old)) }
     {
-        self.see_to(cat, &inst.port)?;
+        self.see_any(cat, &inst.port)?;
         match cat.manifest(&inst.port, ask)? {
             Ok(manifest) => {
                 self.ask_found(cat, inst, feature, &manifest, line, brought, steps)?;

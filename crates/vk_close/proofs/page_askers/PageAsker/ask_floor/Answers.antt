@@ -1,13 +1,20 @@
 use Rattle.std.proofs.Common.{◌≡◌}
 use Rattle.std.specs.Prelude.{option_map}
 use Rattle.vk_spec.specs.Pages.{version_in}
-use Rattle.vk_spec.proofs.AskLemmas.{pages_before}
+use Rattle.vk_spec.proofs.AskLemmas.{pages_before, pages_after}
 use Rattle.vk_version.specs.AskViews.{ask_view}
 use Rattle.vk_model.specs.SettingViews.{setting_view}
 use Rattle.vk_model.specs.WrongViews.{given_view}
 use Rattle.vk_close.specs.Floors.{found_by}
+use Rattle.vk_close.specs.Known.{given_in}
+use Rattle.vk_close.proofs.KnownLemmas.{given_kept}
 use Rattle.vk_close.proofs.FloorLemmas.{visited_here, clear_here, base_here}
 use Rattle.vk_close.proofs.page_askers.PageAsker.ask_floor.Goals as goal
+
+pub find-requires : goal.find-requires
+find-requires g c =
+    pages_after (λ pages. option_map given_view c.known_at-known.result.now.given ≡ given_in (pages c.args.port.now).given) c.in_ok-place.ensures.asked
+    (given_kept c.see_to.new.self c.args.port.now c.known_at-known.result.now (c.known_at-known.ensures c.args.port.now c.in_ok-place.ensures.there) (g.C.Catalogue.state c.args.cat.now).pages c.in_ok-place.ensures.kept)
 
 pub returns-clause-joined : goal.returns-clause-joined
 returns-clause-joined g c =
