@@ -1,5 +1,6 @@
 //! The certificate that reasons are.
 ghost use Rattle.std.specs.Prelude.{◌≡◌, ◌+◌, ◌<◌, ◌≤◌, ◌^◌, [], IfOk, MatchBool, length};
+ghost use Rattle.std.specs.Map.{keys_of};
 ghost use Rattle.vk_spec.specs.Lists.{NoRepeats};
 ghost use Rattle.vk_spec.specs.Catalogues.{OnlyAsked, OnPages};
 ghost use Rattle.vk_base.specs.Stops.{was_out};
@@ -9,7 +10,7 @@ ghost use Rattle.vk_resolution.specs.Reasons.{facts_of};
 ghost use Rattle.vk_model.specs.FactViews.{reasons_view};
 ghost use Rattle.vk_model.specs.SettingViews.{setting_view};
 ghost use Rattle.vk_worklist.specs.Entries.{AreRoots, facts_in, reasons_in};
-ghost use Rattle.vk_worklist.specs.Rows.{HasLines};
+ghost use Rattle.vk_worklist.specs.Rows.{AreRows};
 ghost use Rattle.vk_worklist.specs.Ticks.{ticks};
 ghost use Rattle.vk_close.specs.Kept.{Tracks};
 ghost use Rattle.vk_check.specs.Certificates.{IsCertificate};
@@ -41,8 +42,8 @@ fn certify_by<C: Catalogue, L: Ledger>(
     requires setting { source.old.asker.setting.now ≡ setting.now }
     requires tracks { (pages : Pages) → Tracks source.old.asker pages [] }
     requires rows { (pages : Pages) →
-        HasLines (inputs_of (setting_view source.old.asker.setting.now) pages)
-        source.old.ports.entries [] }
+        AreRows (inputs_of (setting_view source.old.asker.setting.now) pages)
+        (keys_of source.old.asker.ports.entries) source.old.rows.items [] }
     requires roots { AreRoots (setting_view setting.now) (reasons_in given.old.items) }
     ensures ticks { steps.new ≤ steps.old + ticks (facts_in lines.now.entries) }
     ensures asked { OnlyAsked (was_out result) (C.state cat.old) (C.state cat.new) }

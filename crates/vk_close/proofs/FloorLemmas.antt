@@ -4,7 +4,6 @@ use Rattle.std.specs.Prelude.{Option, Some, None, option_map, Result, Ok, Err, I
 use Rattle.std.specs.Map.{lookup}
 use Rattle.vk_spec.specs.Versions.{Version, Ask, ask_of, same_ask}
 use Rattle.vk_spec.proofs.VersionLemmas.{asks_equal}
-use Rattle.vk_spec.specs.Manifests.{Override}
 use Rattle.vk_spec.specs.Pages.{Wrong, Given, overlay, override, baseline, Row, Page, row_in, version_in}
 use Rattle.vk_spec.specs.Conditions.{Condition}
 use Rattle.vk_spec.specs.Settings.{Setting}
@@ -18,8 +17,9 @@ use Rattle.vk_model.specs.WrongViews.{given_view}
 use Rattle.vk_model.specs.Views.{override_view}
 use Rattle.vk_close.specs.declared.known.Known.{Known}
 use Rattle.vk_close.specs.declared.page_askers.PageAsker.{PageAsker}
-use Rattle.vk_close.specs.Known.{given_in, base_by, IsKnown, AreKnown}
+use Rattle.vk_close.specs.Known.{given_in, base_by, IsKnown}
 use Rattle.vk_close.specs.Kept.{IsKept, Tells}
+use Rattle.vk_close.proofs.KnownLemmas.{here}
 use Rattle.vk_close.specs.Floors.{not_below, found_by, visited_by, is_clear, is_base}
 
 listed : (o : Option (Row Condition)) → is_some (option_map (λ r. r.version) o) ≡ is_some o
@@ -92,15 +92,12 @@ can_page s pages page a sound e = record { given = given_page s pages page a pag
 
 -- ---- by what is kept
 
-here : (overrides : List Override) (pages : Pages) (ports : List (List ℕ × Known)) (port : List ℕ) (k : Known) → AreKnown overrides pages ports → lookup (bytes_eq port) ports ≡ Some k → IsKnown overrides pages port k
-here overrides pages ports port k known e = subst (λ o. IfSome o (IsKnown overrides pages port)) e (known port)
-
 module _ (a : PageAsker) (s : Setting) (port : List ℕ) (ask : Ask) (k : Known) (found : Option Version) (e : lookup (bytes_eq port) a.ports.entries ≡ Some k) where
   pub visited_here : (o : Option Pages) (b : Bool) → b ≡ visited_by (option_map given_view k.given) k.base ask found → IfSome o (λ pages. IsKept a pages)
       → IfSome o (λ pages. found ≡ found_by (option_map given_view k.given) (version_in (pages port) ask)) → IfSome o (λ pages. b ≡ is_visited (inputs_of s pages) port ask)
   visited_here None b is kept told = tt
   visited_here (Some pages) b is kept told =
-      let known : IsKnown (map override_view a.overrides) pages port k = here (map override_view a.overrides) pages a.ports.entries port k kept.known e in
+      let known : IsKnown (map override_view a.overrides) pages port k = here (map override_view a.overrides) a.ports.entries port k e pages kept.known in
       is ∙ ap (visited_by (option_map given_view k.given) k.base ask) told
       ∙ ap (λ g. visited_by g k.base ask (found_by g (version_in (pages port) ask))) known.given
       ∙ ap (λ v. visited_by (given_in (pages port).given) v ask (found_by (given_in (pages port).given) (version_in (pages port) ask))) known.base
@@ -110,7 +107,7 @@ module _ (a : PageAsker) (s : Setting) (port : List ℕ) (ask : Ask) (k : Known)
       → IfSome o (λ pages. found ≡ found_by (option_map given_view k.given) (version_in (pages port) ask)) → IfSome o (λ pages. Tells b (floor_troubles port ask (row_in (pages port).rows ask) (pages port).given ≡ []))
   clear_here None b is kept told = tt
   clear_here (Some pages) b is kept told =
-      let known : IsKnown (map override_view a.overrides) pages port k = here (map override_view a.overrides) pages a.ports.entries port k kept.known e in
+      let known : IsKnown (map override_view a.overrides) pages port k = here (map override_view a.overrides) a.ports.entries port k e pages kept.known in
       let same = is ∙ ap (is_clear (option_map given_view k.given)) told ∙ ap (λ g. is_clear g (found_by g (version_in (pages port) ask))) known.given in
       ((λ clear. clear_page port (pages port) ask (pages port).given (sym same ∙ clear)), (λ none. same ∙ clear_where port (pages port) ask (pages port).given none))
 
@@ -125,7 +122,7 @@ pub base_here : (a : PageAsker) (port : List ℕ) (ask : Ask) (k : Known) (b : B
     → IfSome o (λ pages. k.base ≡ found_by (option_map given_view k.given) (version_in (pages port) ask))
 base_here a port ask k b e is yes_base None kept = tt
 base_here a port ask k b e is yes_base (Some pages) kept =
-    let known : IsKnown (map override_view a.overrides) pages port k = here (map override_view a.overrides) pages a.ports.entries port k kept.known e in
+    let known : IsKnown (map override_view a.overrides) pages port k = here (map override_view a.overrides) a.ports.entries port k e pages kept.known in
     known.base
     ∙ base_page (pages port) ask (pages port).given (sym (is ∙ ap (λ g. is_base g ask) known.given) ∙ yes_base)
     ∙ ap (λ g. found_by g (version_in (pages port) ask)) (sym known.given)

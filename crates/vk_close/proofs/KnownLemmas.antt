@@ -1,8 +1,9 @@
 -- What is known of a port is what its page says.
-use Rattle.std.proofs.Common.{◌≡◌, ℕ, Bool, true, false, cond, List, [], ◌∷◌, ◌++◌, length, map, ◌∙◌, ap, sym, subst, refl}
-use Rattle.std.specs.Prelude.{Option, Some, None, option_map, Result, Ok, Err, IfOk, IfSome, IsSome, is_some, IsTrue, ◌↔◌, bytes_eq}
-use Rattle.std.specs.Map.{lookup}
+use Rattle.std.proofs.Common.{◌≡◌, ℕ, zero, suc, Bool, true, false, cond, List, [], ◌∷◌, ◌++◌, length, map, ◌∙◌, ap, sym, subst, refl}
+use Rattle.std.specs.Prelude.{Option, Some, None, option_map, Result, Ok, Err, IfOk, IfSome, IsSome, is_some, IsTrue, ◌↔◌, bytes_eq, slice_get}
+use Rattle.std.specs.Map.{keys_of, lookup}
 use Rattle.std.proofs.lemmas.Slice.Eq.{bytes_eq-Decides}
+use Rattle.indexmap.specs.IndexMap.{insert_entry}
 use Rattle.vk_spec.specs.Manifests.{Override}
 use Rattle.vk_spec.specs.Pages.{Given, Wrong, is_pinned_by}
 use Rattle.vk_spec.specs.Conditions.{Condition}
@@ -12,7 +13,7 @@ use Rattle.vk_resolution.specs.Faults.{given_troubles}
 use Rattle.vk_resolution.specs.Reasons.{Reason}
 use Rattle.vk_base.specs.declared.stops.Outage.{Outage}
 use Rattle.vk_model.specs.WrongViews.{given_view}
-use Rattle.vk_worklist.specs.Places.{IsPlace}
+use Rattle.vk_worklist.specs.Places.{IsPlace, KeepsSeats}
 use Rattle.vk_model.specs.Views.{override_view}
 use Rattle.vk_close.specs.declared.known.Known.{Known}
 use Rattle.vk_close.specs.declared.page_askers.PageAsker.{PageAsker}
@@ -60,6 +61,28 @@ put_known None overrides key port known old new e put before given base pinned s
 put_known (Some pages) overrides key port known old new e put before given base pinned sound =
     put_one overrides pages key known old new put before (subst (λ p. IsKnown overrides pages p known) (sym e) (record { given = given; base = base; pinned = pinned; sound = sound }))
 
+-- ---- places
+
+found_seat : (es : List (List ℕ × Known)) (k : List ℕ) (v : Known) (b : Bool) (e : List ℕ × Known) → KeepsSeats (keys_of es) (keys_of (insert_entry bytes_eq es k v)) → KeepsSeats (keys_of (e ∷ es)) (keys_of (cond b ((e.0, v) ∷ es) (e ∷ insert_entry bytes_eq es k v)))
+found_seat es k v true e keeps place port at = keep_head place at
+  where
+    keep_head : (place : ℕ) → slice_get (keys_of (e ∷ es)) place ≡ Some port → slice_get (keys_of ((e.0, v) ∷ es)) place ≡ Some port
+    keep_head zero at = at
+    keep_head (suc n) at = at
+found_seat es k v false e keeps place port at = keep_tail place at
+  where
+    keep_tail : (place : ℕ) → slice_get (keys_of (e ∷ es)) place ≡ Some port → slice_get (keys_of (e ∷ insert_entry bytes_eq es k v)) place ≡ Some port
+    keep_tail zero at = at
+    keep_tail (suc n) at = keeps n port at
+
+-- a map keeps the places of its keys when one is put
+put_seats : (es : List (List ℕ × Known)) (k : List ℕ) (v : Known) → KeepsSeats (keys_of es) (keys_of (insert_entry bytes_eq es k v))
+put_seats [] k v place port at = (cc)
+put_seats (e ∷ es) k v place port at = found_seat es k v (bytes_eq k e.0) e (put_seats es k v) place port at
+
+pub put_keeps : (es new : List (List ℕ × Known)) (k : List ℕ) (v : Known) → new ≡ insert_entry bytes_eq es k v → KeepsSeats (keys_of es) (keys_of new)
+put_keeps es new k v is = subst (λ l. KeepsSeats (keys_of es) (keys_of l)) (sym is) (put_seats es k v)
+
 -- ---- what every page keeps
 
 -- what is known of any port shows it
@@ -75,7 +98,7 @@ pages_sound (Some pages) overrides (e ∷ ports) some known = (first_known (byte
 -- ---- what is known of one port
 
 module _ (overrides : List Override) (ports : List (List ℕ × Known)) (port : List ℕ) (k : Known) (e : lookup (bytes_eq port) ports ≡ Some k) where
-  here : (pages : Pages) → AreKnown overrides pages ports → IsKnown overrides pages port k
+  pub here : (pages : Pages) → AreKnown overrides pages ports → IsKnown overrides pages port k
   here pages known = subst (λ o. IfSome o (IsKnown overrides pages port)) e (known port)
 
   pub pinned_here : (o : Option Pages) → IfSome o (λ pages. AreKnown overrides pages ports) → IfSome o (λ pages. k.pinned ≡ is_pinned_by overrides port (pages port).given)

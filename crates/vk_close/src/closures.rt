@@ -1,5 +1,6 @@
 //! The closure of a setting.
 ghost use Rattle.std.specs.Prelude.{◌≡◌, ◌+◌, ◌^◌, ◌<◌, ◌≤◌, [], true, IfOk, length};
+ghost use Rattle.std.specs.Map.{keys_of};
 ghost use Rattle.vk_spec.specs.Catalogues.{OnlyAsked, OnPages};
 ghost use Rattle.vk_spec.specs.Settings as plain;
 ghost use Rattle.vk_base.specs.Stops.{has_failed, was_out};
@@ -15,7 +16,7 @@ ghost use Rattle.vk_model.specs.FaultViews.{closure_view, faults_view};
 ghost use Rattle.vk_model.specs.SettingViews.{setting_view};
 ghost use Rattle.vk_worklist.specs.Entries.{AreRoots, facts_in, reasons_in};
 ghost use Rattle.vk_worklist.specs.Faults.{OnFault};
-ghost use Rattle.vk_worklist.specs.Rows.{HasLines};
+ghost use Rattle.vk_worklist.specs.Rows.{AreRows};
 ghost use Rattle.vk_worklist.specs.Ticks.{ticks};
 ghost use Rattle.vk_close.specs.Kept.{HasNoTrouble, Tracks};
 
@@ -85,7 +86,8 @@ pub fn source_of<'a>(alloc: Global, setting: &'a Setting) -> Result<Joins<PageAs
     ensures setting { IfOk result (λ s. s.asker.setting.now ≡ setting.now) }
     ensures tracks { IfOk result (λ s. (pages : Pages) → Tracks s.asker pages []) }
     ensures rows { IfOk result (λ s. (pages : Pages) →
-        HasLines (inputs_of (setting_view s.asker.setting.now) pages) s.ports.entries []) }
+        AreRows (inputs_of (setting_view s.asker.setting.now) pages)
+        (keys_of s.asker.ports.entries) s.rows.items []) }
 {
     Ok(Joins::new(alloc, PageAsker::new(alloc, setting)?))
 }
@@ -104,8 +106,8 @@ fn close_by<C: Catalogue, L: Ledger>(
     requires setting { source.old.asker.setting.now ≡ setting.now }
     requires tracks { (pages : Pages) → Tracks source.old.asker pages [] }
     requires rows { (pages : Pages) →
-        HasLines (inputs_of (setting_view source.old.asker.setting.now) pages)
-        source.old.ports.entries [] }
+        AreRows (inputs_of (setting_view source.old.asker.setting.now) pages)
+        (keys_of source.old.asker.ports.entries) source.old.rows.items [] }
     requires roots { AreRoots (setting_view setting.now) (reasons_in given.items) }
     ensures reasons { IfOk result (λ c. OnPages
         (λ pages. IsReasons (inputs_of (setting_view setting.now) pages)

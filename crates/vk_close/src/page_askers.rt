@@ -1,6 +1,7 @@
 //! What facts bring up alone, asked of a catalogue.
 ghost use Rattle.std.specs.Prelude.{◌≡◌, ◌+◌, ◌≤◌, ◌<◌, ◌++◌, [], true, List, IfOk, OnOk};
-ghost use Rattle.std.specs.Prelude.{flat_map, length, map, option_map};
+ghost use Rattle.std.specs.Prelude.{IfSome, flat_map, is_some, length, map, option_map};
+ghost use Rattle.std.specs.Map.{keys_of};
 ghost use Rattle.vk_spec.specs.Pages.{manifest_in};
 ghost use Rattle.vk_spec.specs.Catalogues.{OnlyAsked, OnPages, ArePages, CanAskManifest};
 ghost use Rattle.vk_base.specs.Stops.{was_out};
@@ -24,7 +25,7 @@ ghost use Rattle.vk_close.specs.Known.{given_in};
 ghost use Rattle.vk_close.specs.Steps.{asked_on, given_on};
 ghost use Rattle.vk_worklist.specs.Alone.{Follows, alone_at, joins};
 ghost use Rattle.vk_worklist.specs.Entries.{reasons_in};
-ghost use Rattle.vk_worklist.specs.Places.{IsPlace};
+ghost use Rattle.vk_worklist.specs.Places.{IsPlace, IsSeat, IsSeatOf, KeepsSeats};
 ghost use Rattle.vk_worklist.specs.Ticks.{tick_of};
 
 use crate::floors::{find, is_base, is_clear, is_visited};
@@ -54,21 +55,34 @@ pub struct PageAsker<'a> {
     clean: bool,
 }
 
-// Whether a fact is joined with others of its port, and whether nothing is wrong with it.
+// The place of a fact's port, where the fact is joined with others of it, and whether nothing is
+// wrong with the fact.
 #[derive(Drop)]
 struct Seen {
-    joined: bool,
+    seat: Option<usize>,
     clear: bool,
 }
 
-// What is seen of a floor, by what the table has for it.
-fn seen_floor(known: &Known, ask: &Ask, found: &Option<Version>) -> Seen
-    ensures joined { result.joined ≡ visited_by (option_map given_view known.now.given)
+// The place of a port, where a floor of it is visited.
+fn seat_where(visited: bool, place: usize) -> Option<usize>
+    ensures seat { IfSome result (λ seat. seat ≡ place) }
+    ensures visited { is_some result ≡ visited }
+{
+    if visited {
+        return Some(place);
+    }
+    None
+}
+
+// What is seen of a floor of the port at a place, by what the table has for it.
+fn seen_floor(known: &Known, place: usize, ask: &Ask, found: &Option<Version>) -> Seen
+    ensures seat { IfSome result.seat (λ seat. seat ≡ place) }
+    ensures joined { is_some result.seat ≡ visited_by (option_map given_view known.now.given)
         known.now.base (ask_view ask.now) found.now }
     ensures clear { result.clear ≡ is_clear (option_map given_view known.now.given) found.now }
 {
     Seen {
-        joined: is_visited(known, ask, found),
+        seat: seat_where(is_visited(known, ask, found), place),
         clear: is_clear(&known.given, found),
     }
 }
@@ -115,6 +129,8 @@ impl<'a> PageAsker<'a> {
         ensures ticks { steps.new ≤ steps.old + 1 }
         ensures asked { OnlyAsked (was_out result) (C.state cat.old) (C.state cat.new) }
         ensures kept { OnOk result (OnPages (λ pages. IsKept self.new pages) (C.state cat.old)) }
+        ensures seats { OnOk result
+            (KeepsSeats (keys_of self.old.ports.entries) (keys_of self.new.ports.entries)) }
         ensures brought { OnOk result (OnPages (λ pages.
             reasons_in brought.new.items ≡ reasons_in brought.old.items ++ flat_map
             (asked_on (setting_view self.old.setting.now).root.overrides pages line)
@@ -135,8 +151,11 @@ impl<'a> PageAsker<'a> {
         ensures clean { self.new.clean ≡ self.old.clean }
         ensures asked { OnlyAsked (was_out result) (C.state cat.old) (C.state cat.new) }
         ensures kept { OnOk result (OnPages (λ pages. IsKept self.new pages) (C.state cat.old)) }
+        ensures seats { OnOk result
+            (KeepsSeats (keys_of self.old.ports.entries) (keys_of self.new.ports.entries)) }
         ensures there { IfOk result (IsPlace self.new.ports.entries port.now) }
         ensures within { IfOk result (λ place. place < length self.new.ports.entries) }
+        ensures seat { IfOk result (IsSeat (keys_of self.new.ports.entries) port.now) }
     {
         see_to_port(&self.overrides, &mut self.ports, cat, port)
     }
@@ -149,6 +168,8 @@ impl<'a> PageAsker<'a> {
         ensures clean { self.new.clean ≡ self.old.clean }
         ensures asked { OnlyAsked (was_out result) (C.state cat.old) (C.state cat.new) }
         ensures kept { OnOk result (OnPages (λ pages. IsKept self.new pages) (C.state cat.old)) }
+        ensures seats { OnOk result
+            (KeepsSeats (keys_of self.old.ports.entries) (keys_of self.new.ports.entries)) }
         ensures sound { OnOk result (OnPages ArePages (C.state cat.old)) }
     {
         if self.ports.is_empty() {
@@ -157,34 +178,44 @@ impl<'a> PageAsker<'a> {
         Ok(())
     }
 
-    // Adds the floor of a needed port's given version, and tells whether it has one.
+    // Adds the floor of a needed port's given version, and tells its place and
+    // whether it has one.
     fn ask_need<C: Catalogue>(
         &mut self,
         cat: &mut C,
         port: &PortName,
         line: u32,
         brought: &mut Vec<(Fact, Cause)>,
-    ) -> Result<bool, Outage>
+    ) -> Result<Seen, Outage>
         requires kept { OnPages (λ pages. IsKept self.old pages) (C.state cat.old) }
         ensures setting { self.new.setting ≡ self.old.setting }
         ensures clean { self.new.clean ≡ self.old.clean }
         ensures asked { OnlyAsked (was_out result) (C.state cat.old) (C.state cat.new) }
         ensures kept { OnOk result (OnPages (λ pages. IsKept self.new pages) (C.state cat.old)) }
+        ensures seats { OnOk result
+            (KeepsSeats (keys_of self.old.ports.entries) (keys_of self.new.ports.entries)) }
         ensures brought { OnOk result (OnPages (λ pages.
             reasons_in brought.new.items ≡ reasons_in brought.old.items
             ++ given_on line port.now (given_in (pages port.now).given))
             (C.state cat.old)) }
-        ensures clear { IfOk result (λ clear. OnPages (λ pages.
-            Tells clear (given_troubles port.now (pages port.now).given ≡ []))
+        ensures seat { IfOk result (λ seen.
+            IfSome seen.seat (IsSeat (keys_of self.new.ports.entries) port.now)) }
+        ensures joined { IfOk result (λ seen. is_some seen.seat ≡ true) }
+        ensures clear { IfOk result (λ seen. OnPages (λ pages.
+            Tells seen.clear (given_troubles port.now (pages port.now).given ≡ []))
             (C.state cat.old)) }
     {
         let place = self.see_to(cat, port)?;
         let known = known_at(&self.ports, place);
         push_given(port, &known.given, line, brought)?;
-        Ok(known.given.is_some())
+        Ok(Seen {
+            seat: Some(place),
+            clear: known.given.is_some(),
+        })
     }
 
-    // Whether the version of a floor is visited, and whether the floor lies in the table.
+    // The place of a floor's port, where the version of the floor is visited, and whether the floor
+    // lies in the table.
     fn ask_floor<C: Catalogue>(
         &mut self,
         cat: &mut C,
@@ -196,7 +227,11 @@ impl<'a> PageAsker<'a> {
         ensures clean { self.new.clean ≡ self.old.clean }
         ensures asked { OnlyAsked (was_out result) (C.state cat.old) (C.state cat.new) }
         ensures kept { OnOk result (OnPages (λ pages. IsKept self.new pages) (C.state cat.old)) }
-        ensures joined { IfOk result (λ seen. OnPages (λ pages. seen.joined ≡ is_visited
+        ensures seats { OnOk result
+            (KeepsSeats (keys_of self.old.ports.entries) (keys_of self.new.ports.entries)) }
+        ensures seat { IfOk result (λ seen.
+            IfSome seen.seat (IsSeat (keys_of self.new.ports.entries) port.now)) }
+        ensures joined { IfOk result (λ seen. OnPages (λ pages. is_some seen.seat ≡ is_visited
             (inputs_of (setting_view self.old.setting.now) pages) port.now (ask_view ask.now))
             (C.state cat.old)) }
         ensures clear { IfOk result (λ seen. OnPages (λ pages.
@@ -207,10 +242,10 @@ impl<'a> PageAsker<'a> {
         let place = self.see_to(cat, port)?;
         let known = known_at(&self.ports, place);
         if is_base(&known.given, ask) {
-            return Ok(seen_floor(known, ask, &known.base));
+            return Ok(seen_floor(known, place, ask, &known.base));
         }
         let found = find(cat, port, &known.given, ask)?;
-        Ok(seen_floor(known, ask, &found))
+        Ok(seen_floor(known, place, ask, &found))
     }
 
     // Adds what a feature of an instance asks for, by a manifest that was found.
@@ -230,6 +265,8 @@ impl<'a> PageAsker<'a> {
         ensures ticks { steps.new ≤ steps.old + 1 }
         ensures asked { OnlyAsked (was_out result) (C.state cat.old) (C.state cat.new) }
         ensures kept { OnOk result (OnPages (λ pages. IsKept self.new pages) (C.state cat.old)) }
+        ensures seats { OnOk result
+            (KeepsSeats (keys_of self.old.ports.entries) (keys_of self.new.ports.entries)) }
         ensures brought { OnOk result (OnPages (λ pages.
             reasons_in brought.new.items ≡ reasons_in brought.old.items ++ flat_map
             (asked_on (setting_view self.old.setting.now).root.overrides pages line)
@@ -264,6 +301,8 @@ impl<'a> PageAsker<'a> {
         ensures ticks { steps.new ≤ steps.old + 1 }
         ensures asked { OnlyAsked (was_out result) (C.state cat.old) (C.state cat.new) }
         ensures kept { OnOk result (OnPages (λ pages. IsKept self.new pages) (C.state cat.old)) }
+        ensures seats { OnOk result
+            (KeepsSeats (keys_of self.old.ports.entries) (keys_of self.new.ports.entries)) }
         ensures brought { OnOk result (OnPages (λ pages.
             reasons_in brought.new.items ≡ reasons_in brought.old.items ++ flat_map
             (asked_on (setting_view self.old.setting.now).root.overrides pages line)
@@ -284,7 +323,8 @@ impl<'a> PageAsker<'a> {
         }
     }
 
-    // Adds what a need brings up, and tells whether nothing is wrong with it.
+    // Adds what a need brings up, and tells the place of its port, if it is an instance's, and
+    // whether nothing is wrong with it.
     fn see_need<C: Catalogue, L: Ledger>(
         &mut self,
         cat: &mut C,
@@ -293,7 +333,7 @@ impl<'a> PageAsker<'a> {
         line: u32,
         brought: &mut Vec<(Fact, Cause)>,
         steps: &mut Steps<L>,
-    ) -> Result<bool, Outage>
+    ) -> Result<Seen, Outage>
         requires kept { OnPages (λ pages. IsKept self.old pages) (C.state cat.old) }
         ensures setting { self.new.setting ≡ self.old.setting }
         ensures clean { self.new.clean ≡ self.old.clean }
@@ -301,12 +341,20 @@ impl<'a> PageAsker<'a> {
             ≤ steps.old + tick_of (need (who_view who.now) (feature_view feature.now)) }
         ensures asked { OnlyAsked (was_out result) (C.state cat.old) (C.state cat.new) }
         ensures kept { OnOk result (OnPages (λ pages. IsKept self.new pages) (C.state cat.old)) }
+        ensures seats { OnOk result
+            (KeepsSeats (keys_of self.old.ports.entries) (keys_of self.new.ports.entries)) }
         ensures brought { OnOk result (OnPages (λ pages.
             reasons_in brought.new.items ≡ reasons_in brought.old.items
             ++ alone_at (inputs_of (setting_view self.old.setting.now) pages)
             (need (who_view who.now) (feature_view feature.now)) line)
             (C.state cat.old)) }
-        ensures clear { IfOk result (λ clear. OnPages (λ pages. Tells clear
+        ensures seat { IfOk result (λ seen. IfSome seen.seat (IsSeatOf
+            (keys_of self.new.ports.entries)
+            (need (who_view who.now) (feature_view feature.now)))) }
+        ensures joined { IfOk result (λ seen. OnPages (λ pages. is_some seen.seat ≡ joins
+            (inputs_of (setting_view self.old.setting.now) pages)
+            (need (who_view who.now) (feature_view feature.now))) (C.state cat.old)) }
+        ensures clear { IfOk result (λ seen. OnPages (λ pages. Tells seen.clear
             (troubles_of (inputs_of (setting_view self.old.setting.now) pages)
             (need (who_view who.now) (feature_view feature.now)) ≡ [])) (C.state cat.old)) }
     {
@@ -314,7 +362,10 @@ impl<'a> PageAsker<'a> {
             Who::Root(_) => {
                 let setting = self.setting;
                 self.ask_rules(cat, who, feature, &setting.root, line, brought, steps)?;
-                Ok(true)
+                Ok(Seen {
+                    seat: None,
+                    clear: true,
+                })
             }
             Who::Inst(inst) => self.ask_need(cat, &inst.port, line, brought),
         }
@@ -338,12 +389,16 @@ impl<'a> PageAsker<'a> {
         ensures ticks { steps.new ≤ steps.old + tick_of (fact_view fact.now) }
         ensures asked { OnlyAsked (was_out result) (C.state cat.old) (C.state cat.new) }
         ensures kept { OnOk result (OnPages (λ pages. IsKept self.new pages) (C.state cat.old)) }
+        ensures seats { OnOk result
+            (KeepsSeats (keys_of self.old.ports.entries) (keys_of self.new.ports.entries)) }
         ensures brought { OnOk result (OnPages (λ pages.
             reasons_in brought.new.items ≡ reasons_in brought.old.items
             ++ alone_at (inputs_of (setting_view self.old.setting.now) pages)
             (fact_view fact.now) line)
             (C.state cat.old)) }
-        ensures joined { IfOk result (λ seen. OnPages (λ pages. seen.joined ≡ joins
+        ensures seat { IfOk result (λ seen. IfSome seen.seat
+            (IsSeatOf (keys_of self.new.ports.entries) (fact_view fact.now))) }
+        ensures joined { IfOk result (λ seen. OnPages (λ pages. is_some seen.seat ≡ joins
             (inputs_of (setting_view self.old.setting.now) pages) (fact_view fact.now))
             (C.state cat.old)) }
         ensures clear { IfOk result (λ seen. OnPages (λ pages. Tells seen.clear
@@ -351,32 +406,26 @@ impl<'a> PageAsker<'a> {
             (fact_view fact.now) ≡ [])) (C.state cat.old)) }
     {
         match fact {
-            Fact::Need { who, feature } => {
-                let clear = self.see_need(cat, who, feature, line, brought, steps)?;
-                Ok(Seen {
-                    joined: true,
-                    clear,
-                })
-            }
+            Fact::Need { who, feature } => self.see_need(cat, who, feature, line, brought, steps),
             Fact::Floor { port, ask } => self.ask_floor(cat, port, ask),
             Fact::Visit { inst, feature, ask } => {
                 let clear = self.ask_visit(cat, inst, feature, ask, line, brought, steps)?;
-                Ok(Seen {
-                    joined: true,
-                    clear,
-                })
+                Ok(Seen { seat: None, clear })
             }
         }
     }
 }
 
 impl<'a> Asker for PageAsker<'a> {
+    ghost use Rattle.std.specs.Map.{keys_of};
     ghost use Rattle.vk_model.specs.SettingViews.{setting_view};
     ghost use Rattle.vk_close.specs.Kept.{Tracks};
 
     ghost setting = { λ a. setting_view a.setting.now };
 
     ghost tracks = { Tracks };
+
+    ghost seats = { λ a. keys_of a.ports.entries };
 
     fn ask<C: Catalogue, L: Ledger>(
         &mut self,
@@ -386,9 +435,9 @@ impl<'a> Asker for PageAsker<'a> {
         fact: &Fact,
         brought: &mut Vec<(Fact, Cause)>,
         steps: &mut Steps<L>,
-    ) -> Result<bool, Outage> {
+    ) -> Result<Option<usize>, Outage> {
         let seen = self.see(cat, fact, n as u32 + 1, brought, steps)?;
         self.clean = self.clean & seen.clear;
-        Ok(seen.joined)
+        Ok(seen.seat)
     }
 }

@@ -1,11 +1,11 @@
 //! What is known of the ports that were asked about: each is asked about once.
 ghost use Rattle.std.specs.Prelude.{◌≡◌, ◌<◌, ℕ, List, IsSome, Some, OnOk, IfOk, bytes_eq, map};
 ghost use Rattle.std.specs.Prelude.{length, if◌then◌else◌};
-ghost use Rattle.std.specs.Map.{lookup};
+ghost use Rattle.std.specs.Map.{keys_of, lookup};
 ghost use Rattle.vk_spec.specs.Catalogues.{OnlyAsked, OnPages};
 ghost use Rattle.vk_base.specs.Stops.{was_out};
 ghost use Rattle.vk_model.specs.Views.{override_view};
-ghost use Rattle.vk_worklist.specs.Places.{IsPlace};
+ghost use Rattle.vk_worklist.specs.Places.{IsPlace, IsSeat, KeepsSeats};
 ghost use Rattle.vk_close.specs.Known.{AreKnown};
 
 use crate::known::{Known, KnownPort, ask_port};
@@ -26,8 +26,10 @@ pub(crate) fn known_at(ports: &IndexMap<PortName, KnownPort>, place: usize) -> &
 }
 
 fn put(ports: &mut IndexMap<PortName, KnownPort>, key: PortName, known: Known) -> Result<(), Memory>
-    ensures { OnOk result ((p : List ℕ) → lookup (bytes_eq p) ports.new.entries
+    ensures put { OnOk result ((p : List ℕ) → lookup (bytes_eq p) ports.new.entries
         ≡ (if bytes_eq key p then Some known else lookup (bytes_eq p) ports.old.entries)) }
+    ensures seats { OnOk result
+        (KeepsSeats (keys_of ports.old.entries) (keys_of ports.new.entries)) }
 {
     let known = KnownPort::new(*ports.allocator(), known)?;
     ports.insert(key, known)?;
@@ -40,8 +42,10 @@ fn keep(
     port: &PortName,
     known: Known,
 ) -> Result<(), Memory>
-    ensures { OnOk result ((p : List ℕ) → lookup (bytes_eq p) ports.new.entries
+    ensures put { OnOk result ((p : List ℕ) → lookup (bytes_eq p) ports.new.entries
         ≡ (if bytes_eq port.now p then Some known else lookup (bytes_eq p) ports.old.entries)) }
+    ensures seats { OnOk result
+        (KeepsSeats (keys_of ports.old.entries) (keys_of ports.new.entries)) }
 {
     match copy_of(port) {
         Ok(key) => put(ports, key, known),
@@ -67,6 +71,8 @@ fn ask_new<C: Catalogue>(
     ensures known { OnOk result (OnPages
         (λ pages. AreKnown (map override_view overrides.now) pages ports.new.entries)
         (C.state cat.old)) }
+    ensures seats { OnOk result
+        (KeepsSeats (keys_of ports.old.entries) (keys_of ports.new.entries)) }
 {
     let known = ask_port(overrides, cat, port)?;
     keep(ports, port, known)?;
@@ -86,9 +92,12 @@ pub(crate) fn see_to_port<C: Catalogue>(
     ensures asked { OnlyAsked (was_out result) (C.state cat.old) (C.state cat.new) }
     ensures there { IfOk result (IsPlace ports.new.entries port.now) }
     ensures within { IfOk result (λ place. place < length ports.new.entries) }
+    ensures seat { IfOk result (IsSeat (keys_of ports.new.entries) port.now) }
     ensures known { OnOk result (OnPages
         (λ pages. AreKnown (map override_view overrides.now) pages ports.new.entries)
         (C.state cat.old)) }
+    ensures seats { OnOk result
+        (KeepsSeats (keys_of ports.old.entries) (keys_of ports.new.entries)) }
 {
     if let Some(place) = place_of(ports, port) {
         return Ok(place);

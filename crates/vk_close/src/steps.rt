@@ -1,6 +1,7 @@
 //! What a manifest, or a need, brings up on a line.
 ghost use Rattle.std.specs.Prelude.{◌≡◌, ◌++◌, ◌∷◌, [], IfOk, OnOk, Some, flat_map, map};
 ghost use Rattle.std.specs.Prelude.{option_map, if◌then◌else◌};
+ghost use Rattle.std.specs.Map.{keys_of};
 ghost use Rattle.vk_spec.specs.Catalogues.{OnlyAsked, OnPages};
 ghost use Rattle.vk_spec.specs.Pages.{is_pinned_by};
 ghost use Rattle.vk_base.specs.Stops.{was_out};
@@ -10,6 +11,7 @@ ghost use Rattle.vk_model.specs.FactViews.{fact_view};
 ghost use Rattle.vk_close.specs.Known.{AreKnown};
 ghost use Rattle.vk_close.specs.Steps.{asked_on, falls_away, given_on, reason_on};
 ghost use Rattle.vk_worklist.specs.Entries.{reasons_in};
+ghost use Rattle.vk_worklist.specs.Places.{KeepsSeats};
 
 use crate::known::KnownPort;
 use crate::names::copy_of;
@@ -34,6 +36,8 @@ fn is_pinned<C: Catalogue>(
     ensures known { OnOk result (OnPages
         (λ pages. AreKnown (map override_view overrides.now) pages ports.new.entries)
         (C.state cat.old)) }
+    ensures seats { OnOk result
+        (KeepsSeats (keys_of ports.old.entries) (keys_of ports.new.entries)) }
     ensures pinned { IfOk result (λ pinned. OnPages (λ pages. pinned
         ≡ is_pinned_by (map override_view overrides.now) port.now (pages port.now).given)
         (C.state cat.old)) }
@@ -56,6 +60,8 @@ fn falls_away<C: Catalogue>(
     ensures known { OnOk result (OnPages
         (λ pages. AreKnown (map override_view overrides.now) pages ports.new.entries)
         (C.state cat.old)) }
+    ensures seats { OnOk result
+        (KeepsSeats (keys_of ports.old.entries) (keys_of ports.new.entries)) }
     ensures falls { IfOk result (λ falls. OnPages (λ pages.
         falls ≡ falls_away (map override_view overrides.now) pages (fact_view fact.now))
         (C.state cat.old)) }
@@ -117,6 +123,8 @@ fn push_asked<C: Catalogue>(
     ensures known { OnOk result (OnPages
         (λ pages. AreKnown (map override_view overrides.now) pages ports.new.entries)
         (C.state cat.old)) }
+    ensures seats { OnOk result
+        (KeepsSeats (keys_of ports.old.entries) (keys_of ports.new.entries)) }
     ensures brought { OnOk result (OnPages (λ pages.
         reasons_in brought.new.items ≡ reasons_in brought.old.items
         ++ asked_on (map override_view overrides.now) pages line (fact_view fact))
@@ -147,6 +155,8 @@ pub(crate) fn push_all<C: Catalogue>(
     ensures known { OnOk result (OnPages
         (λ pages. AreKnown (map override_view overrides.now) pages ports.new.entries)
         (C.state cat.old)) }
+    ensures seats { OnOk result
+        (KeepsSeats (keys_of ports.old.entries) (keys_of ports.new.entries)) }
     ensures brought { OnOk result (OnPages (λ pages.
         reasons_in brought.new.items ≡ reasons_in brought.old.items
         ++ flat_map (asked_on (map override_view overrides.now) pages line)

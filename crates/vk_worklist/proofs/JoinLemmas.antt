@@ -310,7 +310,8 @@ same_if true false old new xs so else_so = else_so refl ∙ sym (append-nil old)
 same_if false false old new xs so else_so = else_so refl ∙ sym (append-nil old)
 
 no_need : (inputs : Inputs) (y : Fact) (p : List ℕ) → joins inputs y ≡ false → is_need_of p y ≡ false
-no_need inputs (need who f) p e = (cc)
+no_need inputs (need (root t) f) p e = refl
+no_need inputs (need (inst i) f) p e = (cc)
 no_need inputs (floor q a) p e = refl
 no_need inputs (visit i f a) p e = (cc)
 

@@ -1,8 +1,8 @@
 -- The fact of a line is taken up: what it brings up, and what the rows have then.
-use Rattle.std.proofs.Common.{◌≡◌, ◌<◌, ◌+◌, ℕ, zero, suc, Bool, true, false, cond, List, [], ◌∷◌, ◌++◌, length, take, drop, inl, inr, refl, ap, sym, ◌∙◌, subst, arith}
-use Rattle.std.specs.Prelude.{Option, Some, None, IfSome}
+use Rattle.std.proofs.Common.{◌≡◌, ◌<◌, ◌≤◌, ◌+◌, ℕ, zero, suc, Bool, true, false, cond, List, [], ◌∷◌, ◌++◌, length, take, drop, inl, inr, refl, ap, sym, ◌∙◌, subst, arith}
+use Rattle.std.specs.Prelude.{Option, Some, None, IfSome, is_some, zip}
 use Rattle.std.specs.List.{Contains}
-use Rattle.std.proofs.lemmas.List.{take-append-drop, length-map}
+use Rattle.std.proofs.lemmas.List.{take-append-drop, length-map, append-nil}
 use Rattle.std.proofs.lemmas.List.Elements.{Contains-append_left, Contains-append_right}
 use Rattle.vk_spec.specs.Lists.{NoRepeats}
 use Rattle.vk_spec.specs.Settings.{Setting}
@@ -17,9 +17,11 @@ use Rattle.vk_model.specs.declared.facts.Fact as code
 use Rattle.vk_model.specs.declared.reasons.Cause.{Cause}
 use Rattle.vk_worklist.specs.Entries.{reason_of, reasons_in, facts_in}
 use Rattle.vk_worklist.specs.Alone.{joins, alone_at}
-use Rattle.vk_worklist.specs.Rows.{needs_of, floors_of, is_need_of, is_floor_at, HasLines}
+use Rattle.vk_worklist.specs.Places.{IsSeatOf, KeepsSeats}
+use Rattle.vk_worklist.specs.Rows.{needs_of, floors_of, is_need_of, is_floor_at, HasLines, AreRows}
 use Rattle.vk_worklist.specs.Joining.{joined}
 use Rattle.vk_worklist.specs.declared.rows.Row.{Row}
+use Rattle.vk_worklist.proofs.RowLemmas.{rows_kept, seat_within}
 use Rattle.vk_worklist.proofs.LevelLemmas.{first_distinct, line_whole}
 use Rattle.vk_worklist.proofs.JoinLemmas.{joined_if, produced, has_lines_more}
 
@@ -70,6 +72,54 @@ module _ (lines : List Fact) (n : ℕ) (y : Fact) (within : n < length lines) (d
       (λ so p. subst (λ m. needs_of new p ≡ needs_of old p ++ cond (is_need_of p y) (m ∷ []) []) (sym line_is) (needs p))
       (λ so p. subst (λ m. floors_of new p ≡ floors_of old p ++ cond (is_floor_at p y) (m ∷ []) []) (sym line_is) (floors p))
       (λ e. absurd (true_false (joins (inputs_of s pages) y) (sym is ∙ some) e)))
+
+-- ---- by the places of ports
+
+none_joined : (seat : Option ℕ) → seat ≡ None → is_some seat ≡ false
+none_joined seat e = ap is_some e
+
+some_joined : (seat : Option ℕ) (place : ℕ) → seat ≡ Some place → is_some seat ≡ true
+some_joined seat place e = ap is_some e
+
+some_seat : (seats : List (List ℕ)) (x : Fact) (seat : Option ℕ) (place : ℕ) → seat ≡ Some place → IfSome seat (IsSeatOf seats x) → IsSeatOf seats x place
+some_seat seats x seat place e is = subst (λ o. IfSome o (IsSeatOf seats x)) e is
+
+had_lines : (o : Option Pages) (s : Setting) (old new : List (List ℕ)) (rows : List Row) (taken : List Fact) → KeepsSeats old new → IfSome o (λ pages. AreRows (inputs_of s pages) old rows taken) → IfSome o (λ pages. HasLines (inputs_of s pages) (zip new rows) taken)
+had_lines None s old new rows taken keeps are = tt
+had_lines (Some pages) s old new rows taken keeps are = (rows_kept (inputs_of s pages) old new rows taken are keeps).lines
+
+are_rows : (o : Option Pages) (s : Setting) (old new : List (List ℕ)) (before after : List Row) (taken more : List Fact) → KeepsSeats old new → (length before ≤ length new → length after ≤ length new)
+    → IfSome o (λ pages. AreRows (inputs_of s pages) old before taken) → IfSome o (λ pages. HasLines (inputs_of s pages) (zip new after) more) → IfSome o (λ pages. AreRows (inputs_of s pages) new after more)
+are_rows None s old new before after taken more keeps few are lines = tt
+are_rows (Some pages) s old new before after taken more keeps few are lines = record { within = few (rows_kept (inputs_of s pages) old new before taken are keeps).within; lines = lines }
+
+module _ (lines : List Fact) (n : ℕ) (y : Fact) (within : n < length lines) (distinct : NoRepeats lines) (at : take (n + 1) lines ≡ take n lines ++ y ∷ []) (o : Option Pages) (s : Setting) (old new : List (List ℕ)) (keeps : KeepsSeats old new) (seat : Option ℕ) (told : IfSome o (λ pages. is_some seat ≡ joins (inputs_of s pages) y)) where
+  -- the fact isn't joined
+  pub rows_same : (rows : List Row) → seat ≡ None → IfSome o (λ pages. AreRows (inputs_of s pages) old rows (take n lines)) → IfSome o (λ pages. AreRows (inputs_of s pages) new rows (take (n + 1) lines))
+  rows_same rows none are = are_rows o s old new rows rows (take n lines) (take (n + 1) lines) keeps (λ few. few) are
+      (lines_same lines n y within distinct at o s (zip new rows) (is_some seat) (none_joined seat none) told (had_lines o s old new rows (take n lines) keeps are))
+
+  pub none_more : (rows : List Row) (own : List Reason) → seat ≡ None → IfSome o (λ pages. own ≡ alone_at (inputs_of s pages) y (n + 1)) → IfSome o (λ pages. AreRows (inputs_of s pages) old rows (take n lines)) → IfSome o (λ pages. Produces (inputs_of s pages) (take n lines) y own)
+  none_more rows own none alone are =
+      subst (λ l. IfSome o (λ pages. Produces (inputs_of s pages) (take n lines) y l)) (ap (λ c. own ++ joined_if c (joined lines (zip new rows) (n + 1) y)) (none_joined seat none) ∙ append-nil own)
+      (produced_if lines n y within distinct at o s (zip new rows) (is_some seat) own told alone (had_lines o s old new rows (take n lines) keeps are))
+
+  -- it is joined at a place
+  module _ (place : ℕ) (some : seat ≡ Some place) (is : IfSome seat (IsSeatOf new y)) where
+    there : IsSeatOf new y place
+    there = some_seat new y seat place some is
+
+    pub rows_both : (before after : List Row) → ((most : ℕ) → length before ≤ most → place < most → length after ≤ most)
+        → ((seats : List (List ℕ)) (p : List ℕ) → IsSeatOf seats y place → needs_of (zip seats after) p ≡ needs_of (zip seats before) p ++ cond (is_need_of p y) ((n + 1) ∷ []) [])
+        → ((seats : List (List ℕ)) (p : List ℕ) → IsSeatOf seats y place → floors_of (zip seats after) p ≡ floors_of (zip seats before) p ++ cond (is_floor_at p y) ((n + 1) ∷ []) [])
+        → IfSome o (λ pages. AreRows (inputs_of s pages) old before (take n lines)) → IfSome o (λ pages. AreRows (inputs_of s pages) new after (take (n + 1) lines))
+    rows_both before after few needs floors are = are_rows o s old new before after (take n lines) (take (n + 1) lines) keeps (λ long. few (length new) long (seat_within new y place there)) are
+        (lines_both lines n y within distinct at o s (zip new before) (zip new after) (is_some seat) (some_joined seat place some) told (had_lines o s old new before (take n lines) keeps are) (λ p. needs new p there) (λ p. floors new p there))
+
+    pub both_more : (rows : List Row) (own all : List Reason) → IfSome o (λ pages. own ≡ alone_at (inputs_of s pages) y (n + 1)) → IfSome o (λ pages. AreRows (inputs_of s pages) old rows (take n lines))
+        → ((seats : List (List ℕ)) → IsSeatOf seats y place → all ≡ own ++ joined lines (zip seats rows) (n + 1) y) → IfSome o (λ pages. Produces (inputs_of s pages) (take n lines) y all)
+    both_more rows own all alone are whole =
+        both_if lines n y within distinct at o s (zip new rows) (is_some seat) own all (some_joined seat place some) told alone (had_lines o s old new rows (take n lines) keeps are) (whole new there)
 
 pub within_facts : (es : List (code.Fact × Cause)) (n : ℕ) → n < length es → n < length (facts_in es)
 within_facts es n h = subst (λ m. n < m) (sym (length-map (reasons_in es) (λ r. r.fact) ∙ length-map es reason_of)) h

@@ -1,5 +1,5 @@
 -- The rows of ports: on which lines their needs stand, and those of their floors that are visited.
-use Rattle.std.specs.Prelude.{◌≡◌, ◌++◌, ℕ, suc, Bool, false, ◌&&◌, List, [], ◌∷◌, map, Option, Some, None, bytes_eq, if◌then◌else◌}
+use Rattle.std.specs.Prelude.{◌≡◌, ◌≤◌, ◌++◌, ℕ, suc, Bool, false, ◌&&◌, List, [], ◌∷◌, map, length, zip, Option, Some, None, bytes_eq, if◌then◌else◌}
 use Rattle.std.specs.Map.{lookup}
 use Rattle.vk_resolution.specs.Settings.{root, inst}
 use Rattle.vk_resolution.specs.Asking.{Fact, need, floor, visit}
@@ -47,3 +47,8 @@ lines_where test (x ∷ xs) = (if test x then 1 ∷ [] else []) ++ map suc (line
 pub record HasLines (inputs : Inputs) (ports : List (List ℕ × Row)) (taken : List Fact) : Type 0 where
   pub needs : (p : List ℕ) → needs_of ports p ≡ lines_where (is_need_of p) taken
   pub floors : (p : List ℕ) → floors_of ports p ≡ lines_where (is_floor_of inputs p) taken
+
+-- the rows stand at the places of ports, and have their lines
+pub record AreRows (inputs : Inputs) (seats : List (List ℕ)) (rows : List Row) (taken : List Fact) : Type 0 where
+  pub within : length rows ≤ length seats
+  pub lines : HasLines inputs (zip seats rows) taken

@@ -1,4 +1,5 @@
-ghost use Rattle.std.specs.Prelude.{◌≡◌, ◌+◌, ◌++◌, ◌∷◌, ◌<◌, ◌≤◌, ◌^◌, [], List, IfOk, OnOk, take};
+ghost use Rattle.std.specs.Prelude.{◌≡◌, ◌+◌, ◌++◌, ◌∷◌, ◌<◌, ◌≤◌, ◌^◌, [], ℕ, List, IfOk, OnOk};
+ghost use Rattle.std.specs.Prelude.{IfSome, is_some, take};
 ghost use Rattle.vk_spec.specs.Catalogues.{OnlyAsked, OnPages};
 ghost use Rattle.vk_spec.specs.Settings.{Setting};
 ghost use Rattle.vk_base.specs.Stops.{was_out};
@@ -9,6 +10,7 @@ ghost use Rattle.vk_model.specs.FactViews.{fact_view};
 ghost use Rattle.vk_worklist.specs.Entries.{reasons_in, facts_in};
 ghost use Rattle.vk_worklist.specs.Ticks.{tick_of};
 ghost use Rattle.vk_worklist.specs.Alone.{Follows, alone_at, joins};
+ghost use Rattle.vk_worklist.specs.Places.{IsSeatOf, KeepsSeats};
 
 use indexmap::IndexMap;
 use std::sync::ledger::Ledger;
@@ -16,17 +18,20 @@ use vk_base::{Outage, Steps};
 use vk_catalogue::Catalogue;
 use vk_model::{Cause, Fact};
 
-/// What one fact brings up alone, and whether it is joined with others of its port. Facts are asked
-/// about in the order of their lines, each only where it follows from the root facts.
+/// What one fact brings up alone, and the place of its port where it is joined with others of that
+/// port. Facts are asked about in the order of their lines, each only where it follows from the
+/// root facts.
 pub trait Asker {
     /// What a plan is made under.
     ghost setting: { Self → Setting };
     /// What is kept is of these pages, and of these facts, which were asked about in this order.
     ghost tracks: { Self → Pages → List plain.Fact → Type 0 };
+    /// The ports that have places, by their names, in the order of the places.
+    ghost seats: { Self → List (List ℕ) };
 
     /// Adds what the fact of a line, counted from 0, brings up alone, in order, each with its
-    /// cause, and tells whether it is joined: each fact is, but for a floor whose version isn't
-    /// visited.
+    /// cause, and tells the place of its port where it is joined: a need of an instance is, and a
+    /// floor whose version is visited. A port keeps its place.
     fn ask<C: Catalogue, L: Ledger>(
         &mut self,
         cat: &mut C,
@@ -35,7 +40,7 @@ pub trait Asker {
         fact: &Fact,
         brought: &mut Vec<(Fact, Cause)>,
         steps: &mut Steps<L>,
-    ) -> Result<bool, Outage>
+    ) -> Result<Option<usize>, Outage>
         requires small { n + 1 < 2 ^ 32 }
         requires at { take (n + 1) (facts_in lines.now.entries)
             ≡ take n (facts_in lines.now.entries) ++ fact_view fact.now ∷ [] }
@@ -55,7 +60,10 @@ pub trait Asker {
             (λ pages. reasons_in brought.new.items ≡ reasons_in brought.old.items
             ++ alone_at (inputs_of (setting self.old) pages) (fact_view fact.now) (n + 1))
             (C.state cat.old)) }
-        ensures joins { IfOk result (λ joined. OnPages
-            (λ pages. joined ≡ joins (inputs_of (setting self.old) pages) (fact_view fact.now))
+        ensures seats { OnOk result (KeepsSeats (seats self.old) (seats self.new)) }
+        ensures seat { IfOk result
+            (λ seat. IfSome seat (IsSeatOf (seats self.new) (fact_view fact.now))) }
+        ensures joins { IfOk result (λ seat. OnPages (λ pages. is_some seat
+            ≡ joins (inputs_of (setting self.old) pages) (fact_view fact.now))
             (C.state cat.old)) };
 }

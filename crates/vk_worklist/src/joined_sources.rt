@@ -1,7 +1,7 @@
 ghost use Rattle.std.specs.Prelude.{◌≡◌, [], List};
 ghost use Rattle.vk_resolution.specs.Givens.{Pages};
 ghost use Rattle.vk_resolution.specs.Planner.{inputs_of};
-ghost use Rattle.vk_worklist.specs.Rows.{HasLines};
+ghost use Rattle.vk_worklist.specs.Rows.{AreRows};
 
 use crate::askers::Asker;
 use crate::rows::Row;
@@ -10,7 +10,7 @@ use crate::visits::join;
 use indexmap::IndexMap;
 use std::alloc::Global;
 use std::sync::ledger::Ledger;
-use vk_base::{Outage, PortName, Steps};
+use vk_base::{Outage, Steps};
 use vk_catalogue::Catalogue;
 use vk_model::{Cause, Fact};
 
@@ -21,7 +21,8 @@ pub struct Joins<A: Asker> {
     alloc: Global,
     /// The asker, to be read afterwards: it tracks the facts that were taken up.
     pub asker: A,
-    ports: IndexMap<PortName, Row>,
+    // The rows of ports, by the places that the asker gives them.
+    rows: Vec<Row>,
 }
 
 impl<A: Asker> Joins<A> {
@@ -29,24 +30,24 @@ impl<A: Asker> Joins<A> {
     pub fn new(alloc: Global, asker: A) -> Joins<A>
         ensures asker { result.asker ≡ asker }
         ensures rows { (pages : Pages) →
-            HasLines (inputs_of (A.setting asker) pages) result.ports.entries [] }
+            AreRows (inputs_of (A.setting asker) pages) (A.seats asker) result.rows.items [] }
     {
         Joins {
             alloc,
             asker,
-            ports: IndexMap::new(alloc),
+            rows: Vec::new(alloc),
         }
     }
 }
 
 impl<A: Asker> Source for Joins<A> {
     ghost use Rattle.vk_resolution.specs.Planner.{inputs_of};
-    ghost use Rattle.vk_worklist.specs.Rows.{HasLines};
+    ghost use Rattle.vk_worklist.specs.Rows.{AreRows};
 
     ghost setting = { λ j. A.setting j.asker };
 
     ghost tracks = { λ j pages taken. A.tracks j.asker pages taken
-        × HasLines (inputs_of (A.setting j.asker) pages) j.ports.entries taken };
+        × AreRows (inputs_of (A.setting j.asker) pages) (A.seats j.asker) j.rows.items taken };
 
     fn take_up<C: Catalogue, L: Ledger>(
         &mut self,
@@ -57,17 +58,21 @@ impl<A: Asker> Source for Joins<A> {
         brought: &mut Vec<(Fact, Cause)>,
         steps: &mut Steps<L>,
     ) -> Result<(), Outage> {
-        if !self.asker.ask(cat, lines, n, fact, brought, steps)? {
-            return Ok(());
+        match self.asker.ask(cat, lines, n, fact, brought, steps)? {
+            Some(place) => {
+                let line = n as u32 + 1;
+                join(
+                    self.alloc,
+                    &mut self.rows,
+                    place,
+                    lines,
+                    fact,
+                    line,
+                    brought,
+                )?;
+                Ok(())
+            }
+            None => Ok(()),
         }
-        join(
-            self.alloc,
-            &mut self.ports,
-            lines,
-            fact,
-            n as u32 + 1,
-            brought,
-        )?;
-        Ok(())
     }
 }

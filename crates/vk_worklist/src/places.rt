@@ -1,7 +1,7 @@
 //! Where the entry of a port stands in a map, so that its name is looked up once.
 ghost use Rattle.std.specs.Prelude.{◌≡◌, ◌<◌, ℕ, List, IfSome, IfNone, Some, None, bytes_eq, length};
-ghost use Rattle.std.specs.Map.{lookup};
-ghost use Rattle.vk_worklist.specs.Places.{IsPlace};
+ghost use Rattle.std.specs.Map.{keys_of, lookup};
+ghost use Rattle.vk_worklist.specs.Places.{IsPlace, IsSeat};
 
 use indexmap::IndexMap;
 use vk_base::PortName;
@@ -10,6 +10,7 @@ use vk_base::PortName;
 pub fn place_of<V>(map: &IndexMap<PortName, V>, port: &PortName) -> Option<usize>
     ensures found { IfSome result (IsPlace map.now.entries port.now) }
     ensures within { IfSome result (λ place. place < length map.now.entries) }
+    ensures seat { IfSome result (IsSeat (keys_of map.now.entries) port.now) }
     ensures none { IfNone result (lookup (bytes_eq port.now) map.now.entries ≡ None) }
 {
     match map.get_full(port) {

@@ -1,13 +1,9 @@
-ghost use Rattle.std.specs.Prelude.{◌≡◌, ◌++◌, ◌∷◌, ◌<◌, [], ℕ, List, OnOk, IfOk, IsSome, bytes_eq};
-ghost use Rattle.std.specs.Prelude.{length, None, if◌then◌else◌};
-ghost use Rattle.std.specs.Map.{lookup};
-ghost use Rattle.vk_worklist.specs.Places.{IsPlace};
+ghost use Rattle.std.specs.Prelude.{◌≡◌, ◌++◌, ◌∷◌, ◌<◌, ◌≤◌, [], ℕ, List, OnOk};
+ghost use Rattle.std.specs.Prelude.{bytes_eq, length, zip, if◌then◌else◌};
+ghost use Rattle.vk_worklist.specs.Places.{IsSeat};
 ghost use Rattle.vk_worklist.specs.Rows.{needs_of, floors_of};
 
-use crate::places::{place_of, value_at};
-use indexmap::IndexMap;
 use std::alloc::{AllocError, Global};
-use vk_base::PortName;
 
 /// The lines of a port's needs and of those of its floors that are visited, counted from 1.
 #[derive(Drop)]
@@ -16,97 +12,75 @@ pub struct Row {
     pub floors: Vec<u32>,
 }
 
-// Puts an empty row for a port that has none.
-fn put_row(
-    alloc: Global,
-    ports: &mut IndexMap<PortName, Row>,
-    port: &PortName,
-) -> Result<(), AllocError>
-    requires { lookup (bytes_eq port.now) ports.old.entries ≡ None }
-    ensures there { OnOk result (IsSome (lookup (bytes_eq port.now) ports.new.entries)) }
-    ensures needs { OnOk result ((p : List ℕ) →
-        needs_of ports.new.entries p ≡ needs_of ports.old.entries p) }
-    ensures floors { OnOk result ((p : List ℕ) →
-        floors_of ports.new.entries p ≡ floors_of ports.old.entries p) }
+// A row without lines.
+fn empty_row(alloc: Global) -> Row
+    ensures needs { result.needs.items ≡ [] }
+    ensures floors { result.floors.items ≡ [] }
 {
-    let row = Row {
+    Row {
         needs: Vec::new(alloc),
         floors: Vec::new(alloc),
-    };
-    ports.insert(port.clone()?, row)?;
+    }
+}
+
+// Sees to it that there is a row at a place: puts empty ones behind the others.
+pub(crate) fn see_to_row(alloc: Global, rows: &mut Vec<Row>, place: usize) -> Result<(), AllocError>
+    ensures there { OnOk result (place < length rows.new.items) }
+    ensures few { OnOk result ((most : ℕ) → length rows.old.items ≤ most → place < most
+        → length rows.new.items ≤ most) }
+    ensures needs { OnOk result ((seats : List (List ℕ)) (p : List ℕ) →
+        needs_of (zip seats rows.new.items) p ≡ needs_of (zip seats rows.old.items) p) }
+    ensures floors { OnOk result ((seats : List (List ℕ)) (p : List ℕ) →
+        floors_of (zip seats rows.new.items) p ≡ floors_of (zip seats rows.old.items) p) }
+{
+    while rows.len() <= place {
+        rows.push(empty_row(alloc))?;
+    }
     Ok(())
 }
 
-// Sees to it that a port has a row, and tells its place.
-pub(crate) fn see_to_row(
-    alloc: Global,
-    ports: &mut IndexMap<PortName, Row>,
-    port: &PortName,
-) -> Result<usize, AllocError>
-    ensures there { IfOk result (IsPlace ports.new.entries port.now) }
-    ensures within { IfOk result (λ place. place < length ports.new.entries) }
-    ensures needs { OnOk result ((p : List ℕ) →
-        needs_of ports.new.entries p ≡ needs_of ports.old.entries p) }
-    ensures floors { OnOk result ((p : List ℕ) →
-        floors_of ports.new.entries p ≡ floors_of ports.old.entries p) }
-{
-    if let Some(place) = place_of(ports, port) {
-        return Ok(place);
-    }
-    put_row(alloc, ports, port)?;
-    Ok(place_of(ports, port).unwrap())
-}
-
 // One need more in the row at a place.
-pub(crate) fn add_need(
-    ports: &mut IndexMap<PortName, Row>,
-    place: usize,
-    line: u32,
-) -> Result<(), AllocError>
-    requires { place < length ports.old.entries }
-    ensures needs { OnOk result ((port p : List ℕ) → IsPlace ports.old.entries port place
-        → needs_of ports.new.entries p ≡ needs_of ports.old.entries p
-        ++ (if bytes_eq port p then line ∷ [] else [])) }
-    ensures floors { OnOk result ((p : List ℕ) →
-        floors_of ports.new.entries p ≡ floors_of ports.old.entries p) }
+pub(crate) fn add_need(rows: &mut Vec<Row>, place: usize, line: u32) -> Result<(), AllocError>
+    requires { place < length rows.old.items }
+    ensures len { length rows.new.items ≡ length rows.old.items }
+    ensures needs { OnOk result ((seats : List (List ℕ)) (port p : List ℕ) →
+        IsSeat seats port place → needs_of (zip seats rows.new.items) p
+        ≡ needs_of (zip seats rows.old.items) p ++ (if bytes_eq port p then line ∷ [] else [])) }
+    ensures floors { OnOk result ((seats : List (List ℕ)) (p : List ℕ) →
+        floors_of (zip seats rows.new.items) p ≡ floors_of (zip seats rows.old.items) p) }
 {
-    let (_port, row) = ports.pair_mut(place);
-    row.needs.push(line)?;
+    rows[place].needs.push(line)?;
     Ok(())
 }
 
 // One floor more in the row at a place.
-pub(crate) fn add_floor(
-    ports: &mut IndexMap<PortName, Row>,
-    place: usize,
-    line: u32,
-) -> Result<(), AllocError>
-    requires { place < length ports.old.entries }
-    ensures floors { OnOk result ((port p : List ℕ) → IsPlace ports.old.entries port place
-        → floors_of ports.new.entries p ≡ floors_of ports.old.entries p
-        ++ (if bytes_eq port p then line ∷ [] else [])) }
-    ensures needs { OnOk result ((p : List ℕ) →
-        needs_of ports.new.entries p ≡ needs_of ports.old.entries p) }
+pub(crate) fn add_floor(rows: &mut Vec<Row>, place: usize, line: u32) -> Result<(), AllocError>
+    requires { place < length rows.old.items }
+    ensures len { length rows.new.items ≡ length rows.old.items }
+    ensures floors { OnOk result ((seats : List (List ℕ)) (port p : List ℕ) →
+        IsSeat seats port place → floors_of (zip seats rows.new.items) p
+        ≡ floors_of (zip seats rows.old.items) p ++ (if bytes_eq port p then line ∷ [] else [])) }
+    ensures needs { OnOk result ((seats : List (List ℕ)) (p : List ℕ) →
+        needs_of (zip seats rows.new.items) p ≡ needs_of (zip seats rows.old.items) p) }
 {
-    let (_port, row) = ports.pair_mut(place);
-    row.floors.push(line)?;
+    rows[place].floors.push(line)?;
     Ok(())
 }
 
 // The lines of the needs in the row at a place.
-pub(crate) fn needs_at(ports: &IndexMap<PortName, Row>, place: usize) -> &[u32]
-    requires { place < length ports.now.entries }
-    ensures { (port : List ℕ) → IsPlace ports.now.entries port place
-        → result.now ≡ needs_of ports.now.entries port }
+pub(crate) fn needs_at(rows: &[Row], place: usize) -> &[u32]
+    requires { place < length rows.now }
+    ensures { (seats : List (List ℕ)) (port : List ℕ) → IsSeat seats port place
+        → result.now ≡ needs_of (zip seats rows.now) port }
 {
-    value_at(ports, place).needs.as_slice()
+    rows[place].needs.as_slice()
 }
 
 // The lines of the visited floors in the row at a place.
-pub(crate) fn floors_at(ports: &IndexMap<PortName, Row>, place: usize) -> &[u32]
-    requires { place < length ports.now.entries }
-    ensures { (port : List ℕ) → IsPlace ports.now.entries port place
-        → result.now ≡ floors_of ports.now.entries port }
+pub(crate) fn floors_at(rows: &[Row], place: usize) -> &[u32]
+    requires { place < length rows.now }
+    ensures { (seats : List (List ℕ)) (port : List ℕ) → IsSeat seats port place
+        → result.now ≡ floors_of (zip seats rows.now) port }
 {
-    value_at(ports, place).floors.as_slice()
+    rows[place].floors.as_slice()
 }

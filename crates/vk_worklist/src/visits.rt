@@ -1,5 +1,5 @@
 ghost use Rattle.std.specs.Prelude.{◌≡◌, ◌++◌, ◌∷◌, [], ℕ, List, IfOk, OnOk, option_map, flat_map};
-ghost use Rattle.std.specs.Prelude.{bytes_eq, if◌then◌else◌};
+ghost use Rattle.std.specs.Prelude.{◌<◌, ◌≤◌, bytes_eq, length, zip, if◌then◌else◌};
 ghost use Rattle.vk_base.specs.FeatureViews.{feature_view};
 ghost use Rattle.vk_version.specs.AskViews.{ask_view};
 ghost use Rattle.vk_resolution.specs.Settings as who;
@@ -9,13 +9,14 @@ ghost use Rattle.vk_resolution.specs.Reasons.{fact_at};
 ghost use Rattle.vk_model.specs.FactViews.{fact_view};
 ghost use Rattle.vk_model.specs.SettingViews.{instance_view};
 ghost use Rattle.vk_worklist.specs.Entries.{reasons_in, facts_in};
+ghost use Rattle.vk_worklist.specs.Places.{IsSeat, IsSeatOf};
 ghost use Rattle.vk_worklist.specs.Rows.{needs_of, floors_of, is_need_of, is_floor_at};
 ghost use Rattle.vk_worklist.specs.Joining.{to_visit, at_need, joined};
 
 use crate::rows::{Row, add_floor, add_need, floors_at, needs_at, see_to_row};
 use indexmap::IndexMap;
 use std::alloc::{AllocError, Global};
-use vk_base::{FeatureName, Instance, PortName};
+use vk_base::{FeatureName, Instance};
 use vk_model::{Cause, Fact, Who};
 use vk_version::Ask;
 
@@ -142,67 +143,86 @@ fn visit_needs(
 // Joins a need with the floors of its port.
 fn join_need(
     alloc: Global,
-    ports: &mut IndexMap<PortName, Row>,
+    rows: &mut Vec<Row>,
+    place: usize,
     lines: &IndexMap<Fact, Cause>,
     inst: &Instance,
     feature: &FeatureName,
     line: u32,
     brought: &mut Vec<(Fact, Cause)>,
 ) -> Result<(), AllocError>
-    ensures brought { OnOk result (reasons_in brought.new.items ≡ reasons_in brought.old.items
-        ++ joined (facts_in lines.now.entries) ports.old.entries line
+    ensures brought { OnOk result ((seats : List (List ℕ)) → IsSeat seats inst.now.port place
+        → reasons_in brought.new.items ≡ reasons_in brought.old.items
+        ++ joined (facts_in lines.now.entries) (zip seats rows.old.items) line
         (plain.need (who.inst (instance_view inst.now)) (feature_view feature.now))) }
-    ensures needs { OnOk result ((p : List ℕ) → needs_of ports.new.entries p
-        ≡ needs_of ports.old.entries p ++ (if bytes_eq inst.now.port p then line ∷ [] else [])) }
-    ensures floors { OnOk result ((p : List ℕ) →
-        floors_of ports.new.entries p ≡ floors_of ports.old.entries p) }
+    ensures few { OnOk result ((most : ℕ) → length rows.old.items ≤ most → place < most
+        → length rows.new.items ≤ most) }
+    ensures needs { OnOk result ((seats : List (List ℕ)) (p : List ℕ) →
+        IsSeat seats inst.now.port place → needs_of (zip seats rows.new.items) p
+        ≡ needs_of (zip seats rows.old.items) p
+        ++ (if bytes_eq inst.now.port p then line ∷ [] else [])) }
+    ensures floors { OnOk result ((seats : List (List ℕ)) (p : List ℕ) →
+        floors_of (zip seats rows.new.items) p ≡ floors_of (zip seats rows.old.items) p) }
 {
-    let place = see_to_row(alloc, ports, &inst.port)?;
-    visit_floors(lines, inst, feature, line, floors_at(ports, place), brought)?;
-    add_need(ports, place, line)?;
+    see_to_row(alloc, rows, place)?;
+    visit_floors(lines, inst, feature, line, floors_at(rows, place), brought)?;
+    add_need(rows, place, line)?;
     Ok(())
 }
 
 // Joins a visited floor with the needs of its port.
 fn join_floor(
     alloc: Global,
-    ports: &mut IndexMap<PortName, Row>,
+    rows: &mut Vec<Row>,
+    place: usize,
     lines: &IndexMap<Fact, Cause>,
-    port: &PortName,
     ask: &Ask,
     line: u32,
     brought: &mut Vec<(Fact, Cause)>,
 ) -> Result<(), AllocError>
-    ensures brought { OnOk result (reasons_in brought.new.items ≡ reasons_in brought.old.items
-        ++ joined (facts_in lines.now.entries) ports.old.entries line
-        (plain.floor port.now (ask_view ask.now))) }
-    ensures needs { OnOk result ((p : List ℕ) →
-        needs_of ports.new.entries p ≡ needs_of ports.old.entries p) }
-    ensures floors { OnOk result ((p : List ℕ) → floors_of ports.new.entries p
-        ≡ floors_of ports.old.entries p ++ (if bytes_eq port.now p then line ∷ [] else [])) }
+    ensures brought { OnOk result ((seats : List (List ℕ)) (port : List ℕ) →
+        IsSeat seats port place → reasons_in brought.new.items ≡ reasons_in brought.old.items
+        ++ joined (facts_in lines.now.entries) (zip seats rows.old.items) line
+        (plain.floor port (ask_view ask.now))) }
+    ensures few { OnOk result ((most : ℕ) → length rows.old.items ≤ most → place < most
+        → length rows.new.items ≤ most) }
+    ensures needs { OnOk result ((seats : List (List ℕ)) (p : List ℕ) →
+        needs_of (zip seats rows.new.items) p ≡ needs_of (zip seats rows.old.items) p) }
+    ensures floors { OnOk result ((seats : List (List ℕ)) (port p : List ℕ) →
+        IsSeat seats port place → floors_of (zip seats rows.new.items) p
+        ≡ floors_of (zip seats rows.old.items) p ++ (if bytes_eq port p then line ∷ [] else [])) }
 {
-    let place = see_to_row(alloc, ports, port)?;
-    visit_needs(lines, ask, line, needs_at(ports, place), brought)?;
-    add_floor(ports, place, line)?;
+    see_to_row(alloc, rows, place)?;
+    visit_needs(lines, ask, line, needs_at(rows, place), brought)?;
+    add_floor(rows, place, line)?;
     Ok(())
 }
 
-// Joins the fact of a line with those of the rows, and notes the line there.
+// Joins the fact of a line with those of the rows, and notes the line in that of its port, which
+// stands at this place.
 pub(crate) fn join(
     alloc: Global,
-    ports: &mut IndexMap<PortName, Row>,
+    rows: &mut Vec<Row>,
+    place: usize,
     lines: &IndexMap<Fact, Cause>,
     fact: &Fact,
     line: u32,
     brought: &mut Vec<(Fact, Cause)>,
 ) -> Result<(), AllocError>
-    ensures brought { OnOk result (reasons_in brought.new.items ≡ reasons_in brought.old.items
-        ++ joined (facts_in lines.now.entries) ports.old.entries line (fact_view fact.now)) }
-    ensures needs { OnOk result ((p : List ℕ) →
-        needs_of ports.new.entries p ≡ needs_of ports.old.entries p
+    ensures brought { OnOk result ((seats : List (List ℕ)) →
+        IsSeatOf seats (fact_view fact.now) place
+        → reasons_in brought.new.items ≡ reasons_in brought.old.items
+        ++ joined (facts_in lines.now.entries) (zip seats rows.old.items) line
+        (fact_view fact.now)) }
+    ensures few { OnOk result ((most : ℕ) → length rows.old.items ≤ most → place < most
+        → length rows.new.items ≤ most) }
+    ensures needs { OnOk result ((seats : List (List ℕ)) (p : List ℕ) →
+        IsSeatOf seats (fact_view fact.now) place → needs_of (zip seats rows.new.items) p
+        ≡ needs_of (zip seats rows.old.items) p
         ++ (if is_need_of p (fact_view fact.now) then line ∷ [] else [])) }
-    ensures floors { OnOk result ((p : List ℕ) →
-        floors_of ports.new.entries p ≡ floors_of ports.old.entries p
+    ensures floors { OnOk result ((seats : List (List ℕ)) (p : List ℕ) →
+        IsSeatOf seats (fact_view fact.now) place → floors_of (zip seats rows.new.items) p
+        ≡ floors_of (zip seats rows.old.items) p
         ++ (if is_floor_at p (fact_view fact.now) then line ∷ [] else [])) }
 {
     match fact {
@@ -210,11 +230,11 @@ pub(crate) fn join(
             who: Who::Inst(inst),
             feature,
         } => {
-            join_need(alloc, ports, lines, inst, feature, line, brought)?;
+            join_need(alloc, rows, place, lines, inst, feature, line, brought)?;
             Ok(())
         }
-        Fact::Floor { port, ask } => {
-            join_floor(alloc, ports, lines, port, ask, line, brought)?;
+        Fact::Floor { port: _, ask } => {
+            join_floor(alloc, rows, place, lines, ask, line, brought)?;
             Ok(())
         }
         _ => Ok(()),

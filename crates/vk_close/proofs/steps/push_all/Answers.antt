@@ -17,6 +17,7 @@ loop-fact-preserved g c =
       split = append_assoc c.loop-fact.yielded (c.in-Some.fact ∷ []) (into_iter_items c.next.new.self) ∙ ap (λ l. c.loop-fact.yielded ++ l) (sym step) ∙ c.loop-fact.invariant.split;
       asked = asked_then c.loop-fact.invariant.asked c.in_ok-push_asked.ensures.asked;
       known = pages_before (λ pages. AreKnown (map override_view c.args.overrides.now) pages c.push_asked.new.ports.entries) c.loop-fact.invariant.asked c.in_ok-push_asked.ensures.known;
+      seats = λ place port at. c.in_ok-push_asked.ensures.seats place port (c.loop-fact.invariant.seats place port at);
       brought = asked_more (g.C.Catalogue.state c.args.cat.now).pages (map override_view c.args.overrides.now) c.args.line (reasons_in c.args.brought.now.items) (reasons_in c.loop-fact.brought.items) (reasons_in c.push_asked.new.brought.items)
           c.loop-fact.yielded c.in-Some.fact c.loop-fact.invariant.brought
           (pages_before (λ pages. reasons_in c.push_asked.new.brought.items ≡ reasons_in c.loop-fact.brought.items ++ asked_on (map override_view c.args.overrides.now) pages c.args.line (fact_view c.in-Some.fact)) c.loop-fact.invariant.asked c.in_ok-push_asked.ensures.brought);

@@ -4,6 +4,8 @@ use Rattle.std.specs.Vec.Iter.{into_iter_items}
 use Rattle.vk_spec.specs.Catalogues.{OnlyAsked, OnPages}
 use Rattle.vk_model.specs.Views.{override_view}
 use Rattle.vk_model.specs.FactViews.{fact_view}
+use Rattle.std.specs.Map.{keys_of}
+use Rattle.vk_worklist.specs.Places.{KeepsSeats}
 use Rattle.vk_close.specs.Known.{AreKnown}
 use Rattle.vk_close.specs.Steps.{asked_on}
 use Rattle.vk_worklist.specs.Entries.{reasons_in}
@@ -13,6 +15,7 @@ abbrev pub invariant-loop-fact : goal.invariant-loop-fact
 invariant-loop-fact g l = record {
   split : l.yielded ++ into_iter_items l.fact-iterator ≡ l.fn.facts;
   asked : OnlyAsked false (g.C.Catalogue.state l.initial.cat) (g.C.Catalogue.state l.cat);
+  seats : KeepsSeats (keys_of l.initial.ports.entries) (keys_of l.ports.entries);
   known : OnPages (λ pages. AreKnown (map override_view l.overrides) pages l.ports.entries) (g.C.Catalogue.state l.initial.cat);
   brought : OnPages (λ pages. reasons_in l.brought.items ≡ reasons_in l.initial.brought.items ++ flat_map (asked_on (map override_view l.overrides) pages l.line) (map fact_view l.yielded)) (g.C.Catalogue.state l.initial.cat);
 }

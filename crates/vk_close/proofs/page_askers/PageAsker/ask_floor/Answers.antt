@@ -1,5 +1,5 @@
 use Rattle.std.proofs.Common.{◌≡◌}
-use Rattle.std.specs.Prelude.{option_map}
+use Rattle.std.specs.Prelude.{is_some, option_map}
 use Rattle.vk_spec.specs.Pages.{version_in}
 use Rattle.vk_spec.proofs.AskLemmas.{pages_before, pages_after}
 use Rattle.vk_version.specs.AskViews.{ask_view}
@@ -19,7 +19,7 @@ find-requires g c =
 pub returns-clause-joined : goal.returns-clause-joined
 returns-clause-joined g c =
     visited_here c.see_to.new.self (setting_view c.args.self.now.setting.now) c.args.port.now (ask_view c.args.ask.now) c.known_at-known.result.now c.in_ok-found.found (c.known_at-known.ensures c.args.port.now c.in_ok-place.ensures.there)
-    (g.C.Catalogue.state c.args.cat.now).pages c.seen_floor-2.result.joined c.seen_floor-2.ensures.joined c.in_ok-place.ensures.kept
+    (g.C.Catalogue.state c.args.cat.now).pages (is_some c.seen_floor-2.result.seat) c.seen_floor-2.ensures.joined c.in_ok-place.ensures.kept
     (pages_before (λ pages. c.in_ok-found.found ≡ found_by (option_map given_view c.known_at-known.result.now.given) (version_in (pages c.args.port.now) (ask_view c.args.ask.now))) c.in_ok-place.ensures.asked c.in_ok-found.ensures.found)
 
 pub returns-clause-clear : goal.returns-clause-clear
@@ -31,7 +31,7 @@ returns-clause-clear g c =
 pub returns-then-is_base-clause-joined : goal.returns-then-is_base-clause-joined
 returns-then-is_base-clause-joined g c =
     visited_here c.see_to.new.self (setting_view c.args.self.now.setting.now) c.args.port.now (ask_view c.args.ask.now) c.known_at-known.result.now c.known_at-known.result.now.base (c.known_at-known.ensures c.args.port.now c.in_ok-place.ensures.there)
-    (g.C.Catalogue.state c.args.cat.now).pages c.seen_floor.result.joined c.seen_floor.ensures.joined c.in_ok-place.ensures.kept
+    (g.C.Catalogue.state c.args.cat.now).pages (is_some c.seen_floor.result.seat) c.seen_floor.ensures.joined c.in_ok-place.ensures.kept
     (base_here c.see_to.new.self c.args.port.now (ask_view c.args.ask.now) c.known_at-known.result.now c.is_base.result (c.known_at-known.ensures c.args.port.now c.in_ok-place.ensures.there) c.is_base.ensures c.if-is_base.true (g.C.Catalogue.state c.args.cat.now).pages c.in_ok-place.ensures.kept)
 
 pub returns-then-is_base-clause-clear : goal.returns-then-is_base-clause-clear
