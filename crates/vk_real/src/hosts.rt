@@ -96,8 +96,8 @@ impl<R: Files + AllocGlobal> Host<R> {
         Ok(if_there(fs::metadata(&self.rt, path))?.filter(|found| found.is_file()))
     }
 
-    /// What stands at a path, opened. It is asked what it is after that, so that its path is looked
-    /// up once.
+    /// What stands at a path, opened. Whether it is a file is seen after that, so that its path is
+    /// looked up once.
     pub(crate) fn open(&self, path: &str) -> io::Result<Option<R::File>> {
         match if_there(fs::open(&self.rt, path)) {
             Ok(opened) => Ok(opened),

@@ -106,8 +106,9 @@ impl<R: Files + AllocGlobal> Host<R> {
     }
 }
 
-// The bytes of what has an end and gives them all by one read: a file does. `None` where what is
-// open has to be asked what it is: it has no end, no bytes, more than the limit, or it changed.
+// The bytes of what has an end and gives them all by one read, as a file does. `None` where what is
+// open has to be asked what it is: it has no end, no bytes, more than the limit, can't be read, or
+// changed. It is at its beginning then, as it was before.
 fn read_at_once<F: FileExt + Seek>(
     alloc: Global,
     file: &mut F,
@@ -115,35 +116,34 @@ fn read_at_once<F: FileExt + Seek>(
 ) -> io::Result<Option<Vec<u8>>>
     ensures { IfOk result (λ read. IfSome read (λ bytes. length bytes.items ≤ limit)) }
 {
-    let size = match file.seek(SeekFrom::End(0)) {
-        Ok(size) if size > 0 && size <= limit => size,
-        Ok(_) | Err(_) => return Ok(None),
+    let Ok(size) = file.seek(SeekFrom::End(0)) else {
+        return Ok(None);
     };
-    let mut bytes = Vec::from_elem(alloc, 0, (size as usize).saturating_add(1))?;
-    match file.read_at(&mut bytes, 0) {
-        Ok(count) if count as u64 == size => {
-            bytes.truncate(count);
-            Ok(Some(bytes))
+    if size > 0 && size <= limit {
+        let mut bytes = Vec::from_elem(alloc, 0, (size as usize).saturating_add(1))?;
+        if matches!(file.read_at(&mut bytes, 0), Ok(count) if count as u64 == size) {
+            bytes.truncate(size as usize);
+            return Ok(Some(bytes));
         }
-        Ok(_) | Err(_) => Ok(None),
     }
+    file.seek(SeekFrom::Start(0))?;
+    Ok(None)
 }
 
-// The bytes of what was opened, if it is a file, from its beginning.
-fn read_asked<F: Read + Seek + OpenFile + Drop>(
+// The bytes of what was opened, if it is a file.
+fn read_asked<F: Read + OpenFile + Drop>(
     alloc: Global,
     file: F,
     limit: u64,
 ) -> Came<List<u8>, ReadFault>
     ensures { IfOk result (λ read. IfOk read (λ bytes. length bytes ≤ limit)) }
 {
-    let Some(Opened { mut file, size }) = if_file(file)? else {
+    let Some(Opened { file, size }) = if_file(file)? else {
         return Ok(Err(ReadFault::Missing));
     };
     if size > limit {
         return Ok(Err(ReadFault::TooLarge));
     }
-    file.seek(SeekFrom::Start(0))?;
     let bytes = read_bytes(alloc, file, size, limit.saturating_add(1))?;
     if bytes.len() as u64 > limit {
         return Ok(Err(ReadFault::TooLarge));
