@@ -2,6 +2,7 @@
 """Writes a project and its registry, for measuring. The same words write the same bytes.
 
   plain     SIZE ports without dependencies, six versions each, all asked for by the root
+  shared    as plain with one version a port, and a registry for each, all in one folder
   folders   SIZE ports without dependencies, one version each, with six files besides the manifest
   load      a chain of SIZE ports with two versions, whose lower one asks for one more port
   real      a registry of SIZE ports as people keep them, and four projects over it
@@ -19,6 +20,7 @@ import shapes
 
 KINDS = {
     "plain": (shapes.plain, 1, 20000),
+    "shared": (shapes.shared, 1, 20000),
     "folders": (shapes.folders, 1, 10000),
     "load": (shapes.load, 1, 10000),
     "real": (realistic.registry, 20, 5000),

@@ -61,6 +61,17 @@ def folders(size, seed, files=6, bytes_each=3200):
             yield f"reg/ports/port-{number:05}/1.1.0/patches/{file:02}.diff", text
 
 
+def shared(size, seed):
+    """Registries in one folder: each port has an entry of its own in the configuration."""
+    configuration = "vcpkg-configuration.json"
+    ports = [f"port-{number:05}" for number in range(size)]
+    entries = [{"kind": "filesystem", "path": "reg", "packages": [port]} for port in ports]
+    for path, text in plain(size, seed, rows=1):
+        if path != configuration:
+            yield path, text
+    yield configuration, pretty({"default-registry": None, "registries": entries})
+
+
 def load(size, _seed):
     """Closing and nothing else: 8 * size + 2 facts, half of them from superseded versions."""
     ports = [f"p{number:04}" for number in range(size)]

@@ -1,6 +1,7 @@
 //! Registries: where ports come from.
-ghost use Rattle.std.specs.Prelude.{◌≡◌, List, Ok, map, option_map};
+ghost use Rattle.std.specs.Prelude.{◌≡◌, ℕ, List, Ok, map, option_map};
 ghost use Rattle.vk_json.specs.Values.{view};
+ghost use Rattle.vk_json.specs.Readings.{text_at};
 ghost use Rattle.vk_spec.specs.Reading.{Gives};
 ghost use Rattle.vk_base.specs.Stops.{fault_in};
 ghost use Rattle.vk_config.specs.Configs as plain;
@@ -11,11 +12,9 @@ ghost use Rattle.vk_config.specs.Views.{kind_view, source_view, pattern_view, re
 
 use crate::patterns::{Pattern, PatternText};
 use std::alloc::Global;
-use vk_base::{List, Text, TreePath, Unread};
+use vk_base::{List, SharedText, TreePath, Unread};
 use vk_fields::PathText;
-use vk_json::{
-    AnyText, FileFault, ListOf, Reader, Value, Why, object, optional_or, text, wanted, wrong,
-};
+use vk_json::{FileFault, ListOf, Reader, Value, Why, object, optional_or, text, wanted, wrong};
 
 /// Where a registry has its ports from.
 #[derive(Drop)]
@@ -25,7 +24,7 @@ pub enum Source {
         /// The folder, from the project's folder on.
         path: TreePath,
         /// Which of the baselines in its baseline file counts.
-        baseline: Text,
+        baseline: SharedText,
     },
     /// A Git repository, which the program can't read.
     Git,
@@ -82,13 +81,31 @@ impl Reader for KindText {
     }
 }
 
+// Reads a baseline's name, which is any text.
+#[derive(Drop)]
+struct BaselineName;
+
+impl Reader for BaselineName {
+    type Out = SharedText;
+
+    ghost Plain = { List ℕ };
+
+    ghost plain = { λ t. t };
+
+    ghost reads = { λ r. text_at };
+
+    fn read(&self, alloc: Global, value: &Value) -> Result<SharedText, Unread<FileFault>> {
+        Ok(SharedText::from_str(alloc, text(alloc, value)?)?)
+    }
+}
+
 #[tactic(auto, unfolding(crate::specs::Registries::folder_in))]
 fn read_folder(alloc: Global, value: &Value) -> Result<Source, Unread<FileFault>>
     ensures { Gives source_view fault_in result (folder_in (view value.now)) }
 {
     let path = wanted(alloc, value, "path", &PathText)?;
-    let default = Text::from_str(alloc, "default")?;
-    let baseline = optional_or(alloc, value, "baseline", &AnyText, default)?;
+    let default = SharedText::from_str(alloc, "default")?;
+    let baseline = optional_or(alloc, value, "baseline", &BaselineName, default)?;
     Ok(Source::Filesystem { path, baseline })
 }
 

@@ -1,27 +1,33 @@
--- The baselines that were read, by the places of their registries in a configuration.
-use Rattle.std.specs.Prelude.{◌≡◌, ℕ, List, Option, Result, Ok, IfOk, nat_eq}
+-- The baselines that were read, by the registry's folder and the baseline's name.
+use Rattle.std.specs.Prelude.{◌≡◌, ◌&&◌, Bool, List, Option, Result, Ok, bytes_eq}
 use Rattle.std.specs.Map.{lookup}
 use Rattle.vk_spec.specs.Files.{Files}
 use Rattle.vk_spec.specs.Pages.{Wrong}
 use Rattle.vk_registry.specs.Baselines.{Entry}
 use Rattle.vk_files.specs.Notes.{AreRight}
 use Rattle.vk_files.specs.Readings.{Bad}
-use Rattle.vk_opening.specs.Starts.{Start}
-use Rattle.vk_pages.specs.Homes.{served_at, baseline_file}
+use Rattle.vk_files.specs.Views.{same_path}
+use Rattle.vk_pages.specs.Homes.{baseline_file}
+use Rattle.vk_pages.specs.HomeViews.{served_view}
+use Rattle.vk_pages.specs.declared.served.Served.{Served}
 
--- places, each with what the baseline of the registry there means, or what is wrong with its file
+-- whether registries are in one folder, and one baseline counts of both
+abbrev pub same_served : Served → Served → Bool
+same_served one other = same_path one.folder other.folder && bytes_eq one.baseline other.baseline
+
+-- registries, each with what its baseline means, or what is wrong with its file
 abbrev pub BaselineNotes : Type 0
-BaselineNotes = List (ℕ × Result (List Entry) Bad)
+BaselineNotes = List (Served × Result (List Entry) Bad)
 
-abbrev pub note_at : ℕ → BaselineNotes → Option (Result (List Entry) Bad)
-note_at place notes = lookup (nat_eq place) notes
+abbrev pub note_of : Served → BaselineNotes → Option (Result (List Entry) Bad)
+note_of served notes = lookup (same_served served) notes
 
 -- what is noted of a registry is what its file says
-abbrev pub IsBaselineAt : Start → Files → ℕ → Result (List Entry) Bad → Type 0
-IsBaselineAt start files place read = IfOk (served_at start place) (λ served. read ≡ baseline_file served files)
+abbrev pub IsBaselineOf : Files → Served → Result (List Entry) Bad → Type 0
+IsBaselineOf files served read = read ≡ baseline_file (served_view served) files
 
-abbrev pub AreBaselines : Start → BaselineNotes → Files → Type 0
-AreBaselines start notes files = AreRight (IsBaselineAt start files) notes
+abbrev pub AreBaselines : BaselineNotes → Files → Type 0
+AreBaselines notes files = AreRight (IsBaselineOf files) notes
 
 -- what taking a note answers
 abbrev pub nothing_said : Files → Result (Unit {0}) Wrong

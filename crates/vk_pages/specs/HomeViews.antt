@@ -22,7 +22,7 @@ abbrev pub layout_view : Layout → Start
 layout_view l = record { folder = l.folder; config = config_view l.config; overlays = map overlay_view l.overlays; overrides = l.overrides }
 
 abbrev pub served_view : Served → plain.Served
-served_view s = record { folder = s.folder; baseline = s.baseline.now }
+served_view s = record { folder = s.folder; baseline = s.baseline }
 
 -- the home in a registry in this folder
 abbrev pub table_home : Path → GivenTable → plain.Home

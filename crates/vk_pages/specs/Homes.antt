@@ -84,10 +84,6 @@ abbrev pub source_in : Config → Option ℕ → Option Source
 source_in config None = None
 source_in config (Some place) = source_at config place
 
--- the registry at a place
-abbrev pub served_at : Start → ℕ → Result Served Wrong
-served_at start place = served_by start.folder (source_at start.config place)
-
 -- the registry that serves the port
 abbrev pub served_for : Start → List ℕ → Result Served Wrong
 served_for start port = served_by start.folder (source_in start.config (place_of start.config port))

@@ -1,6 +1,6 @@
 //! The baselines that were read, so that each file is read and parsed once.
 ghost use Rattle.std.specs.Prelude.{◌≡◌, ◌<◌, ◌++◌, ◌∷◌, [], List, Result, Ok, Some, None, IfOk};
-ghost use Rattle.std.specs.Prelude.{false, length, nat_eq, option_map, slice_get};
+ghost use Rattle.std.specs.Prelude.{false, length, option_map, slice_get};
 ghost use Rattle.indexmap.specs.IndexMap.{spare};
 ghost use Rattle.vk_spec.specs.Reading.{Gives, Fails};
 ghost use Rattle.vk_registry.specs.Baselines.{Entry};
@@ -11,10 +11,9 @@ ghost use Rattle.vk_files.specs.Within.{LooksWithin};
 ghost use Rattle.vk_base.specs.Stops.{is_failure, has_failed};
 ghost use Rattle.vk_files.specs.StopViews.{fault_seen};
 ghost use Rattle.vk_files.specs.Readings.{Bad, bad_view, ReadsAs, ReadsNoting};
-ghost use Rattle.vk_opening.specs.Starts as plain;
 ghost use Rattle.vk_pages.specs.RegistryFiles.{baseline_path};
-ghost use Rattle.vk_pages.specs.Homes.{served_at, baseline_file, baseline_given, baseline_for};
-ghost use Rattle.vk_pages.specs.BaselineNotes.{AreBaselines, note_at, nothing_said};
+ghost use Rattle.vk_pages.specs.Homes.{baseline_file, baseline_given, baseline_for};
+ghost use Rattle.vk_pages.specs.BaselineNotes.{AreBaselines, note_of, nothing_said, same_served};
 ghost use Rattle.vk_pages.specs.HomeViews.{served_view};
 ghost use Rattle.vk_pages.specs.NoteViews.{read_view, notes_of};
 
@@ -29,11 +28,11 @@ use vk_files::{BadFile, FileCache, read_file};
 use vk_registry::{Baseline, baseline_of};
 use vk_tree::Tree;
 
-/// The baselines that were read, a bad one too, by the places of their registries in the
-/// configuration.
+/// The baselines that were read, a bad one too, by the registry's folder and the baseline's name:
+/// registries that share both share the baseline.
 #[derive(Drop)]
 pub struct Baselines {
-    read: IndexMap<usize, Result<Baseline, BadFile>>,
+    read: IndexMap<Served, Result<Baseline, BadFile>>,
 }
 
 // A stop, which at a bad file is none.
@@ -64,7 +63,7 @@ fn read_baseline<T: Tree>(
 {
     let path = baseline_path(alloc, &served.folder)?;
     let reader = NamedBaseline {
-        name: served.baseline,
+        name: &served.baseline,
     };
     match read_file(alloc, files, tree, &path, &reader) {
         Ok(baseline) => Ok(Ok(baseline)),
@@ -107,12 +106,12 @@ impl Baselines {
     }
 
     // Keeps what was read of a registry of which nothing is kept, and for which there is room.
-    fn keep(&mut self, place: usize, read: Result<Baseline, BadFile>)
+    fn keep(&mut self, served: Served, read: Result<Baseline, BadFile>)
         requires room { 0 < spare self.old.read }
-        requires new { note_at place (notes_of self.old) ≡ None }
-        ensures { notes_of self.new ≡ notes_of self.old ++ (place, read_view read) ∷ [] }
+        requires new { note_of served (notes_of self.old) ≡ None }
+        ensures { notes_of self.new ≡ notes_of self.old ++ (served, read_view read) ∷ [] }
     {
-        let _ = self.read.insert(place, read);
+        let _ = self.read.insert(served, read);
     }
 
     // Reads the baseline of a registry that wasn't looked at yet, and tells its place among those
@@ -124,19 +123,19 @@ impl Baselines {
         tree: &mut T,
         served: &Served,
     ) -> Result<usize, Stop<Wrong>>
-        requires { note_at served.now.place (notes_of self.old) ≡ None }
-        ensures noted { (start : plain.Start) → served_at start served.now.place ≡ Ok
-            (served_view served.now) → ReadsNoting wrong_view (λ done. tt) result nothing_said
-            (AreBaselines start (notes_of self.old)) (AreBaselines start (notes_of self.new))
+        requires { note_of served.now (notes_of self.old) ≡ None }
+        ensures noted { ReadsNoting wrong_view (λ done. tt) result nothing_said
+            (AreBaselines (notes_of self.old)) (AreBaselines (notes_of self.new))
             (held files.old (T.state tree.old)) (held files.new (T.state tree.new)) }
-        ensures there { IfOk result (IsNoteAt (nat_eq served.now.place) (notes_of self.new)) }
+        ensures there { IfOk result (IsNoteAt (same_served served.now) (notes_of self.new)) }
         ensures asked { LooksWithin (baseline_path served.now.folder ∷ [])
             (kept_of files.old) (kept_of files.new) }
     {
+        let key = served.clone()?;
         self.read.reserve(1)?;
         let read = read_baseline(alloc, files, tree, served)?;
         let place = self.read.len();
-        self.keep(served.place, read);
+        self.keep(key, read);
         Ok(place)
     }
 
@@ -149,15 +148,14 @@ impl Baselines {
         tree: &mut T,
         served: &Served,
     ) -> Result<usize, Stop<Wrong>>
-        ensures noted { (start : plain.Start) → served_at start served.now.place ≡ Ok
-            (served_view served.now) → ReadsNoting wrong_view (λ done. tt) result nothing_said
-            (AreBaselines start (notes_of self.old)) (AreBaselines start (notes_of self.new))
+        ensures noted { ReadsNoting wrong_view (λ done. tt) result nothing_said
+            (AreBaselines (notes_of self.old)) (AreBaselines (notes_of self.new))
             (held files.old (T.state tree.old)) (held files.new (T.state tree.new)) }
-        ensures there { IfOk result (IsNoteAt (nat_eq served.now.place) (notes_of self.new)) }
+        ensures there { IfOk result (IsNoteAt (same_served served.now) (notes_of self.new)) }
         ensures asked { LooksWithin (baseline_path served.now.folder ∷ [])
             (kept_of files.old) (kept_of files.new) }
     {
-        match self.read.get_index_of(&served.place) {
+        match self.read.get_index_of(served) {
             Some(place) => Ok(place),
             None => self.note(alloc, files, tree, served),
         }
@@ -182,10 +180,9 @@ impl Baselines {
         served: &Served,
         port: &PortName,
     ) -> Result<Given, Stop<Wrong>>
-        ensures reads { (start : plain.Start) → served_at start served.now.place ≡ Ok
-            (served_view served.now) → ReadsNoting wrong_view given_view result
+        ensures reads { ReadsNoting wrong_view given_view result
             (baseline_for (served_view served.now) port.now)
-            (AreBaselines start (notes_of self.old)) (AreBaselines start (notes_of self.new))
+            (AreBaselines (notes_of self.old)) (AreBaselines (notes_of self.new))
             (held files.old (T.state tree.old)) (held files.new (T.state tree.new)) }
         ensures asked { LooksWithin (baseline_path served.now.folder ∷ [])
             (kept_of files.old) (kept_of files.new) }

@@ -13,7 +13,7 @@ ghost use Rattle.vk_files.specs.Readings.{ReadsAs, bad_view, is_at};
 ghost use Rattle.vk_pages.specs.Wrongs.{wrong_of, file_or_wrong};
 
 use std::alloc::Global;
-use vk_base::{Stop, Text, TreePath, Unread};
+use vk_base::{SharedText, Stop, TreePath, Unread};
 use vk_catalogue::Wrong;
 use vk_files::{BadFile, FileCache, FileReader, file_standing, read_file};
 use vk_json::{Doc, FileFault, Scratch};
@@ -24,7 +24,7 @@ use vk_tree::Tree;
 #[derive(Drop)]
 pub struct NamedBaseline<'a> {
     /// The name of the baseline that counts.
-    pub name: &'a Text,
+    pub name: &'a SharedText,
 }
 
 impl<'a> FileReader for NamedBaseline<'a> {

@@ -75,11 +75,11 @@ pub fn home_of<T: Tree>(
 ) -> Result<Home, Stop<Wrong>>
     ensures reads { ReadsNoting wrong_view home_view result
         (home_of (layout_view layout.now) port.now)
-        (AreBaselines (layout_view layout.now) (notes_of baselines.old))
-        (AreBaselines (layout_view layout.now) (notes_of baselines.new))
+        (AreBaselines (notes_of baselines.old))
+        (AreBaselines (notes_of baselines.new))
         (held files.old (T.state tree.old)) (held files.new (T.state tree.new)) }
     ensures asked { LooksNoting (λ f. home_paths (layout_view layout.now) f port.now)
-        (AreBaselines (layout_view layout.now) (notes_of baselines.old))
+        (AreBaselines (notes_of baselines.old))
         (held files.old (T.state tree.old)) (held files.new (T.state tree.new)) }
 {
     match overlay_for(alloc, layout.overlays.as_slice(), files, tree, port)? {

@@ -9,8 +9,7 @@ ghost use Rattle.vk_files.specs.Within.{LooksWithin};
 ghost use Rattle.vk_base.specs.Stops.{has_failed};
 ghost use Rattle.vk_files.specs.StopViews.{fault_seen};
 ghost use Rattle.vk_files.specs.Readings.{ReadsAs, ReadsNoting};
-ghost use Rattle.vk_opening.specs.Starts as plain;
-ghost use Rattle.vk_pages.specs.Homes.{served_at, given_by, table_in, served_home};
+ghost use Rattle.vk_pages.specs.Homes.{given_by, table_in, served_home};
 ghost use Rattle.vk_pages.specs.Homes.{registry_home};
 ghost use Rattle.vk_pages.specs.RegistryFiles.{table_path};
 ghost use Rattle.vk_pages.specs.Asked.{given_paths, served_paths, registry_paths};
@@ -50,11 +49,9 @@ fn given_by<T: Tree>(
     tree: &mut T,
     port: &PortName,
 ) -> Result<Given, Stop<Wrong>>
-    ensures reads { (start : plain.Start)
-        → served_at start served.now.place ≡ Ok (served_view served.now)
-        → ReadsNoting wrong_view given_view result
+    ensures reads { ReadsNoting wrong_view given_view result
         (given_by (option_map (λ a. ask_view a.now) set.entry) (served_view served.now) port.now)
-        (AreBaselines start (notes_of baselines.old)) (AreBaselines start (notes_of baselines.new))
+        (AreBaselines (notes_of baselines.old)) (AreBaselines (notes_of baselines.new))
         (held files.old (T.state tree.old)) (held files.new (T.state tree.new)) }
     ensures asked { LooksWithin
         (given_paths (option_map (λ a. ask_view a.now) set.entry) (served_view served.now))
@@ -98,17 +95,14 @@ fn given_table<T: Tree>(
     tree: &mut T,
     port: &PortName,
 ) -> Result<GivenTable, Stop<Wrong>>
-    ensures reads { (start : plain.Start)
-        → served_at start served.now.place ≡ Ok (served_view served.now)
-        → ReadsNoting wrong_view (table_home served.now.folder) result
+    ensures reads { ReadsNoting wrong_view (table_home served.now.folder) result
         (served_home (option_map (λ a. ask_view a.now) set.entry) (served_view served.now) port.now)
-        (AreBaselines start (notes_of baselines.old)) (AreBaselines start (notes_of baselines.new))
+        (AreBaselines (notes_of baselines.old)) (AreBaselines (notes_of baselines.new))
         (held files.old (T.state tree.old)) (held files.new (T.state tree.new)) }
-    ensures asked { (start : plain.Start)
-        → served_at start served.now.place ≡ Ok (served_view served.now) → LooksNoting
+    ensures asked { LooksNoting
         (λ f. served_paths (option_map (λ a. ask_view a.now) set.entry) (served_view served.now)
         f port.now)
-        (AreBaselines start (notes_of baselines.old))
+        (AreBaselines (notes_of baselines.old))
         (held files.old (T.state tree.old)) (held files.new (T.state tree.new)) }
 {
     let given = given_by(alloc, set, served, files, baselines, tree, port)?;
@@ -126,17 +120,14 @@ fn served_home<T: Tree>(
     tree: &mut T,
     port: &PortName,
 ) -> Result<Home, Stop<Wrong>>
-    ensures reads { (start : plain.Start)
-        → served_at start served.entry.place ≡ Ok (served_view served.entry)
-        → ReadsNoting wrong_view home_view result
-        (served_home (option_map (λ a. ask_view a.now) set.entry) (served_view served.entry) port.now)
-        (AreBaselines start (notes_of baselines.old)) (AreBaselines start (notes_of baselines.new))
+    ensures reads { ReadsNoting wrong_view home_view result
+        (served_home (option_map (λ a. ask_view a.now) set.entry) (served_view served) port.now)
+        (AreBaselines (notes_of baselines.old)) (AreBaselines (notes_of baselines.new))
         (held files.old (T.state tree.old)) (held files.new (T.state tree.new)) }
-    ensures asked { (start : plain.Start)
-        → served_at start served.entry.place ≡ Ok (served_view served.entry) → LooksNoting
-        (λ f. served_paths (option_map (λ a. ask_view a.now) set.entry) (served_view served.entry)
+    ensures asked { LooksNoting
+        (λ f. served_paths (option_map (λ a. ask_view a.now) set.entry) (served_view served)
         f port.now)
-        (AreBaselines start (notes_of baselines.old))
+        (AreBaselines (notes_of baselines.old))
         (held files.old (T.state tree.old)) (held files.new (T.state tree.new)) }
 {
     let found = given_table(alloc, set, &served, files, baselines, tree, port)?;
@@ -160,11 +151,11 @@ pub fn registry_home<T: Tree>(
 ) -> Result<Home, Stop<Wrong>>
     ensures reads { ReadsNoting wrong_view home_view result
         (registry_home (layout_view layout.now) port.now)
-        (AreBaselines (layout_view layout.now) (notes_of baselines.old))
-        (AreBaselines (layout_view layout.now) (notes_of baselines.new))
+        (AreBaselines (notes_of baselines.old))
+        (AreBaselines (notes_of baselines.new))
         (held files.old (T.state tree.old)) (held files.new (T.state tree.new)) }
     ensures asked { LooksNoting (λ f. registry_paths (layout_view layout.now) f port.now)
-        (AreBaselines (layout_view layout.now) (notes_of baselines.old))
+        (AreBaselines (notes_of baselines.old))
         (held files.old (T.state tree.old)) (held files.new (T.state tree.new)) }
 {
     let served = served_for(alloc, layout, port)?;

@@ -1,29 +1,28 @@
 //! The registry that serves a port.
-ghost use Rattle.std.specs.Prelude.{◌≡◌, Ok, Some, IfOk, false, option_map};
+ghost use Rattle.std.specs.Prelude.{◌≡◌, Some, false, option_map};
 ghost use Rattle.vk_spec.specs.Reading.{Gives};
 ghost use Rattle.vk_config.specs.Views.{config_view, source_view};
 ghost use Rattle.vk_catalogue.specs.Views.{wrong_view};
 ghost use Rattle.vk_base.specs.Stops.{has_failed};
 ghost use Rattle.vk_files.specs.StopViews.{fault_seen};
-ghost use Rattle.vk_pages.specs.Homes.{source_at, served_by, served_at, served_for};
+ghost use Rattle.vk_pages.specs.Homes.{source_at, served_by, served_for};
 ghost use Rattle.vk_pages.specs.HomeViews.{layout_view, served_view};
 
 use crate::homes::Layout;
 use std::alloc::Global;
-use vk_base::{PortName, Stop, Text, TreePath};
+use std::hash::Hash;
+use vk_base::{PortName, SharedText, Stop, TreePath};
 use vk_catalogue::Wrong;
 use vk_config::{Config, Source, registry_of};
 use vk_opening::from_folder;
 
 /// A registry in a folder.
-#[derive(Drop)]
-pub struct Served<'a> {
-    /// Its place in the configuration.
-    pub place: usize,
+#[derive(Clone, PartialEq, Eq, Hash, Drop)]
+pub struct Served {
     /// The folder.
     pub folder: TreePath,
     /// The name of the baseline that counts.
-    pub baseline: &'a Text,
+    pub baseline: SharedText,
 }
 
 // The source at a place: their number is the default registry's.
@@ -41,37 +40,24 @@ fn source_at(config: &Config, place: usize) -> Option<&Source>
 }
 
 // Where a registry is, by its source.
-fn served_by<'a>(
-    alloc: Global,
-    project: &TreePath,
-    place: usize,
-    source: &'a Source,
-) -> Result<Served<'a>, Stop<Wrong>>
+fn served_by(alloc: Global, project: &TreePath, source: &Source) -> Result<Served, Stop<Wrong>>
     ensures told { Gives served_view (fault_seen wrong_view) result
         (served_by project.now (Some (source_view source.now))) }
-    ensures place { IfOk result (λ s. s.place ≡ place) }
     ensures calm { has_failed result ≡ false }
 {
     match source {
         Source::Filesystem { path, baseline } => Ok(Served {
-            place,
             folder: from_folder(alloc, project, path)?,
-            baseline,
+            baseline: baseline.clone()?,
         }),
         Source::Git | Source::Builtin | Source::Artifact => Err(Stop::Fault(Wrong::NoRegistry)),
     }
 }
 
 /// The registry that serves a port. `Fault` says that none does.
-pub fn served_for<'a>(
-    alloc: Global,
-    layout: &'a Layout,
-    port: &PortName,
-) -> Result<Served<'a>, Stop<Wrong>>
+pub fn served_for(alloc: Global, layout: &Layout, port: &PortName) -> Result<Served, Stop<Wrong>>
     ensures told { Gives served_view (fault_seen wrong_view) result
         (served_for (layout_view layout.now) port.now) }
-    ensures place { IfOk result
-        (λ s. served_at (layout_view layout.now) s.place ≡ Ok (served_view s)) }
     ensures calm { has_failed result ≡ false }
 {
     let Some(place) = registry_of(&layout.config, port) else {
@@ -80,5 +66,5 @@ pub fn served_for<'a>(
     let Some(source) = source_at(&layout.config, place) else {
         return Err(Stop::Fault(Wrong::NoRegistry));
     };
-    served_by(alloc, &layout.folder, place, source)
+    served_by(alloc, &layout.folder, source)
 }

@@ -18,7 +18,6 @@ use Rattle.vk_model.specs.declared.wrongs.Given as declared
 use Rattle.vk_model.specs.declared.manifests.Manifest.{Manifest}
 use Rattle.std.specs.declared.rc.Rc.{Rc}
 use Rattle.vk_version.specs.AskViews.{ask_view}
-use Rattle.vk_version.specs.declared.asks.Ask as declared_ask
 use Rattle.vk_version.specs.declared.versions.Version.{Version}
 use Rattle.vk_files.specs.Kept.{Held}
 use Rattle.vk_files.specs.declared.caches.FileCache.{FileCache}
@@ -37,6 +36,7 @@ use Rattle.vk_world.specs.ManifestAnswers.{IsManifestFor}
 use Rattle.vk_world.specs.Libraries.{start_of, IsRight, Stays, SaysFolderOf, SaysGivenOf, SaysVersionOf, SaysManifestOf}
 use Rattle.vk_world.specs.declared.homes.Homes.{Homes}
 use Rattle.vk_world.specs.declared.manifests.Manifests.{Manifests}
+use Rattle.vk_world.specs.declared.port_asks.PortAsk.{PortAsk}
 use Rattle.vk_world.specs.declared.libraries.Library.{Library}
 use Rattle.vk_world.proofs.LearnLemmas.{learns_pure, learns_then, learns_so, learns_within}
 use Rattle.vk_world.proofs.ListedLemmas.{given_on_page, version_on_page}
@@ -131,13 +131,13 @@ manifest_kept {Z = Z} {lib = lib} {mid = mid} port m {answer = answer} ask manif
     again (Err stop) same f says = tt
 
 -- what was kept is answered again
-pub manifest_again : {Z : Type 0} (lib : Library) (port : List ℕ) {answer : Result (Result (Rc Manifest Z) Wrong) Outage} (h : Held) (ask : declared_ask.Ask) (found : FoundManifest)
-    → manifest_noted port (ask_view ask) lib.manifests ≡ Some found → IfOk answer (λ m. manifest_said m ≡ found) → was_out answer ≡ false
-    → Learns answer (SaysManifestOf (start_of lib) port (ask_view ask)) (λ f. page_paths (start_of lib) f port) (IsRight lib) (IsRight lib) h h
-manifest_again {Z = Z} lib port {answer = answer} h ask found noted told calm =
-    learns_pure answer (SaysManifestOf (start_of lib) port (ask_view ask)) (IsRight lib) (IsRight lib) h calm
-    (λ f right. (right, again answer told f (note_right (start_of lib) f port ask lib.manifests found right.manifests noted)))
+pub manifest_again : {Z : Type 0} (lib : Library) (key : PortAsk) {answer : Result (Result (Rc Manifest Z) Wrong) Outage} (h : Held) (found : FoundManifest)
+    → manifest_noted key lib.manifests ≡ Some found → IfOk answer (λ m. manifest_said m ≡ found) → was_out answer ≡ false
+    → Learns answer (SaysManifestOf (start_of lib) key.port (ask_view key.ask)) (λ f. page_paths (start_of lib) f key.port) (IsRight lib) (IsRight lib) h h
+manifest_again {Z = Z} lib key {answer = answer} h found noted told calm =
+    learns_pure answer (SaysManifestOf (start_of lib) key.port (ask_view key.ask)) (IsRight lib) (IsRight lib) h calm
+    (λ f right. (right, again answer told f (note_right (start_of lib) f key lib.manifests found right.manifests noted)))
   where
-    again : (r : Result (Result (Rc Manifest Z) Wrong) Outage) → IfOk r (λ m. manifest_said m ≡ found) → (f : Files) → IsManifestOf (start_of lib) f port (ask_view ask) found → IfOk r (SaysManifestOf (start_of lib) port (ask_view ask) f)
-    again (Ok m) same f says = subst (IsManifestOf (start_of lib) f port (ask_view ask)) (sym same) says
+    again : (r : Result (Result (Rc Manifest Z) Wrong) Outage) → IfOk r (λ m. manifest_said m ≡ found) → (f : Files) → IsManifestOf (start_of lib) f key.port (ask_view key.ask) found → IfOk r (SaysManifestOf (start_of lib) key.port (ask_view key.ask) f)
+    again (Ok m) same f says = subst (IsManifestOf (start_of lib) f key.port (ask_view key.ask)) (sym same) says
     again (Err stop) same f says = tt

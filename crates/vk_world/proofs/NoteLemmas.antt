@@ -1,31 +1,31 @@
 -- The manifests that are kept: one found again, and one more.
 use Rattle.std.proofs.Common.{◌≡◌, ℕ, Bool, true, false, List, [], ◌∷◌, refl, subst}
-use Rattle.std.specs.Prelude.{Some, if◌then◌else◌}
+use Rattle.std.specs.Prelude.{Some, bytes_eq, if◌then◌else◌}
+use Rattle.std.proofs.lemmas.Slice.Eq.{bytes_eq-Decides}
 use Rattle.indexmap.specs.IndexMap.{insert_entry}
 use Rattle.vk_spec.specs.Files.{Files}
 use Rattle.vk_version.specs.AskViews.{ask_view}
-use Rattle.vk_version.specs.declared.asks.Ask.{Ask}
+use Rattle.vk_spec.specs.Versions.{same_ask}
+use Rattle.vk_spec.proofs.VersionLemmas.{both_decide, asks_equal, ask_itself}
 use Rattle.vk_files.specs.Notes.{AreRight}
 use Rattle.vk_files.proofs.NoteLemmas.{right_found}
 use Rattle.vk_files.proofs.NotedLemmas.{noted}
 use Rattle.vk_opening.specs.Starts.{Start}
 use Rattle.vk_world.specs.PortAsks.{same_asked}
-use Rattle.vk_world.specs.AskLaws.{asked_decides}
 use Rattle.vk_world.specs.ManifestNotes.{FoundManifest, manifests_in, manifest_noted, IsManifestOf, IsNoteOf, AreManifests}
 use Rattle.vk_world.specs.declared.manifests.Manifests.{Manifests}
 use Rattle.vk_world.specs.declared.port_asks.PortAsk.{PortAsk}
 
-abbrev pub same_keys : PortAsk → PortAsk → Bool
-same_keys a b = same_asked a.port (ask_view a.ask) b.port (ask_view b.ask)
-
-pub key_is : (a b : PortAsk) → same_keys a b ≡ true → a ≡ b
+pub key_is : (a b : PortAsk) → same_asked a b ≡ true → a ≡ b
 key_is a b e =
-    let p = (asked_decides a.port (ask_view a.ask) b.port (ask_view b.ask)).0 e in
+    let one = ask_view a.ask in
+    let other = ask_view b.ask in
+    let p = (both_decide (bytes_eq a.port b.port) (same_ask one other) (bytes_eq-Decides a.port b.port) (asks_equal one other, λ q. subst (λ x. same_ask one x ≡ true) q (ask_itself one))).0 e in
     λ i. record { port = p.0 i; ask = record { text = (p.1 i).text; port = (p.1 i).port } }
 
 -- what is kept for a port and an ask is right of them
-pub note_right : (start : Start) (files : Files) (port : List ℕ) (ask : Ask) (manifests : Manifests) (found : FoundManifest) → AreManifests start manifests files → manifest_noted port (ask_view ask) manifests ≡ Some found → IsManifestOf start files port (ask_view ask) found
-note_right start files port ask manifests found right noted = right_found (IsNoteOf start files) same_keys key_is (manifests_in manifests) (record { port = port; ask = ask }) found right noted
+pub note_right : (start : Start) (files : Files) (key : PortAsk) (manifests : Manifests) (found : FoundManifest) → AreManifests start manifests files → manifest_noted key manifests ≡ Some found → IsManifestOf start files key.port (ask_view key.ask) found
+note_right start files key manifests found right noted = right_found (IsNoteOf start files) same_asked key_is (manifests_in manifests) key found right noted
 
 -- with one note more that is right, or one in the place of another, all are
 pub right_put : {K V W : Type 0} (P : K → W → Type 0) (view : V → W) (eq : K → K → Bool) → ((x y : K) → eq x y ≡ true → x ≡ y)

@@ -39,5 +39,5 @@ IsHomeOf start files port found = found ≡ home_of start port files
 
 -- the baselines are those of the files, and so are the homes
 pub record AreHomes (start : Start) (homes : Homes) (files : Files) : Type 0 where
-  pub baselines : AreBaselines start (notes_of homes.baselines) files
+  pub baselines : AreBaselines (notes_of homes.baselines) files
   pub found : AreRight (IsHomeOf start files) (homes_in homes)

@@ -4,7 +4,6 @@ pub mod VersionFolders
 -- what functions, laws and examples say besides
 pub mod Learning
 pub mod PortAsks
-pub mod AskLaws
 pub mod ManifestNotes
 pub mod Listed
 pub mod ManifestAnswers

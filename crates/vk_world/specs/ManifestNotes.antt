@@ -34,8 +34,8 @@ abbrev pub manifests_in : Manifests → List (PortAsk × FoundManifest)
 manifests_in manifests = map (λ e. (e.0, kept_manifest e.1)) manifests.found.entries
 
 -- what was found for a port and an ask
-abbrev pub manifest_noted : List ℕ → Ask → Manifests → Option FoundManifest
-manifest_noted port ask manifests = lookup (λ key. same_asked port ask key.port (ask_view key.ask)) (manifests_in manifests)
+abbrev pub manifest_noted : PortAsk → Manifests → Option FoundManifest
+manifest_noted key manifests = lookup (same_asked key) (manifests_in manifests)
 
 -- it is what the port's page has for the ask, if a version is there
 abbrev pub IsManifestOf : Start → Files → List ℕ → Ask → FoundManifest → Type 0

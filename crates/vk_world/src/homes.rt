@@ -15,7 +15,6 @@ ghost use Rattle.vk_world.specs.Learning.{Learns, Means, SaysNothing};
 ghost use Rattle.vk_world.specs.HomeNotes.{boxed_home, found_home, homes_in, home_noted};
 ghost use Rattle.vk_world.specs.HomeNotes.{AreHomes};
 
-use crate::keeping::keep;
 use crate::settling::settle;
 use indexmap::IndexMap;
 use std::alloc::Global;
@@ -44,8 +43,8 @@ fn find_home<T: Tree>(
 ) -> Result<Result<Home, Wrong>, Outage>
     ensures { Learns result (Means found_home (home_of (layout_view layout.now) port.now))
         (λ f. home_paths (layout_view layout.now) f port.now)
-        (AreBaselines (layout_view layout.now) (notes_of baselines.old))
-        (AreBaselines (layout_view layout.now) (notes_of baselines.new))
+        (AreBaselines (notes_of baselines.old))
+        (AreBaselines (notes_of baselines.new))
         (held files.old (T.state tree.old)) (held files.new (T.state tree.new)) }
 {
     settle(home_of(alloc, layout, files, baselines, tree, port))
@@ -62,8 +61,8 @@ fn boxed_home<T: Tree>(
 ) -> Result<Box<Result<Home, Wrong>>, Outage>
     ensures { Learns result (Means boxed_home (home_of (layout_view layout.now) port.now))
         (λ f. home_paths (layout_view layout.now) f port.now)
-        (AreBaselines (layout_view layout.now) (notes_of baselines.old))
-        (AreBaselines (layout_view layout.now) (notes_of baselines.new))
+        (AreBaselines (notes_of baselines.old))
+        (AreBaselines (notes_of baselines.new))
         (held files.old (T.state tree.old)) (held files.new (T.state tree.new)) }
 {
     let home = find_home(alloc, layout, files, baselines, tree, port)?;
@@ -89,7 +88,7 @@ impl Homes {
         ensures homes { homes_in self.new ≡ homes_in self.old ++ (port, boxed_home home) ∷ [] }
         ensures baselines { self.new.baselines ≡ self.old.baselines }
     {
-        keep(&mut self.found, port, home);
+        let _ = self.found.insert(port, home);
     }
 
     // Finds the home of a port for which it wasn't found yet. The room for it is taken first.

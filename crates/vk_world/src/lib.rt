@@ -5,7 +5,6 @@
 
 mod answering;
 mod homes;
-mod keeping;
 mod libraries;
 mod listed;
 mod manifests;

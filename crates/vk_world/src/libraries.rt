@@ -14,6 +14,7 @@ ghost use Rattle.vk_world.specs.Libraries.{SaysFolderOf, SaysManifestOf};
 use crate::answering::{answer_folder, answer_given, answer_version};
 use crate::homes::Homes;
 use crate::manifests::{Manifests, shared};
+use crate::port_asks::PortAsk;
 use crate::row_manifests::manifest_for;
 use std::alloc::Global;
 use std::rc::Rc;
@@ -159,17 +160,16 @@ impl Library {
         &mut self,
         alloc: Global,
         tree: &mut T,
-        port: &PortName,
-        ask: &Ask,
+        key: PortAsk,
     ) -> Result<Result<Rc<Manifest>, Wrong>, Outage>
         ensures learns { Learns result
-            (SaysManifestOf (start_of self.old) port.now (ask_view ask.now))
-            (λ f. page_paths (start_of self.old) f port.now) (IsRight self.old) (IsRight self.new)
+            (SaysManifestOf (start_of self.old) key.port (ask_view key.ask))
+            (λ f. page_paths (start_of self.old) f key.port) (IsRight self.old) (IsRight self.new)
             (held self.old.files (T.state tree.old)) (held self.new.files (T.state tree.new)) }
         ensures stays { Stays self.old self.new }
     {
-        let found = self.read_manifest(alloc, tree, port, ask)?;
-        self.manifests.keep(alloc, port, ask, &found)?;
+        let found = self.read_manifest(alloc, tree, &key.port, &key.ask)?;
+        self.manifests.keep(alloc, key, &found)?;
         Ok(found)
     }
 
@@ -188,9 +188,10 @@ impl Library {
             (held self.old.files (T.state tree.old)) (held self.new.files (T.state tree.new)) }
         ensures stays { Stays self.old self.new }
     {
-        match self.manifests.get(port, ask) {
+        let key = PortAsk::of(port, ask)?;
+        match self.manifests.get(&key) {
             Some(found) => shared(found),
-            None => self.new_manifest(alloc, tree, port, ask),
+            None => self.new_manifest(alloc, tree, key),
         }
     }
 }

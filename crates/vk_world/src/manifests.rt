@@ -9,14 +9,13 @@ ghost use Rattle.vk_opening.specs.Starts.{Start};
 ghost use Rattle.vk_world.specs.ManifestNotes.{manifests_in, manifest_noted, AreManifests};
 ghost use Rattle.vk_world.specs.ManifestNotes.{IsManifestOf, kept_manifest};
 
-use crate::port_asks::{AskOf, PortAsk};
+use crate::port_asks::PortAsk;
 use indexmap::IndexMap;
 use std::alloc::Global;
 use std::rc::Rc;
-use vk_base::{Outage, PortName};
+use vk_base::Outage;
 use vk_catalogue::Wrong;
 use vk_model::Manifest;
-use vk_version::Ask;
 
 /// A manifest, or what is wrong with it, which is rare and large and so in a block of its own.
 pub type Kept = Result<Rc<Manifest>, Box<Wrong>>;
@@ -64,26 +63,24 @@ impl Manifests {
     pub fn keep(
         &mut self,
         alloc: Global,
-        port: &PortName,
-        ask: &Ask,
+        key: PortAsk,
         found: &Result<Rc<Manifest>, Wrong>,
     ) -> Result<(), Outage>
         ensures right { (start : Start) (files : Files) → AreManifests start self.old files
-            → IsManifestOf start files port.now (ask_view ask.now) (manifest_said found.now)
+            → IsManifestOf start files key.port (ask_view key.ask) (manifest_said found.now)
             → AreManifests start self.new files }
         ensures calm { was_out result ≡ false }
     {
-        let key = AskOf { port, ask }.owned()?;
         let kept = kept(alloc, found)?;
         self.found.insert(key, kept)?;
         Ok(())
     }
 
     /// What was found for a port and an ask; `None` exactly where nothing was.
-    pub fn get(&self, port: &PortName, ask: &Ask) -> Option<&Kept>
+    pub fn get(&self, key: &PortAsk) -> Option<&Kept>
         ensures { option_map kept_manifest (option_copied result)
-            ≡ manifest_noted port.now (ask_view ask.now) self.now }
+            ≡ manifest_noted key.now self.now }
     {
-        self.found.get(AskOf { port, ask })
+        self.found.get(key)
     }
 }

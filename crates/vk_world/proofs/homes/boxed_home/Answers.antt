@@ -12,5 +12,5 @@ use Rattle.vk_world.proofs.homes.boxed_home.Goals as goal
 pub returns : goal.returns
 returns g c =
     let start = layout_view c.args.layout.now in
-    learns_so (Ok c.in_ok-new.field-0) (Means boxed_home (home_of start c.args.port.now)) (AreBaselines start (notes_of c.args.baselines.now)) (AreBaselines start (notes_of c.find_home.new.baselines)) refl (λ f before. before)
+    learns_so (Ok c.in_ok-new.field-0) (Means boxed_home (home_of start c.args.port.now)) (AreBaselines (notes_of c.args.baselines.now)) (AreBaselines (notes_of c.find_home.new.baselines)) refl (λ f before. before)
     (λ f before after says. (after, ap found_home c.in_ok-new.ensures.ok ∙ says)) c.in_ok-home.ensures

@@ -37,7 +37,7 @@ returns-clause-learns g c =
     learns_so (Ok c.len-place.result) SaysNothing (AreHomes start c.args.self.now) (AreHomes start c.keep.new.self) refl (λ f right. right.baselines)
     (λ f before right says. (
       record {
-        baselines = subst (λ b. AreBaselines start (notes_of b) f) (sym c.keep.ensures.baselines) right;
+        baselines = subst (λ b. AreBaselines (notes_of b) f) (sym c.keep.ensures.baselines) right;
         found = subst (AreRight (IsHomeOf start f)) (sym kept) (right_more (IsHomeOf start f) (homes_in c.args.self.now) ((c.in_ok-key.key, boxed_home c.in_ok-found.found) ∷ []) before.found (rw same says, tt));
       },
       tt,
