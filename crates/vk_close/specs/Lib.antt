@@ -1,7 +1,8 @@
+-- what is promised
+pub mod Known
+pub mod Kept
 -- what functions, laws and examples say besides
 pub mod Pins
-pub mod Known
 pub mod Floors
 pub mod Steps
-pub mod Kept
 pub mod Roots

@@ -178,8 +178,8 @@ impl<'a> PageAsker<'a> {
         Ok(())
     }
 
-    // Adds the floor of a needed port's given version, and tells the port's place and whether it has
-    // a given version.
+    // Adds the floor of a needed port's given version, and tells the port's place and whether it
+    // has a given version.
     fn ask_need<C: Catalogue>(
         &mut self,
         cat: &mut C,

@@ -33,7 +33,8 @@ impl FirstPlaces {
     /// Notes a place for a text that has none.
     pub fn put(&mut self, alloc: Global, text: &[u8], place: usize) -> Result<(), Memory>
         ensures { OnOk result ((other : List ℕ) → text_place self.new other
-            ≡ option_or (text_place self.old other) (if bytes_eq other text.now then Some place else None)) }
+            ≡ option_or (text_place self.old other)
+            (if bytes_eq other text.now then Some place else None)) }
     {
         if self.get(text).is_none() {
             self.inner.insert(Vec::from_slice(alloc, text)?, place)?;

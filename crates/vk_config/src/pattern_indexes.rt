@@ -1,5 +1,6 @@
 //! The first registry that has a pattern, looked up.
-ghost use Rattle.std.specs.Prelude.{◌≡◌, Some, None, OnOk, IfOk, IfSome, IfNone, if◌then◌else◌, map};
+ghost use Rattle.std.specs.Prelude.{◌≡◌, Some, None, OnOk, IfOk, IfSome, IfNone, map};
+ghost use Rattle.std.specs.Prelude.{if◌then◌else◌};
 ghost use Rattle.std.specs.List.{list_any};
 ghost use Rattle.std.specs.Option.{option_or};
 ghost use Rattle.vk_config.specs.Configs as plain;
@@ -66,7 +67,8 @@ impl PatternIndex {
     fn put_all(&mut self, alloc: Global, patterns: &[Pattern], place: usize) -> Result<(), Memory>
         ensures { OnOk result ((wanted : plain.Pattern) → index_view self.new wanted
             ≡ option_or (index_view self.old wanted)
-            (if list_any (is_same wanted) (map pattern_view patterns.now) then Some place else None)) }
+            (if list_any (is_same wanted) (map pattern_view patterns.now)
+            then Some place else None)) }
     {
         for pattern in patterns {
             self.put(alloc, pattern, place)?;

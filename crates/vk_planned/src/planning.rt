@@ -138,8 +138,8 @@ fn ask_first<C: Catalogue>(cat: &mut C, choices: &Choices) -> Result<(), Outage>
 
 /// The needs of the root, and all that the manifests of the chosen versions need in turn, with what
 /// is wrong with each. It takes at most a step for each manifest's feature that is looked at. The
-/// reasons are those of a closure without faults, and the choices are made of them. The catalogue is
-/// only asked.
+/// reasons are those of a closure without faults, and the choices are made of them. The catalogue
+/// is only asked.
 pub fn plan_needs<C: Catalogue, L: Ledger>(
     alloc: Global,
     cat: &mut C,

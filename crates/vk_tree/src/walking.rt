@@ -8,7 +8,8 @@ ghost use Rattle.vk_spec.specs.Calls.{most_entries};
 ghost use Rattle.vk_base.specs.Paths.{is_part};
 ghost use Rattle.vk_tree.specs.Answers.{entries_of};
 ghost use Rattle.vk_tree.specs.Walks.{AreSeen, text_order};
-ghost use Rattle.vk_tree.specs.Walked.{IsTreeDisk, Ready, Walked, ListedIn, Took, IsInOrder, WalkIs};
+ghost use Rattle.vk_tree.specs.Walked.{IsTreeDisk, Ready, Walked, ListedIn, Took, IsInOrder};
+ghost use Rattle.vk_tree.specs.Walked.{WalkIs};
 ghost use Rattle.vk_tree.specs.Walked.{limits_of, walk_limits, unlisted, walk_failed};
 
 use crate::trees::{ListFault, Listed, Tree};

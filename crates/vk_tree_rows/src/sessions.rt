@@ -2,8 +2,8 @@
 //! - `group TITLE`, `case TITLE`: what follows belongs together;
 //! - `mem CALL`, `host CALL`: a call of the tree in memory, or of the host's;
 //! - `both CALL`: the call of both, which have to answer the same;
-//! - `each N ROW`: how many of so many rows are answered by `done`, each the one row with its number
-//!   in place of `#`.
+//! - `each N ROW`: how many of so many rows are answered by `done`, each the one row with its
+//!   number in place of `#`.
 //!
 //! The calls are those of `looks` and `walks`, and `write PATH BYTES`, `move FROM TO`,
 //! `remove PATH`.

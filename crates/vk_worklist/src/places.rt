@@ -1,5 +1,6 @@
 //! Where the entry of a port stands in a map, so that its name is looked up once.
-ghost use Rattle.std.specs.Prelude.{◌≡◌, ◌<◌, ℕ, List, IfSome, IfNone, Some, None, bytes_eq, length};
+ghost use Rattle.std.specs.Prelude.{◌≡◌, ◌<◌, ℕ, List, IfSome, IfNone, Some, None};
+ghost use Rattle.std.specs.Prelude.{bytes_eq, length};
 ghost use Rattle.std.specs.Map.{keys_of, lookup};
 ghost use Rattle.vk_worklist.specs.Places.{IsPlace, IsSeat};
 
