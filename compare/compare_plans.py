@@ -48,6 +48,32 @@ TRIPLET_FILES = {
 }
 
 
+@dataclass(frozen=True)
+class Registry:
+    """A folder of ports, as the configuration writes it, and the baseline that it names."""
+    folder: str
+    path: str
+    baseline: Optional[str] = None
+
+    @property
+    def key(self) -> tuple[str, str]:
+        """Returns the folder and the name of the baseline that counts."""
+        return self.folder, self.baseline or "default"
+
+    def entry(self) -> dict:
+        """Writes the registry without its patterns."""
+        named = {} if self.baseline is None else {"baseline": self.baseline}
+        return {"kind": "filesystem", "path": self.path, **named}
+
+
+DEFAULT_REGISTRY = Registry("registry", "registry")
+OTHER_REGISTRIES = [
+    Registry("registry", "./registry"), Registry("registry", "registry", "default"),
+    Registry("registry", "registry", "old"), Registry("second", "second"),
+    Registry("second", "./second", "old"),
+]
+
+
 @dataclass
 class Case:
     """A project with its label, as data, as files, and as words of the command line."""
@@ -136,7 +162,8 @@ class ProjectMaker:
         self.has_damage = self._happens(0.12)
         self.root_name = self.stream.choice([None, APPLICATION, APPLICATION, self.ports[0]])
         self.files: dict[str, object] = dict(TRIPLET_FILES)
-        self.baseline: dict[str, dict] = {}
+        self.homes = self._homes()
+        self.baselines = self._baselines()
         self.overrides: list[dict] = []
         self.unserved: list[str] = []
 
@@ -155,6 +182,18 @@ class ProjectMaker:
         words += [] if wants_defaults else ["--no-default-features"]
         project = Project(self.root_name, root, TARGET, host, asked, wants_defaults, pages)
         return Case(self.label, project, self.files, words)
+
+    def _homes(self) -> dict[str, Registry]:
+        """Chooses the registry of each port; most projects have one for all."""
+        is_one = self._happens(0.6)
+        return {port: DEFAULT_REGISTRY if is_one or self._happens(0.4)
+                else self.stream.choice(OTHER_REGISTRIES) for port in self.ports}
+
+    def _baselines(self) -> dict[tuple[str, str], dict[str, dict]]:
+        """Makes the baselines that registries name, seldom without one of another name."""
+        keys = {registry.key for registry in [DEFAULT_REGISTRY, *self.homes.values()]}
+        return {key: {} for key in sorted(keys)
+                if key[1] == "default" or not self.has_damage or self._happens(0.7)}
 
     def _happens(self, probability: float) -> bool:
         """Says at random whether something happens."""
@@ -255,14 +294,18 @@ class ProjectMaker:
         rows, entries = {}, []
         for number, version in enumerate(self.versions[port]):
             folder = f"ports/{port}/{number}"
-            path = f"registry/{folder}/vcpkg.json"
+            path = f"{self.homes[port].folder}/{folder}/vcpkg.json"
             row = self._row(port, path, version)
             rows[version] = self._damaged_row(path, row) if self._is_damaged() else row
             keys = version_document(version, row.version_class)
             entries.append({**keys, "path": f"$/{folder}"})
         self.stream.shuffle(entries)
-        self.files[f"registry/versions/{port[0]}-/{port}.json"] = {"versions": entries}
+        self.files[self._table_path(port)] = {"versions": entries}
         return rows
+
+    def _table_path(self, port: str) -> str:
+        """Returns the path of a port's versions file."""
+        return f"{self.homes[port].folder}/versions/{port[0]}-/{port}.json"
 
     def _page(self, port: str) -> Page:
         """Makes the page of a port, of the registry or of an overlay."""
@@ -270,7 +313,7 @@ class ProjectMaker:
         kind = CauseKind.BASELINE if override is None else CauseKind.OVERRIDE
         given = self._baseline(port) if override is None else override
         page = Page(kind, given, self._table(port))
-        fault = self._registry_fault(port, given)
+        fault = self._registry_fault(port, given, kind)
         page = page if fault is None else Page(kind, fault=fault)
         return self._overlay_page(port) if self._happens(0.1) else page
 
@@ -286,24 +329,54 @@ class ProjectMaker:
 
     def _baseline(self, port: str) -> Optional[Version]:
         """Makes the baseline of a port, seldom none or one that the table lacks."""
+        own = self.homes[port].key
+        for key in self.baselines:
+            if key != own and self._happens(0.5):
+                self._note_baseline(key, port, self._any_version(port))
         if self._is_damaged():
             return None
         version = MISSING_VERSION if self._is_damaged() else self._any_version(port)
-        self.baseline[port] = {"baseline": version.text, "port-version": version.port_version}
+        if own in self.baselines:
+            self._note_baseline(own, port, version)
         return version
 
-    def _registry_fault(self, port: str, given: Optional[Version]) -> Optional[str]:
+    def _note_baseline(self, key: tuple[str, str], port: str, version: Version) -> None:
+        """Puts a port into a baseline."""
+        entry = {"baseline": version.text, "port-version": version.port_version}
+        self.baselines[key][port] = entry
+
+    def _registry_fault(
+        self, port: str, given: Optional[Version], kind: CauseKind
+    ) -> Optional[str]:
         """Damages the registry or the versions file of a port, and returns what is wrong."""
+        folder, name = self.homes[port].key
         if self._is_damaged():
             self.unserved.append(port)
             return f"no-registry {port}"
+        if kind == CauseKind.BASELINE and (folder, name) not in self.baselines:
+            return f"bad-file {folder}/versions/baseline.json /{name} missing"
         if given is None:
             return f"no-baseline {port}"
         if self._is_damaged():
-            path = f"registry/versions/{port[0]}-/{port}.json"
+            path = self._table_path(port)
             self.files[path] = {}
             return f"bad-file {path} /versions missing"
         return None
+
+    def _registries(self) -> list[dict]:
+        """Writes the registries with patterns: one for each port, or for all that share it."""
+        served = [port for port in self.ports if port not in self.unserved]
+        by_default = [port for port in served if self.homes[port] == DEFAULT_REGISTRY]
+        by_default.append(APPLICATION)
+        entries = [{"kind": "git", "packages": self.unserved}]
+        for registry in OTHER_REGISTRIES:
+            ports = [port for port in served if self.homes[port] == registry]
+            groups = [[port] for port in ports] if self._happens(0.5) else [ports]
+            entries += [{**registry.entry(), "packages": group} for group in groups if group]
+            entries += [{"kind": "git", "packages": [f"{port}*"]} for port in ports
+                        if not any(other.startswith(port) for other in by_default)]
+        self.stream.shuffle(entries)
+        return entries
 
     def _overlay_page(self, port: str) -> Page:
         """Makes an overlay of a port, seldom one that can't be read."""
@@ -316,16 +389,19 @@ class ProjectMaker:
         return Page(CauseKind.OVERLAY, version, {version: row})
 
     def _write_root(self, manifest: Manifest) -> None:
-        """Writes the root manifest, the configuration and the baseline file."""
+        """Writes the root manifest, the configuration and the baseline files."""
         name = {"name": self.root_name} if self.root_name else {}
         rest = {**manifest_document(manifest), "overrides": self.overrides}
         self.files["vcpkg.json"] = {**name, **rest}
         self.files["vcpkg-configuration.json"] = {
-            "default-registry": {"kind": "filesystem", "path": "registry"},
-            "registries": [{"kind": "git", "packages": self.unserved}],
+            "default-registry": DEFAULT_REGISTRY.entry(),
+            "registries": self._registries(),
             "overlay-ports": ["overlay"],
         }
-        self.files["registry/versions/baseline.json"] = {"default": self.baseline}
+        for registry in [DEFAULT_REGISTRY, *self.homes.values()]:
+            path = f"{registry.folder}/versions/baseline.json"
+            self.files[path] = {name: baseline for (folder, name), baseline
+                                in self.baselines.items() if folder == registry.folder}
 
 
 def split_lines(text: str) -> list[str]:

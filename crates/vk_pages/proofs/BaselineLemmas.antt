@@ -24,7 +24,7 @@ use Rattle.vk_files.proofs.NoteLemmas.{right_more, right_found}
 use Rattle.vk_files.proofs.NotingLemmas.{noting_pure, noting_then}
 use Rattle.vk_spec.proofs.OptionLemmas.{of_both}
 use Rattle.vk_pages.specs.Homes.{baseline_file, baseline_given, baseline_for}
-use Rattle.vk_pages.specs.BaselineNotes.{BaselineNotes, same_served, note_of, IsBaselineOf, AreBaselines, nothing_said}
+use Rattle.vk_pages.specs.BaselineNotes.{BaselineNotes, same_served, baseline_noted, IsBaselineOf, AreBaselines, nothing_said}
 use Rattle.vk_pages.specs.HomeViews.{served_view}
 use Rattle.vk_pages.specs.NoteViews.{read_view}
 use Rattle.vk_pages.specs.declared.served.Served.{Served}
@@ -62,12 +62,12 @@ noted_none Known s served a b one = record {
 }
 
 -- what is noted is what the file says
-note_right : (f : Files) (served : Served) (read : Result (List Entry) Bad) (notes : BaselineNotes) → AreBaselines notes f → note_of served notes ≡ Some read → read ≡ baseline_file (served_view served) f
+note_right : (f : Files) (served : Served) (read : Result (List Entry) Bad) (notes : BaselineNotes) → AreBaselines notes f → baseline_noted served notes ≡ Some read → read ≡ baseline_file (served_view served) f
 note_right f served read notes known found = right_found (IsBaselineOf f) same_served served_is notes served read known found
 
 -- what a note gives is what the file gives
 pub note_gives : {found : ℕ} (served : Served) (port : List ℕ) (read : Result (List Entry) Bad) (notes before : BaselineNotes) (answer : Result Given (Stop Wrong)) (a b : Held)
-    → note_of served notes ≡ Some read → has_failed answer ≡ false → Gives given_view (fault_seen wrong_view) answer (baseline_given port read)
+    → baseline_noted served notes ≡ Some read → has_failed answer ≡ false → Gives given_view (fault_seen wrong_view) answer (baseline_given port read)
     → ReadsNoting {F = Wrong} wrong_view (λ (done : ℕ). tt {0}) (Ok found) nothing_said (AreBaselines before) (AreBaselines notes) a b
     → ReadsNoting wrong_view given_view answer (baseline_for (served_view served) port) (AreBaselines before) (AreBaselines notes) a b
 note_gives served port read notes before answer a b found calm gives looked =

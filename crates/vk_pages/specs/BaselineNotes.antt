@@ -19,8 +19,8 @@ same_served one other = same_path one.folder other.folder && bytes_eq one.baseli
 abbrev pub BaselineNotes : Type 0
 BaselineNotes = List (Served × Result (List Entry) Bad)
 
-abbrev pub note_of : Served → BaselineNotes → Option (Result (List Entry) Bad)
-note_of served notes = lookup (same_served served) notes
+abbrev pub baseline_noted : Served → BaselineNotes → Option (Result (List Entry) Bad)
+baseline_noted served notes = lookup (same_served served) notes
 
 -- what is noted of a registry is what its file says
 abbrev pub IsBaselineOf : Files → Served → Result (List Entry) Bad → Type 0

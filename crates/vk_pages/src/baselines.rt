@@ -1,4 +1,4 @@
-//! The baselines that were read, so that each file is read and parsed once.
+//! The baselines that were read, so that each is read and parsed once.
 ghost use Rattle.std.specs.Prelude.{◌≡◌, ◌<◌, ◌++◌, ◌∷◌, [], List, Result, Ok, Some, None, IfOk};
 ghost use Rattle.std.specs.Prelude.{false, length, option_map, slice_get};
 ghost use Rattle.indexmap.specs.IndexMap.{spare};
@@ -13,7 +13,7 @@ ghost use Rattle.vk_files.specs.StopViews.{fault_seen};
 ghost use Rattle.vk_files.specs.Readings.{Bad, bad_view, ReadsAs, ReadsNoting};
 ghost use Rattle.vk_pages.specs.RegistryFiles.{baseline_path};
 ghost use Rattle.vk_pages.specs.Homes.{baseline_file, baseline_given, baseline_for};
-ghost use Rattle.vk_pages.specs.BaselineNotes.{AreBaselines, note_of, nothing_said, same_served};
+ghost use Rattle.vk_pages.specs.BaselineNotes.{AreBaselines, baseline_noted, nothing_said, same_served};
 ghost use Rattle.vk_pages.specs.HomeViews.{served_view};
 ghost use Rattle.vk_pages.specs.NoteViews.{read_view, notes_of};
 
@@ -108,7 +108,7 @@ impl Baselines {
     // Keeps what was read of a registry of which nothing is kept, and for which there is room.
     fn keep(&mut self, served: Served, read: Result<Baseline, BadFile>)
         requires room { 0 < spare self.old.read }
-        requires new { note_of served (notes_of self.old) ≡ None }
+        requires new { baseline_noted served (notes_of self.old) ≡ None }
         ensures { notes_of self.new ≡ notes_of self.old ++ (served, read_view read) ∷ [] }
     {
         let _ = self.read.insert(served, read);
@@ -123,7 +123,7 @@ impl Baselines {
         tree: &mut T,
         served: &Served,
     ) -> Result<usize, Stop<Wrong>>
-        requires { note_of served.now (notes_of self.old) ≡ None }
+        requires { baseline_noted served.now (notes_of self.old) ≡ None }
         ensures noted { ReadsNoting wrong_view (λ done. tt) result nothing_said
             (AreBaselines (notes_of self.old)) (AreBaselines (notes_of self.new))
             (held files.old (T.state tree.old)) (held files.new (T.state tree.new)) }

@@ -75,8 +75,7 @@ pub fn home_of<T: Tree>(
 ) -> Result<Home, Stop<Wrong>>
     ensures reads { ReadsNoting wrong_view home_view result
         (home_of (layout_view layout.now) port.now)
-        (AreBaselines (notes_of baselines.old))
-        (AreBaselines (notes_of baselines.new))
+        (AreBaselines (notes_of baselines.old)) (AreBaselines (notes_of baselines.new))
         (held files.old (T.state tree.old)) (held files.new (T.state tree.new)) }
     ensures asked { LooksNoting (λ f. home_paths (layout_view layout.now) f port.now)
         (AreBaselines (notes_of baselines.old))

@@ -1,5 +1,5 @@
 //! A port in the registry that serves it.
-ghost use Rattle.std.specs.Prelude.{◌≡◌, ◌∷◌, [], Ok, false, map, option_map};
+ghost use Rattle.std.specs.Prelude.{◌≡◌, ◌∷◌, [], Ok, false, option_map};
 ghost use Rattle.vk_spec.specs.Reading.{Gives};
 ghost use Rattle.vk_spec.specs.Pages.{override};
 ghost use Rattle.vk_version.specs.AskViews.{ask_view};
@@ -9,8 +9,7 @@ ghost use Rattle.vk_files.specs.Within.{LooksWithin};
 ghost use Rattle.vk_base.specs.Stops.{has_failed};
 ghost use Rattle.vk_files.specs.StopViews.{fault_seen};
 ghost use Rattle.vk_files.specs.Readings.{ReadsAs, ReadsNoting};
-ghost use Rattle.vk_pages.specs.Homes.{given_by, table_in, served_home};
-ghost use Rattle.vk_pages.specs.Homes.{registry_home};
+ghost use Rattle.vk_pages.specs.Homes.{given_by, table_in, served_home, registry_home};
 ghost use Rattle.vk_pages.specs.RegistryFiles.{table_path};
 ghost use Rattle.vk_pages.specs.Asked.{given_paths, served_paths, registry_paths};
 ghost use Rattle.vk_pages.specs.Looked.{LooksNoting};
@@ -151,8 +150,7 @@ pub fn registry_home<T: Tree>(
 ) -> Result<Home, Stop<Wrong>>
     ensures reads { ReadsNoting wrong_view home_view result
         (registry_home (layout_view layout.now) port.now)
-        (AreBaselines (notes_of baselines.old))
-        (AreBaselines (notes_of baselines.new))
+        (AreBaselines (notes_of baselines.old)) (AreBaselines (notes_of baselines.new))
         (held files.old (T.state tree.old)) (held files.new (T.state tree.new)) }
     ensures asked { LooksNoting (λ f. registry_paths (layout_view layout.now) f port.now)
         (AreBaselines (notes_of baselines.old))

@@ -10,7 +10,6 @@ ghost use Rattle.vk_pages.specs.HomeViews.{layout_view, served_view};
 
 use crate::homes::Layout;
 use std::alloc::Global;
-use std::hash::Hash;
 use vk_base::{PortName, SharedText, Stop, TreePath};
 use vk_catalogue::Wrong;
 use vk_config::{Config, Source, registry_of};

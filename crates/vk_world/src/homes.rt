@@ -1,5 +1,5 @@
 //! The homes of ports that were found.
-ghost use Rattle.std.specs.Prelude.{◌≡◌, ◌<◌, ◌++◌, ◌∷◌, [], ℕ, List, Some, None, IfOk, bytes_eq};
+ghost use Rattle.std.specs.Prelude.{◌≡◌, ◌<◌, ◌++◌, ◌∷◌, [], Some, None, IfOk, bytes_eq};
 ghost use Rattle.std.specs.Prelude.{length, option_map, slice_get};
 ghost use Rattle.indexmap.specs.IndexMap.{spare};
 ghost use Rattle.vk_spec.specs.Files.{Files};
@@ -43,8 +43,7 @@ fn find_home<T: Tree>(
 ) -> Result<Result<Home, Wrong>, Outage>
     ensures { Learns result (Means found_home (home_of (layout_view layout.now) port.now))
         (λ f. home_paths (layout_view layout.now) f port.now)
-        (AreBaselines (notes_of baselines.old))
-        (AreBaselines (notes_of baselines.new))
+        (AreBaselines (notes_of baselines.old)) (AreBaselines (notes_of baselines.new))
         (held files.old (T.state tree.old)) (held files.new (T.state tree.new)) }
 {
     settle(home_of(alloc, layout, files, baselines, tree, port))
@@ -61,8 +60,7 @@ fn boxed_home<T: Tree>(
 ) -> Result<Box<Result<Home, Wrong>>, Outage>
     ensures { Learns result (Means boxed_home (home_of (layout_view layout.now) port.now))
         (λ f. home_paths (layout_view layout.now) f port.now)
-        (AreBaselines (notes_of baselines.old))
-        (AreBaselines (notes_of baselines.new))
+        (AreBaselines (notes_of baselines.old)) (AreBaselines (notes_of baselines.new))
         (held files.old (T.state tree.old)) (held files.new (T.state tree.new)) }
 {
     let home = find_home(alloc, layout, files, baselines, tree, port)?;

@@ -1,5 +1,5 @@
 //! What a world keeps, and what it learns.
-ghost use Rattle.std.specs.Prelude.{◌≡◌, [], IfOk, bytes_eq, length};
+ghost use Rattle.std.specs.Prelude.{◌≡◌, IfOk, bytes_eq, length};
 ghost use Rattle.vk_spec.specs.Files.{Files};
 ghost use Rattle.vk_version.specs.AskViews.{ask_view};
 ghost use Rattle.vk_files.specs.Notes.{IsNoteAt};

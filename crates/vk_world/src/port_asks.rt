@@ -2,7 +2,6 @@
 ghost use Rattle.std.specs.Prelude.{◌≡◌, IfOk};
 
 use std::alloc::AllocError;
-use std::hash::Hash;
 use vk_base::PortName;
 use vk_version::Ask;
 

@@ -3,7 +3,7 @@ use Rattle.std.proofs.lemmas.Result.{err_from_is_err_and}
 use Rattle.vk_files.proofs.NotedLemmas.{noted, length_noted, last_note}
 use Rattle.vk_files.proofs.OnceLemmas.{nothing_read}
 use Rattle.vk_files.proofs.ReadMore.{noting_lacking}
-use Rattle.vk_pages.specs.BaselineNotes.{AreBaselines, note_of, same_served}
+use Rattle.vk_pages.specs.BaselineNotes.{AreBaselines, baseline_noted, same_served}
 use Rattle.vk_pages.specs.NoteViews.{read_view, notes_of}
 use Rattle.vk_pages.proofs.BaselineLemmas.{noted_one, noted_none, served_itself}
 use Rattle.vk_files.proofs.WithinLemmas.{nothing_since}
@@ -32,7 +32,7 @@ returns-clause-there g c =
     let same : c.in_ok-key.key ≡ c.args.served.now = search rules in
     let notes = noted read_view c.reserve.new.self.entries in
     rw (c.keep.ensures, c.len-place.ensures.len ∙ sym (length_noted read_view c.reserve.new.self.entries), same)
-    (last_note same_served c.args.served.now (read_view c.in_ok-read.read) notes (served_itself c.args.served.now) (ap (λ es. note_of c.args.served.now (noted read_view es)) c.reserve.ensures.entries ∙ c.requires))
+    (last_note same_served c.args.served.now (read_view c.in_ok-read.read) notes (served_itself c.args.served.now) (ap (λ es. baseline_noted c.args.served.now (noted read_view es)) c.reserve.ensures.entries ∙ c.requires))
 
 pub returns-in_err-key-clause-asked : goal.returns-in_err-key-clause-asked
 returns-in_err-key-clause-asked g c = nothing_since _ _
