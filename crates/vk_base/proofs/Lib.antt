@@ -3,6 +3,7 @@ pub mod FeatureLemmas
 pub mod PathLemmas
 pub mod PathLaws
 pub mod PartLemmas
+pub mod NamePartLemmas
 pub mod PathTextLemmas
 pub mod TokenLemmas
 pub mod DecimalLemmas

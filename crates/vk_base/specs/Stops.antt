@@ -22,6 +22,12 @@ stop_fault_in (stop.Fault fault) = Some fault
 stop_fault_in stop.Failed = None
 stop_fault_in (stop.Memory m) = None
 
+-- the same fault as it is seen
+abbrev pub fault_seen : {F P : Type 0} → (F → P) → Stop F → Option P
+fault_seen view (stop.Fault fault) = Some (view fault)
+fault_seen view stop.Failed = None
+fault_seen view (stop.Memory m) = None
+
 -- the tree or the catalogue failed
 abbrev pub is_failure : {F : Type 0} → Stop F → Bool
 is_failure (stop.Fault fault) = false

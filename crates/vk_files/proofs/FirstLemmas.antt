@@ -7,7 +7,7 @@ use Rattle.std.proofs.Math.ListN.{drop_of_length-le}
 use Rattle.vk_spec.specs.Files.{Files}
 use Rattle.vk_spec.specs.Reading.{Fails}
 use Rattle.vk_files.specs.Kept.{IsOf, Held, ReadOnce}
-use Rattle.vk_files.specs.StopViews.{fault_seen}
+use Rattle.vk_base.specs.Stops.{fault_seen}
 use Rattle.vk_files.specs.Readings.{ReadsAs}
 use Rattle.vk_base.specs.declared.stops.Stop.{Stop}
 use Rattle.vk_files.proofs.OnceLemmas.{nothing_read, once_then}

@@ -7,7 +7,7 @@ use Rattle.vk_spec.specs.States.{Told}
 use Rattle.vk_spec.proofs.StateLemmas.{told_before}
 use Rattle.vk_files.specs.Kept.{paths_of, IsOf, Held}
 use Rattle.vk_base.specs.Stops.{has_failed}
-use Rattle.vk_files.specs.StopViews.{fault_seen}
+use Rattle.vk_base.specs.Stops.{fault_seen}
 use Rattle.vk_files.specs.Readings.{ReadsAs, ReadsNoting}
 use Rattle.vk_base.specs.declared.stops.Stop.{Stop}
 use Rattle.vk_files.proofs.OnceLemmas.{nothing_read, once_then}

@@ -11,7 +11,7 @@ use Rattle.vk_json.specs.declared.faults.FileFault.{FileFault}
 use Rattle.vk_base.specs.Stops.{stop_fault_in, has_failed}
 use Rattle.vk_base.specs.declared.stops.Stop.TheVariants as stop
 use Rattle.vk_files.specs.Kept.{Seen, Kept, seen_at, paths_of, IsOf, IsSeen, Held, ReadOnce}
-use Rattle.vk_files.specs.StopViews.{fault_seen}
+use Rattle.vk_base.specs.Stops.{fault_seen}
 use Rattle.vk_files.specs.Views.{kept_at, same_path}
 use Rattle.vk_files.specs.Readings.{Bad, IsFaultOf, told_at, ReadsAs}
 use Rattle.vk_base.specs.declared.stops.Stop.{Stop}

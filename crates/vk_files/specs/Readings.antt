@@ -9,7 +9,7 @@ use Rattle.vk_json.specs.Places.{here}
 use Rattle.vk_json.specs.declared.faults.Why.{Why}
 use Rattle.vk_json.specs.declared.faults.Why.TheVariants as why
 use Rattle.vk_files.specs.Kept.{Seen, absent, too_large, holds, seen_at, IsOf, Held, ReadOnce}
-use Rattle.vk_files.specs.StopViews.{fault_seen}
+use Rattle.vk_base.specs.Stops.{fault_seen}
 use Rattle.vk_base.specs.declared.stops.Stop.{Stop}
 use Rattle.vk_files.specs.declared.bad_files.BadFile.{BadFile}
 

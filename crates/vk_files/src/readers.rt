@@ -6,7 +6,7 @@ ghost use Rattle.vk_base.specs.Stops.{fault_in, has_failed, is_failure};
 ghost use Rattle.vk_json.specs.declared.faults.FileFault as faults;
 ghost use Rattle.vk_files.specs.Views.{held, kept_of, seen_view};
 ghost use Rattle.vk_files.specs.Within.{LooksWithin};
-ghost use Rattle.vk_files.specs.StopViews.{fault_seen};
+ghost use Rattle.vk_base.specs.Stops.{fault_seen};
 ghost use Rattle.vk_files.specs.Readings.{ReadsAs, IsFaultOf, told_at, bad_view, file_at};
 ghost use Rattle.vk_files.specs.Readings.{seen_file, standing_at, standing_by, is_there};
 ghost use Rattle.vk_files.specs.StandingViews.{standing_view};

@@ -8,3 +8,5 @@ abbrev pub early_view : Early → plain.Early
 early_view (early.BadFile path place why) = plain.bad_file path place (word_of why)
 early_view early.TwoConfigurations = plain.two_configurations
 early_view (early.NoTriplet name) = plain.no_triplet name
+early_view (early.Overlap first second) = plain.overlap first second
+early_view (early.Blocked path) = plain.blocked path

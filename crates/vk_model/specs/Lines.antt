@@ -4,8 +4,9 @@ use Rattle.std.specs.List.{join_with_byte}
 use Rattle.vk_spec.specs.Paths.{Path}
 use Rattle.vk_spec.specs.Versions.{Ask}
 use Rattle.vk_spec.specs.Earlies as the_early
-use Rattle.vk_spec.specs.Earlies.{Early, two_configurations, no_triplet}
+use Rattle.vk_spec.specs.Earlies.{Early, two_configurations, no_triplet, overlap, blocked}
 use Rattle.vk_spec.specs.Pages.{Field, Wrong}
+use Rattle.vk_base.specs.Printed.{path_text}
 use Rattle.vk_base.specs.Tokens.{token_of}
 use Rattle.vk_json.specs.Places.{file_line}
 use Rattle.vk_resolution.specs.Faults.{lacks_version, differs, wrong_of}
@@ -15,6 +16,9 @@ abbrev pub early_line : Early → List ℕ
 early_line (the_early.bad_file path place word) = file_line path place word
 early_line two_configurations = codes "two-configurations"
 early_line (no_triplet triplet) = codes "no-triplet " ++ token_of triplet
+early_line (overlap first second) =
+    codes "overlap " ++ path_text first ++ codes " " ++ path_text second
+early_line (blocked path) = codes "blocked " ++ path_text path
 
 abbrev pub wrong_line : List ℕ → Wrong → List ℕ
 wrong_line p wrong = trouble_text (wrong_of p wrong)

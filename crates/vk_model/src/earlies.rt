@@ -1,7 +1,7 @@
 use vk_base::{Text, TreePath, TripletName};
 use vk_json::Why;
 
-/// Why the files that are read before any port give no setting.
+/// Why a project gives no setting, before any port is looked at.
 #[derive(Drop)]
 pub enum Early {
     /// A file that isn't as it has to be: where in it, a JSON Pointer (RFC 6901), and why.
@@ -15,5 +15,14 @@ pub enum Early {
     /// No folder has the triplet.
     NoTriplet {
         name: TripletName,
+    },
+    /// Two folders that have to be apart: one begins the other, or the first has the project in it.
+    Overlap {
+        first: TreePath,
+        second: TreePath,
+    },
+    /// A file stands where a folder has to be.
+    Blocked {
+        path: TreePath,
     },
 }

@@ -70,7 +70,25 @@ fn word_and(alloc: Global, word: &str, rest: &[u8]) -> Result<Text, Memory>
     Ok(line)
 }
 
-/// The line of what is wrong with the early files.
+// `overlap`, and the two folders.
+fn overlap_line(alloc: Global, first: &TreePath, second: &TreePath) -> Result<Text, Memory>
+    ensures { IfOk result (λ t. t ≡ codes "overlap "
+        ++ path_text first.now ++ codes " " ++ path_text second.now) }
+{
+    let first = path_token(alloc, first)?;
+    let second = path_token(alloc, second)?;
+    Ok(Text::from_string(format!(in alloc; "overlap {first} {second}")?))
+}
+
+// `blocked`, and the path.
+fn blocked_line(alloc: Global, path: &TreePath) -> Result<Text, Memory>
+    ensures { IfOk result (λ t. t ≡ codes "blocked " ++ path_text path.now) }
+{
+    let text = path.text(alloc)?;
+    word_and(alloc, "blocked ", text.as_bytes())
+}
+
+/// The line that is told where a project gives no setting.
 pub fn early_line(alloc: Global, early: &Early) -> Result<Text, Memory>
     ensures { IfOk result (λ t. t ≡ early_line (early_view early.now)) }
 {
@@ -78,6 +96,8 @@ pub fn early_line(alloc: Global, early: &Early) -> Result<Text, Memory>
         Early::BadFile { path, place, why } => file_line(alloc, path, place, *why),
         Early::TwoConfigurations => Ok(Text::from_str(alloc, "two-configurations")?),
         Early::NoTriplet { name } => word_and(alloc, "no-triplet ", name.as_str().as_bytes()),
+        Early::Overlap { first, second } => overlap_line(alloc, first, second),
+        Early::Blocked { path } => blocked_line(alloc, path),
     }
 }
 

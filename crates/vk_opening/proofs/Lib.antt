@@ -1,4 +1,3 @@
-pub mod PartLemmas
 pub mod LoopLemmas
 pub mod TripletLemmas
 pub mod AskedLemmas

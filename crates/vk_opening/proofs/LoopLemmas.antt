@@ -6,7 +6,7 @@ use Rattle.vk_spec.specs.Reading.{read_each, Gives}
 use Rattle.vk_spec.specs.Files.{Files}
 use Rattle.vk_spec.proofs.ReadingLemmas.{with_front, nothing_yet, goes_on_with, ends_with, is_done_with}
 use Rattle.vk_files.specs.Kept.{IsOf, Held, ReadOnce}
-use Rattle.vk_files.specs.StopViews.{fault_seen}
+use Rattle.vk_base.specs.Stops.{fault_seen}
 use Rattle.vk_files.specs.Readings.{ReadsAs}
 use Rattle.vk_base.specs.declared.stops.Stop.{Stop}
 use Rattle.vk_files.proofs.OnceLemmas.{nothing_read, once_then}

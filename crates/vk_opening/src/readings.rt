@@ -3,7 +3,7 @@ ghost use Rattle.std.specs.Prelude.{◌≡◌, ◌∷◌, [], false, Ok, option_
 ghost use Rattle.vk_files.specs.Views.{held, kept_of};
 ghost use Rattle.vk_files.specs.Within.{LooksWithin};
 ghost use Rattle.vk_base.specs.Stops.{fault_in, is_failure};
-ghost use Rattle.vk_files.specs.StopViews.{fault_seen};
+ghost use Rattle.vk_base.specs.Stops.{fault_seen};
 ghost use Rattle.vk_files.specs.StandingViews.{standing_view};
 ghost use Rattle.vk_files.specs.Readings.{ReadsAs, bad_view, standing_at};
 ghost use Rattle.vk_opening.specs.Roots.{line_of, early_at, line_at};

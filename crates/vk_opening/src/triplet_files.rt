@@ -9,7 +9,7 @@ ghost use Rattle.vk_triplet.specs.TripletReadings as plain;
 ghost use Rattle.vk_files.specs.Views.{held, kept_of};
 ghost use Rattle.vk_files.specs.Within.{LooksWithin, LooksWhere};
 ghost use Rattle.vk_base.specs.Stops.{fault_in, is_failure};
-ghost use Rattle.vk_files.specs.StopViews.{fault_seen};
+ghost use Rattle.vk_base.specs.Stops.{fault_seen};
 ghost use Rattle.vk_files.specs.Readings.{ReadsAs, is_at};
 ghost use Rattle.vk_spec.specs.Earlies as early;
 ghost use Rattle.vk_model.specs.EarlyViews.{early_view};

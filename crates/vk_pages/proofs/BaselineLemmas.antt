@@ -15,7 +15,7 @@ use Rattle.vk_model.specs.declared.wrongs.Wrong.{Wrong}
 use Rattle.vk_files.specs.Kept.{Held}
 use Rattle.vk_files.specs.Views.{same_path}
 use Rattle.vk_base.specs.Stops.{has_failed}
-use Rattle.vk_files.specs.StopViews.{fault_seen}
+use Rattle.vk_base.specs.Stops.{fault_seen}
 use Rattle.vk_files.specs.Readings.{Bad, ReadsAs, ReadsNoting}
 use Rattle.vk_files.specs.declared.bad_files.BadFile.{BadFile}
 use Rattle.vk_base.specs.declared.stops.Stop.{Stop}

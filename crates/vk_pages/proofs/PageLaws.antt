@@ -24,11 +24,11 @@ use Rattle.vk_files.specs.Kept.{Seen, absent, too_large, holds, seen_at}
 use Rattle.vk_files.specs.Readings.{Bad, seen_file, told_at, file_at}
 use Rattle.vk_opening.specs.Projects.{manifest_path}
 use Rattle.vk_opening.specs.Starts.{Overlay, is_port, has_ports, Start}
-use Rattle.vk_pages.specs.RegistryFiles.{table_path}
-use Rattle.vk_pages.specs.Wrongs.{or_wrong, manifest_file, stated_version}
+use Rattle.vk_registry.specs.RegistryFiles.{table_path, port_folder}
+use Rattle.vk_pages.specs.Wrongs.{or_wrong, manifest_file}
 use Rattle.vk_opening.specs.Roots.{port_in}
-use Rattle.vk_pages.specs.Agreement.{class_word, name_text, same_in, named, version_agrees, agreeing}
-use Rattle.vk_pages.specs.Homes.{Home, in_overlay, in_registry, Served, served_by, served_for, baseline_file, baseline_given, given_by, table_in, overlay_home, named_home, port_folder, home_in, home_with, served_home, registry_home, overlay_for, home_by, home_of}
+use Rattle.vk_registry.specs.Agreement.{class_word, name_text, same_in, named, stated_version, version_agrees, agreeing}
+use Rattle.vk_pages.specs.Homes.{Home, in_overlay, in_registry, Served, served_by, served_for, baseline_file, baseline_given, given_by, table_in, overlay_home, named_home, home_in, home_with, served_home, registry_home, overlay_for, home_by, home_of}
 use Rattle.vk_opening.specs.Overrides.{override_for}
 use Rattle.vk_pages.specs.Pages.{row_folder, row_manifest, page_row, page_at, page_of}
 

@@ -34,10 +34,10 @@ use Rattle.vk_opening.specs.Configurations.{config_in}
 use Rattle.vk_opening.specs.TripletFiles.{Triplets}
 use Rattle.vk_opening.specs.Overlays.{port_at, overlay_by, overlay_at, overlays_at}
 use Rattle.vk_opening.specs.Openings.{Opening, triplets_of, overlays_of, opening_with, opened_of}
-use Rattle.vk_pages.specs.RegistryFiles.{baseline_path, table_path}
+use Rattle.vk_registry.specs.RegistryFiles.{baseline_path, table_path, port_folder}
 use Rattle.vk_pages.specs.Wrongs.{or_wrong, manifest_file}
-use Rattle.vk_pages.specs.Agreement.{name_text, named}
-use Rattle.vk_pages.specs.Homes.{Home, in_overlay, in_registry, Served, served_by, source_in, served_for, baseline_file, baseline_given, given_by, table_in, overlay_home, named_home, port_folder, home_in, home_with, served_home, registry_home, overlay_for, has_port, home_by, IsPinned}
+use Rattle.vk_registry.specs.Agreement.{name_text, named}
+use Rattle.vk_pages.specs.Homes.{Home, in_overlay, in_registry, Served, served_by, source_in, served_for, baseline_file, baseline_given, given_by, table_in, overlay_home, named_home, home_in, home_with, served_home, registry_home, overlay_for, has_port, home_by, IsPinned}
 use Rattle.vk_opening.specs.Overrides.{override_for}
 use Rattle.vk_pages.specs.Pages.{page_at, page_of}
 

@@ -9,8 +9,8 @@ use Rattle.vk_files.specs.Within.{paths_after, up_to_first}
 use Rattle.vk_registry.specs.Tables.{Row}
 use Rattle.vk_opening.specs.Projects.{manifest_path}
 use Rattle.vk_opening.specs.Starts.{Overlay, is_port, has_ports, Start}
-use Rattle.vk_pages.specs.RegistryFiles.{baseline_path, table_path}
-use Rattle.vk_pages.specs.Homes.{Home, in_overlay, in_registry, Served, port_folder, has_port, overlay_for, served_for, given_by, home_of}
+use Rattle.vk_registry.specs.RegistryFiles.{baseline_path, table_path, port_folder}
+use Rattle.vk_pages.specs.Homes.{Home, in_overlay, in_registry, Served, has_port, overlay_for, served_for, given_by, home_of}
 use Rattle.vk_opening.specs.Overrides.{override_for}
 use Rattle.vk_pages.specs.Pages.{row_folder}
 

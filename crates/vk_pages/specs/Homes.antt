@@ -17,9 +17,9 @@ use Rattle.vk_files.specs.Readings.{Bad, is_at, file_at}
 use Rattle.vk_opening.specs.Projects.{manifest_path}
 use Rattle.vk_opening.specs.Overrides.{override_for}
 use Rattle.vk_opening.specs.Starts.{Overlay, is_port, has_ports, Start}
-use Rattle.vk_pages.specs.RegistryFiles.{baseline_path, table_path}
-use Rattle.vk_pages.specs.Wrongs.{or_wrong, file_or_wrong, manifest_file, stated_version}
-use Rattle.vk_pages.specs.Agreement.{named}
+use Rattle.vk_registry.specs.RegistryFiles.{baseline_path, table_path, port_folder}
+use Rattle.vk_pages.specs.Wrongs.{or_wrong, file_or_wrong, manifest_file}
+use Rattle.vk_registry.specs.Agreement.{named, stated_version}
 
 -- an overlay has the port, in this folder, at its one version; or a registry does: what is given, the registry's folder, and its table
 pub data Home : Type 0 where
@@ -27,10 +27,6 @@ pub data Home : Type 0 where
   in_registry : Given → Path → List Row → Home
 
 -- ---- overlays
-
--- the folder of a port among those of a folder
-abbrev pub port_folder : Path → List ℕ → Path
-port_folder folder port = folder ++ port ∷ []
 
 abbrev pub is_named : List ℕ → Option (List ℕ) → Bool
 is_named port None = false

@@ -1,7 +1,5 @@
 -- what is promised
-pub mod RegistryFiles
 pub mod Wrongs
-pub mod Agreement
 pub mod Homes
 pub mod Pages
 pub mod Asked

@@ -1,15 +1,12 @@
 -- What is wrong with a port, by its files.
-use Rattle.std.specs.Prelude.{ℕ, List, [], Result, Ok, Err}
+use Rattle.std.specs.Prelude.{ℕ, List, Result, Ok, Err}
 use Rattle.vk_spec.specs.Paths.{Path}
 use Rattle.vk_spec.specs.Files.{Files}
-use Rattle.vk_spec.specs.Reading.{or_fault}
-use Rattle.vk_spec.specs.Versions.{Version}
 use Rattle.vk_spec.specs.Manifests.{Manifest}
 use Rattle.vk_spec.specs.Pages.{Wrong, bad_file}
 use Rattle.vk_spec.specs.Conditions.{Condition}
 use Rattle.vk_json.specs.declared.faults.FileFault.{FileFault}
 use Rattle.vk_json.specs.Words.{word_of}
-use Rattle.vk_json.specs.declared.faults.Why.TheVariants as why
 use Rattle.vk_files.specs.Readings.{Bad, file_at}
 use Rattle.vk_opening.specs.Roots.{port_in}
 
@@ -28,7 +25,3 @@ file_or_wrong reading path files = or_wrong (file_at reading path files)
 -- a port's manifest
 abbrev pub manifest_file : Path → Files → Result (Manifest Condition) Wrong
 manifest_file path files = file_or_wrong port_in path files
-
--- the version of a port's manifest; every port's has one
-abbrev pub stated_version : Path → Manifest Condition → Result Version Wrong
-stated_version path m = or_fault (bad_file path [] (word_of why.NoVersion)) m.version

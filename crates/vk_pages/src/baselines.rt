@@ -9,23 +9,22 @@ ghost use Rattle.vk_files.specs.Notes.{IsNoteAt};
 ghost use Rattle.vk_files.specs.Views.{held, kept_of};
 ghost use Rattle.vk_files.specs.Within.{LooksWithin};
 ghost use Rattle.vk_base.specs.Stops.{is_failure, has_failed};
-ghost use Rattle.vk_files.specs.StopViews.{fault_seen};
+ghost use Rattle.vk_base.specs.Stops.{fault_seen};
 ghost use Rattle.vk_files.specs.Readings.{Bad, bad_view, ReadsAs, ReadsNoting};
-ghost use Rattle.vk_pages.specs.RegistryFiles.{baseline_path};
+ghost use Rattle.vk_registry.specs.RegistryFiles.{baseline_path};
 ghost use Rattle.vk_pages.specs.Homes.{baseline_file, baseline_given, baseline_for};
 ghost use Rattle.vk_pages.specs.BaselineNotes.{AreBaselines, baseline_noted, nothing_said, same_served};
 ghost use Rattle.vk_pages.specs.HomeViews.{served_view};
 ghost use Rattle.vk_pages.specs.NoteViews.{read_view, notes_of};
 
 use crate::contents::{NamedBaseline, wrong_of};
-use crate::paths::baseline_path;
 use crate::served::Served;
 use indexmap::IndexMap;
 use std::alloc::Global;
 use vk_base::{PortName, Stop};
 use vk_catalogue::{Given, Wrong};
 use vk_files::{BadFile, FileCache, read_file};
-use vk_registry::{Baseline, baseline_of};
+use vk_registry::{Baseline, baseline_of, baseline_path};
 use vk_tree::Tree;
 
 /// The baselines that were read, a bad one too, by the registry's folder and the baseline's name:

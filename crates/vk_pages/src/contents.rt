@@ -8,7 +8,7 @@ ghost use Rattle.vk_catalogue.specs.Views.{wrong_view};
 ghost use Rattle.vk_files.specs.Views.{held, kept_of};
 ghost use Rattle.vk_files.specs.Within.{LooksWithin};
 ghost use Rattle.vk_base.specs.Stops.{is_failure};
-ghost use Rattle.vk_files.specs.StopViews.{fault_seen};
+ghost use Rattle.vk_base.specs.Stops.{fault_seen};
 ghost use Rattle.vk_files.specs.Readings.{ReadsAs, bad_view, is_at};
 ghost use Rattle.vk_pages.specs.Wrongs.{wrong_of, file_or_wrong};
 

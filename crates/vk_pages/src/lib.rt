@@ -5,19 +5,16 @@
 //! root has an override for it.
 #![tactic(auto)]
 
-mod agreement;
 mod baselines;
 mod contents;
 mod homes;
 mod laws;
 mod overlays;
-mod paths;
 mod registries;
 mod served;
 
-pub use agreement::agree;
 pub use baselines::Baselines;
 pub use contents::content;
 pub use homes::{Home, Layout, home_of};
 pub use laws::{overlay_rule, override_rule, page_rule, pinned_rule};
-pub use paths::row_folder;
+pub use served::row_folder;

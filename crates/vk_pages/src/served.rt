@@ -1,19 +1,21 @@
-//! The registry that serves a port.
-ghost use Rattle.std.specs.Prelude.{◌≡◌, Some, false, option_map};
+//! The registry that serves a port, and the folders of its versions.
+ghost use Rattle.std.specs.Prelude.{◌≡◌, IfOk, Some, false, option_map};
 ghost use Rattle.vk_spec.specs.Reading.{Gives};
 ghost use Rattle.vk_config.specs.Views.{config_view, source_view};
 ghost use Rattle.vk_catalogue.specs.Views.{wrong_view};
-ghost use Rattle.vk_base.specs.Stops.{has_failed};
-ghost use Rattle.vk_files.specs.StopViews.{fault_seen};
+ghost use Rattle.vk_base.specs.Stops.{fault_seen, has_failed};
 ghost use Rattle.vk_pages.specs.Homes.{source_at, served_by, served_for};
 ghost use Rattle.vk_pages.specs.HomeViews.{layout_view, served_view};
+ghost use Rattle.vk_pages.specs.Pages.{row_folder};
+ghost use Rattle.vk_registry.specs.TableViews.{row_view};
 
 use crate::homes::Layout;
 use std::alloc::Global;
-use vk_base::{PortName, SharedText, Stop, TreePath};
+use vk_base::{Memory, PortName, SharedText, Stop, TreePath};
 use vk_catalogue::Wrong;
 use vk_config::{Config, Source, registry_of};
 use vk_opening::from_folder;
+use vk_registry::Row;
 
 /// A registry in a folder.
 #[derive(Clone, PartialEq, Eq, Hash, Drop)]
@@ -66,4 +68,11 @@ pub fn served_for(alloc: Global, layout: &Layout, port: &PortName) -> Result<Ser
         return Err(Stop::Fault(Wrong::NoRegistry));
     };
     served_by(alloc, &layout.folder, source)
+}
+
+/// The folder of a row of a registry's table.
+pub fn row_folder(alloc: Global, registry: &TreePath, row: &Row) -> Result<TreePath, Memory>
+    ensures { IfOk result (λ p. p ≡ row_folder registry.now (row_view row.now)) }
+{
+    from_folder(alloc, registry, &row.path)
 }

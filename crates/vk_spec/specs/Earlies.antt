@@ -1,4 +1,4 @@
--- Why the early files of a project give no setting.
+-- Why a project gives no setting: its early files, or where packages are to be kept.
 use Rattle.std.specs.Prelude.{ℕ, List}
 use Rattle.vk_spec.specs.Paths.{Path}
 
@@ -9,3 +9,7 @@ pub data Early : Type 0 where
   two_configurations : Early
   -- a triplet that no folder has
   no_triplet : List ℕ → Early
+  -- two folders of which one begins the other, and mustn't
+  overlap : Path → Path → Early
+  -- a file where a folder has to be
+  blocked : Path → Early

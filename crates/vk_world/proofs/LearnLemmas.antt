@@ -14,7 +14,7 @@ use Rattle.vk_base.specs.declared.stops.Outage.TheVariants as outage
 use Rattle.vk_spec.specs.Pages as plain
 use Rattle.vk_files.specs.Kept.{IsOf, Held}
 use Rattle.vk_base.specs.Stops.{has_failed}
-use Rattle.vk_files.specs.StopViews.{fault_seen}
+use Rattle.vk_base.specs.Stops.{fault_seen}
 use Rattle.vk_files.specs.Readings.{ReadsNoting}
 use Rattle.vk_files.specs.Within.{LooksWithin}
 use Rattle.vk_base.specs.declared.stops.Stop.{Stop}

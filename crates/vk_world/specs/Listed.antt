@@ -9,7 +9,7 @@ use Rattle.vk_spec.specs.Manifests.{Manifest}
 use Rattle.vk_spec.specs.Pages.{Given, overlay, Wrong}
 use Rattle.vk_spec.specs.Conditions.{Condition}
 use Rattle.vk_registry.specs.Tables.{Row}
-use Rattle.vk_pages.specs.Agreement.{agreeing}
+use Rattle.vk_registry.specs.Agreement.{agreeing}
 use Rattle.vk_pages.specs.Wrongs.{manifest_file}
 use Rattle.vk_pages.specs.Homes.{Home, in_overlay, in_registry}
 use Rattle.vk_pages.specs.Pages.{row_folder}

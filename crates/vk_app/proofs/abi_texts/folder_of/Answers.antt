@@ -3,7 +3,7 @@ use Rattle.std.proofs.lemmas.Result.{err_from_is_err_and}
 use Rattle.vk_spec.specs.Catalogues.{OnPages}
 use Rattle.vk_base.specs.Names.{port_rule}
 use Rattle.vk_base.proofs.NameLemmas.{rule_from_no_fault}
-use Rattle.vk_opening.proofs.PartLemmas.{name_is_part}
+use Rattle.vk_base.proofs.NamePartLemmas.{name_is_part}
 use Rattle.vk_world.specs.Worlds.{state_of}
 use Rattle.vk_app.proofs.FolderLemmas.{folder_answered, never_without}
 use Rattle.vk_app.proofs.abi_texts.folder_of.Goals as goal

@@ -1,7 +1,7 @@
 use Rattle.std.proofs.Common.{refl}
 use Rattle.vk_base.specs.Names.{word_rule}
 use Rattle.vk_base.proofs.NameLemmas.{rule_from_no_fault}
-use Rattle.vk_opening.proofs.PartLemmas.{name_part}
+use Rattle.vk_base.proofs.NamePartLemmas.{name_part}
 use Rattle.vk_opening.proofs.projects.triplet_file.Goals as goal
 
 pub returns-clause-part : goal.returns-clause-part

@@ -1,6 +1,6 @@
 use Rattle.std.proofs.lemmas.Result.{err_from_is_err_and}
 use Rattle.vk_catalogue.specs.Views.{wrong_view}
-use Rattle.vk_files.specs.StopViews.{fault_seen}
+use Rattle.vk_base.specs.Stops.{fault_seen}
 use Rattle.vk_spec.proofs.ReadingLemmas.{fails_on}
 use Rattle.vk_model.specs.Views.{manifest_view}
 use Rattle.vk_pages.specs.Homes.{named_home, overlay_home}

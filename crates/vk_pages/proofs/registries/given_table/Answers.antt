@@ -6,7 +6,7 @@ use Rattle.vk_files.proofs.NotingLemmas.{noting_none, noting_pure, noting_then, 
 use Rattle.vk_pages.specs.BaselineNotes.{AreBaselines}
 use Rattle.vk_files.specs.Within.{paths_after}
 use Rattle.vk_version.specs.AskViews.{ask_view}
-use Rattle.vk_pages.specs.RegistryFiles.{table_path}
+use Rattle.vk_registry.specs.RegistryFiles.{table_path}
 use Rattle.vk_pages.specs.Homes.{in_registry, given_by, home_with, served_home}
 use Rattle.vk_pages.specs.HomeViews.{table_home, served_view}
 use Rattle.vk_pages.specs.NoteViews.{notes_of}

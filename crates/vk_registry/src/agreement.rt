@@ -7,18 +7,15 @@ ghost use Rattle.vk_json.specs.Words.{word_of};
 ghost use Rattle.vk_json.specs.declared.faults.Why.TheVariants as why;
 ghost use Rattle.vk_version.specs.Views.{class_view};
 ghost use Rattle.vk_model.specs.Views.{manifest_view};
-ghost use Rattle.vk_catalogue.specs.Views.{field_view, wrong_view};
-ghost use Rattle.vk_base.specs.Stops.{has_failed};
-ghost use Rattle.vk_files.specs.StopViews.{fault_seen};
-ghost use Rattle.vk_pages.specs.Wrongs.{stated_version};
-ghost use Rattle.vk_pages.specs.Agreement.{class_word, name_text, same_in, named, version_agrees};
-ghost use Rattle.vk_pages.specs.Agreement.{agreeing};
+ghost use Rattle.vk_model.specs.WrongViews.{field_view, wrong_view};
+ghost use Rattle.vk_base.specs.Stops.{fault_seen, has_failed};
+ghost use Rattle.vk_registry.specs.Agreement.{class_word, name_text, same_in, named, version_agrees};
+ghost use Rattle.vk_registry.specs.Agreement.{agreeing, stated_version};
 
 use std::alloc::Global;
 use vk_base::{Memory, PortName, Stop, Text, TreePath};
-use vk_catalogue::{Field, Wrong};
 use vk_json::Why;
-use vk_model::Manifest;
+use vk_model::{Field, Manifest, Wrong};
 use vk_version::{Class, Version};
 
 fn class_word(class: Class) -> &'static str

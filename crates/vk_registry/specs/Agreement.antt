@@ -1,13 +1,14 @@
 -- Whether a manifest says what is said of it.
 use Rattle.std.specs.Prelude.{ℕ, List, [], Option, Some, None, Result, Ok, Err, codes, decimal, bytes_eq, if◌then◌else◌}
 use Rattle.vk_spec.specs.Paths.{Path}
-use Rattle.vk_spec.specs.Reading.{◌>>=◌}
+use Rattle.vk_spec.specs.Reading.{◌>>=◌, or_fault}
 use Rattle.vk_spec.specs.Versions.{Class, dot, date, text, Version}
 use Rattle.vk_spec.specs.Manifests.{Manifest}
 use Rattle.vk_spec.specs.Pages as the
-use Rattle.vk_spec.specs.Pages.{Wrong, disagrees, Field}
+use Rattle.vk_spec.specs.Pages.{Wrong, bad_file, disagrees, Field}
 use Rattle.vk_spec.specs.Conditions.{Condition}
-use Rattle.vk_pages.specs.Wrongs.{stated_version}
+use Rattle.vk_json.specs.Words.{word_of}
+use Rattle.vk_json.specs.declared.faults.Why.TheVariants as why
 
 -- the printed word of a class
 abbrev pub class_word : Class → List ℕ
@@ -27,6 +28,10 @@ same_in path field said found = if bytes_eq said found then Ok tt else Err (disa
 -- the manifest is the port's
 abbrev pub named : Path → List ℕ → Manifest Condition → Result (Unit {0}) Wrong
 named path port m = same_in path the.name port (name_text m.name)
+
+-- the version of a port's manifest; every port's has one
+abbrev pub stated_version : Path → Manifest Condition → Result Version Wrong
+stated_version path m = or_fault (bad_file path [] (word_of why.NoVersion)) m.version
 
 -- the first of class, text and port-version that differs is told
 unfoldable pub version_agrees : Path → Version → Version → Result (Unit {0}) Wrong

@@ -1,29 +1,17 @@
 //! Where the files of registries and ports stand.
 ghost use Rattle.std.specs.Prelude.{◌≡◌, ◌++◌, ◌∷◌, [], IfOk, None, true, take, codes};
 ghost use Rattle.vk_base.specs.Names.{name_fault, port_rule};
-ghost use Rattle.vk_base.specs.Paths.{is_part, joined};
-ghost use Rattle.vk_registry.specs.TableViews.{row_view};
-ghost use Rattle.vk_pages.specs.RegistryFiles.{baseline_path, table_path};
-ghost use Rattle.vk_pages.specs.Homes.{port_folder};
-ghost use Rattle.vk_pages.specs.Pages.{row_folder};
+ghost use Rattle.vk_base.specs.Paths.{is_part};
+ghost use Rattle.vk_registry.specs.RegistryFiles.{baseline_path, port_folder, table_path};
 
 use std::alloc::Global;
 use vk_base::{Memory, PortName, Text, TreePath};
-use vk_opening::from_folder;
-use vk_registry::Row;
 
 /// The folder of a port in a folder of ports.
 pub fn port_folder(alloc: Global, folder: &TreePath, port: &PortName) -> Result<TreePath, Memory>
     ensures { IfOk result (λ p. p ≡ port_folder folder.now port.now) }
 {
     folder.child(alloc, port.as_str())
-}
-
-/// The folder of a row of a registry's table.
-pub fn row_folder(alloc: Global, registry: &TreePath, row: &Row) -> Result<TreePath, Memory>
-    ensures { IfOk result (λ p. p ≡ row_folder registry.now (row_view row.now)) }
-{
-    from_folder(alloc, registry, &row.path)
 }
 
 fn versions_path(alloc: Global, registry: &TreePath) -> Result<TreePath, Memory>

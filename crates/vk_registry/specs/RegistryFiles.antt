@@ -2,6 +2,10 @@
 use Rattle.std.specs.Prelude.{◌++◌, ℕ, List, [], ◌∷◌, take, codes}
 use Rattle.vk_spec.specs.Paths.{Path}
 
+-- the folder of a port in a folder of ports
+abbrev pub port_folder : Path → List ℕ → Path
+port_folder folder port = folder ++ port ∷ []
+
 abbrev pub baseline_path : Path → Path
 baseline_path registry = registry ++ codes "versions" ∷ codes "baseline.json" ∷ []
 

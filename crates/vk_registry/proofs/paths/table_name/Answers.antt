@@ -1,8 +1,8 @@
 use Rattle.std.proofs.Common.{refl}
 use Rattle.vk_base.specs.Names.{port_rule}
 use Rattle.vk_base.proofs.NameLemmas.{rule_from_no_fault}
-use Rattle.vk_opening.proofs.PartLemmas.{name_part}
-use Rattle.vk_pages.proofs.paths.table_name.Goals as goal
+use Rattle.vk_base.proofs.NamePartLemmas.{name_part}
+use Rattle.vk_registry.proofs.paths.table_name.Goals as goal
 
 pub returns-clause-part : goal.returns-clause-part
 returns-clause-part c =
