@@ -1,9 +1,8 @@
 -- No two right values have one text: pairs, choices, and the leaves of lines.
-use Rattle.std.proofs.Common.{◌≡◌, ◌≢◌, ◌==◌, ◌⊎◌, ◌<◌, ◌^◌, ◌++◌, ◌∷◌, ℕ, List, [], inl, inr, refl, ap, sym, ◌∙◌, subst, append_assoc, codes, arith}
-use Rattle.std.specs.Prelude.{Option, Some, None, decimal, slice_index, if◌then◌else◌}
+use Rattle.std.proofs.Common.{◌≡◌, ◌≢◌, ◌==◌, ◌∷◌, ℕ, List, [], inl, inr, refl, ap, sym, ◌∙◌, subst, append_assoc, codes, arith}
+use Rattle.std.specs.Prelude.{Some, None, decimal, slice_index, if◌then◌else◌}
 use Rattle.std.proofs.lemmas.Fmt.{decimal_injective}
 use Rattle.std.proofs.lemmas.List.Elements.{All-cons, All-head, All-nil}
-use Rattle.vk_spec.specs.Paths.{Path}
 use Rattle.vk_spec.specs.Pages.{Field, name, class, text, port}
 use Rattle.vk_spec.specs.Versions as plain
 use Rattle.vk_spec.specs.Versions.{ask_of}

@@ -1,10 +1,9 @@
 -- No two right items, reasons, faults or early lines are printed alike.
-use Rattle.std.proofs.Common.{◌≡◌, ◌⊎◌, ◌++◌, ◌∷◌, ℕ, false, List, [], inl, inr, refl, ap, sym, ◌∙◌, subst, append_assoc, codes}
+use Rattle.std.proofs.Common.{◌≡◌, ◌⊎◌, ◌∷◌, ℕ, false, List, [], inl, inr, refl, sym, ◌∙◌, subst, codes}
 use Rattle.std.specs.Prelude.{decimal}
 use Rattle.std.specs.Str.{bytes_eq}
 use Rattle.vk_spec.specs.Paths.{Path}
 use Rattle.vk_spec.specs.Versions.{ask_of}
-use Rattle.vk_spec.specs.Earlies.{Early, bad_file, two_configurations, no_triplet}
 use Rattle.vk_base.specs.Names.{IsName, port_rule, word_rule}
 use Rattle.vk_base.specs.Paths.{Lacks}
 use Rattle.vk_base.specs.Printed.{field_word, path_text, version_text}
@@ -20,12 +19,12 @@ use Rattle.vk_resolution.specs.Reasons.{Reason}
 use Rattle.vk_report_reader.specs.Causes.{Cited, IsFloorCause, IsLine, IsNeedCause, IsVisitCause}
 use Rattle.vk_report_reader.specs.Choices.{either_text, IsRightEither}
 use Rattle.vk_report_reader.specs.Cycles.{CycleParts, IsWalk, walk_text}
-use Rattle.vk_report_reader.specs.Earlies.{IsRightEarly}
+use Rattle.vk_report_reader.specs.Earlies.{EarlyParts, FileParts, FolderParts, IsRightEarly}
 use Rattle.vk_report_reader.specs.Faults.{IsBadFile, IsConflict, IsCycle, IsDisagrees, IsNoBaseline, IsNoFeature, IsNoRegistry, IsNoVersion, IsRightAnd, IsRightFault, IsUnsupported, IsWord}
 use Rattle.vk_report_reader.specs.Features.{AreFeatures}
 use Rattle.vk_report_reader.specs.Forms.{TellsApart, pair_text, IsRightPair}
 use Rattle.vk_report_reader.specs.Items.{IsRightItem}
-use Rattle.vk_report_reader.specs.Names.{IsPortIfAny, IsRightInstance, port_or_root}
+use Rattle.vk_report_reader.specs.Names.{IsPortIfAny, port_or_root}
 use Rattle.vk_report_reader.specs.Paths.{IsPlace, IsRightPath}
 use Rattle.vk_report_reader.specs.Places.{Any}
 use Rattle.vk_report_reader.specs.Reasons.{IsFloorReason, IsNeedReason, IsRightReason, IsVisitReason}
@@ -35,12 +34,12 @@ use Rattle.vk_report_reader.proofs.Apart.{AreOthers, ask_apart, either_apart, fe
 use Rattle.vk_report_reader.proofs.CauseForms.{IsCited, cited_text}
 use Rattle.vk_report_reader.proofs.CauseForms as causes
 use Rattle.vk_report_reader.proofs.CycleForms.{AreCycleParts, cycle_parts_are, cycle_text, walk_apart}
+use Rattle.vk_report_reader.proofs.EarlyForms.{AreEarlyParts, IsBlockedLine, IsFileLine, IsFolderLine, IsOverlapLine, IsTripletLine, blocked_text, early_text, early_words_are, file_text, folder_text, overlap_text, triplet_text}
 use Rattle.vk_report_reader.proofs.FaultForms as faults
-use Rattle.vk_report_reader.proofs.Heads.{AreKinds, IsHeaded, OneOf, heads_clash, is_among, one_more, parts_headed, same_bytes}
+use Rattle.vk_report_reader.proofs.Heads.{AreKinds, IsHeaded, OneOf, heads_clash, is_among, line_headed, line_kind, one_more, one_more_choice, parts_headed, same_bytes, word_headed, word_kind}
 use Rattle.vk_report_reader.proofs.ItemForms.{item_parts_are}
 use Rattle.vk_report_reader.proofs.PairForms.{lacks_none, same_pair}
 use Rattle.vk_report_reader.proofs.ReasonForms as reasons
-use Rattle.vk_report_reader.proofs.Spaced.{spaced3}
 use Rattle.vk_report_reader.proofs.Through.{AreParts, parts_apart}
 use Rattle.vk_report_reader.proofs.PathForms.{path_blank, place_blank}
 use Rattle.vk_report_reader.proofs.WordForms.{plain_blank, word_plain}
@@ -332,79 +331,38 @@ fault_apart x y left right e = fault_kinds.apart x y (fault_kind x left) (fault_
 
 -- ---- early lines
 
-abbrev pub early_bad_text : Unit {0} × (Path × (List ℕ × List ℕ)) → List ℕ
-early_bad_text = pair_text 32 (λ u. codes "bad-file") (pair_text 32 path_text (pair_text 32 place_text (λ w. w)))
-
-abbrev pub AreEarlyBad : Unit {0} × (Path × (List ℕ × List ℕ)) → Type 0
-AreEarlyBad = IsRightPair 32 (λ u. codes "bad-file") Any (IsRightPair 32 path_text IsRightPath (IsRightPair 32 place_text IsPlace IsWord))
-
-abbrev pub EarlyWords : Type 0
-EarlyWords = Unit {0} ⊎ ((Unit {0} × List ℕ) ⊎ (Unit {0} × (Path × (List ℕ × List ℕ))))
-
-abbrev early_words_of : EarlyWords → Early
-early_words_of (inl u) = two_configurations
-early_words_of (inr (inl p)) = no_triplet p.1
-early_words_of (inr (inr p)) = bad_file p.1.0 p.1.1.0 p.1.1.1
-
-abbrev pub triplet_text : Unit {0} × List ℕ → List ℕ
-triplet_text = pair_text 32 (λ u. codes "no-triplet") token_of
-
-abbrev pub IsTripletLine : Unit {0} × List ℕ → Type 0
-IsTripletLine = IsRightPair 32 (λ u. codes "no-triplet") Any (IsName word_rule)
-
-abbrev pub early_words_text : EarlyWords → List ℕ
-early_words_text = either_text (λ u. codes "two-configurations") (either_text triplet_text early_bad_text)
-
-abbrev pub AreEarlyWords : EarlyWords → Type 0
-AreEarlyWords = IsRightEither Any (IsRightEither IsTripletLine AreEarlyBad)
-
-early_bad_same : (path : Path) (place word : List ℕ) → early_bad_text (tt, (path, (place, word))) ≡ early_line (bad_file path place word)
-early_bad_same path place word = sym (ap (λ l. codes "bad-file " ++ l) (spaced3 (path_text path) (place_text place) word))
-
-early_made : (p : EarlyWords) → AreEarlyWords p → (early_words_text p ≡ early_line (early_words_of p)) × IsRightEarly (early_words_of p)
-early_made (inl u) right = (refl, tt)
-early_made (inr (inl p)) right = (refl, right.2)
-early_made (inr (inr p)) right = (early_bad_same p.1.0 p.1.1.0 p.1.1.1, (right.2.0, right.2.2.0, right.2.2.2))
-
-early_of : (x : Early) → IsRightEarly x → (p : EarlyWords) × (AreEarlyWords p × (early_line x ≡ early_words_text p) × (x ≡ early_words_of p))
-early_of two_configurations right = (inl tt, (tt, refl, refl))
-early_of (no_triplet t) right = (inr (inl (tt, t)), ((tt, lacks_byte 32 (codes "no-triplet") refl, right), refl, refl))
-early_of (bad_file path place word) right = (
-  inr (inr (tt, (path, (place, word)))),
-  (
-    (tt, lacks_byte 32 (codes "bad-file") refl, (right.0, path_blank path right.0, (right.1, place_blank place right.1, right.2))),
-    sym (early_bad_same path place word),
-    refl,
-  ),
-)
-
-pub early_words_are : AreParts early_words_text AreEarlyWords early_line IsRightEarly early_words_of
-early_words_are = record { made = early_made; parts = early_of }
-
-early_bad_apart : TellsApart early_bad_text AreEarlyBad
-early_bad_apart =
-    pair_apart 32 (λ u. codes "bad-file") _ Any _ (word_apart (codes "bad-file"))
+file_kind : AreKinds (codes "bad-file" ∷ []) (file_text (λ w. w)) (IsFileLine IsWord)
+file_kind = line_kind (codes "bad-file") _ _
     (pair_apart 32 path_text _ IsRightPath _ path_apart
     (pair_apart 32 place_text (λ w. w) IsPlace IsWord place_apart same_word))
 
-word_no_line : {A : Type 0} (w v : List ℕ) (other : A → List ℕ) (is_right : A → Type 0) → Lacks 32 w → AreOthers (λ u. w) Any (pair_text 32 (λ u. v) other) (IsRightPair 32 (λ u. v) Any is_right)
-word_no_line w v other is_right lacks u q left right e = lacks_none 32 v (other q.1) (subst (Lacks 32) e lacks)
+abbrev folder_words : List (List ℕ)
+folder_words = codes "overlap" ∷ codes "blocked" ∷ []
+
+folder_kinds : AreKinds folder_words folder_text IsFolderLine
+folder_kinds = one_more_choice (codes "overlap") _ overlap_text blocked_text IsOverlapLine IsBlockedLine refl
+    (line_kind (codes "overlap") _ _ (pair_apart 32 path_text path_text IsRightPath IsRightPath path_apart path_apart))
+    (line_kind (codes "blocked") path_text IsRightPath path_apart)
+
+abbrev named_words : List (List ℕ)
+named_words = codes "no-triplet" ∷ codes "bad-file" ∷ folder_words
+
+named_kinds : AreKinds named_words (either_text triplet_text (either_text (file_text (λ w. w)) folder_text)) (IsRightEither IsTripletLine (IsRightEither (IsFileLine IsWord) IsFolderLine))
+named_kinds = one_more_choice (codes "no-triplet") _ triplet_text _ IsTripletLine _ refl
+    (line_kind (codes "no-triplet") token_of (IsName word_rule) (name_apart word_rule))
+    (one_more_choice (codes "bad-file") _ (file_text (λ w. w)) folder_text (IsFileLine IsWord) IsFolderLine refl file_kind folder_kinds)
+
+early_kinds : AreKinds (codes "two-configurations" ∷ named_words) (early_text (λ w. w)) (AreEarlyParts IsWord)
+early_kinds = one_more_choice (codes "two-configurations") _ (λ u. codes "two-configurations") _ Any _ refl
+    (word_kind (codes "two-configurations") (lacks_byte 32 (codes "two-configurations") refl))
+    named_kinds
 
 pub early_apart : TellsApart early_line IsRightEarly
-early_apart = parts_apart early_words_are
-    (either_apart (λ u. codes "two-configurations") (either_text triplet_text early_bad_text) Any (IsRightEither IsTripletLine AreEarlyBad)
-    (word_apart (codes "two-configurations"))
-    (either_apart triplet_text early_bad_text IsTripletLine AreEarlyBad
-    (pair_apart 32 (λ u. codes "no-triplet") token_of Any (IsName word_rule) (word_apart (codes "no-triplet")) (name_apart word_rule))
-    early_bad_apart
-    (words_differ (codes "no-triplet") (codes "bad-file") token_of _ (IsName word_rule) _ refl))
-    (both_other (λ u. codes "two-configurations") Any triplet_text IsTripletLine early_bad_text AreEarlyBad
-    (word_no_line (codes "two-configurations") (codes "no-triplet") token_of (IsName word_rule) (lacks_byte 32 (codes "two-configurations") refl))
-    (word_no_line (codes "two-configurations") (codes "bad-file") _ _ (lacks_byte 32 (codes "two-configurations") refl))))
+early_apart = parts_apart early_words_are early_kinds.apart
 
 -- ---- an early line is no fault's
 
-bad_other : (p : Unit {0} × (Path × (List ℕ × List ℕ))) (q : Unit {0} × (Path × (List ℕ × (List ℕ × ℕ)))) → AreEarlyBad p → AreBadWords q → early_bad_text p ≡ bad_words_text q → ⊥
+bad_other : (p : FileParts (List ℕ)) (q : Unit {0} × (Path × (List ℕ × (List ℕ × ℕ)))) → IsFileLine IsWord p → AreBadWords q → file_text (λ w. w) p ≡ bad_words_text q → ⊥
 bad_other p q left right e =
     let after_word = (same_pair 32 (codes "bad-file") (codes "bad-file") _ _ left.1 right.1 e).1 in
     let after_path = (same_pair 32 (path_text p.1.0) (path_text q.1.0) _ _ left.2.1 right.2.1 after_word).1 in
@@ -417,27 +375,32 @@ no_fault word text new headed x right e =
     let head = fault_kinds.heads x (fault_kind x right) in
     heads_clash word fault_words text new headed head.0 head.1.0 (subst (IsHeaded head.0) e head.1.1)
 
-headed_bad : (p : Unit {0} × (Path × (List ℕ × List ℕ))) → AreEarlyBad p → IsHeaded (codes "bad-file") (early_bad_text p)
-headed_bad p right = record { lacks = right.1; is = inl (pair_text 32 path_text (pair_text 32 place_text (λ w. w)) p.1, refl) }
+headed_bad : (p : FileParts (List ℕ)) → IsFileLine IsWord p → IsHeaded (codes "bad-file") (file_text (λ w. w) p)
+headed_bad p right = line_headed (codes "bad-file") _ right.1
 
-bad_no_fault : (p : Unit {0} × (Path × (List ℕ × List ℕ))) → AreEarlyBad p → (x : Fault) → SomeFault x → fault_line x ≡ early_bad_text p → ⊥
+bad_no_fault : (p : FileParts (List ℕ)) → IsFileLine IsWord p → (x : Fault) → SomeFault x → fault_line x ≡ file_text (λ w. w) p → ⊥
 bad_no_fault p right x (inl is) e =
     let head = no_registry_kind.heads x is in
-    heads_clash (codes "bad-file") (codes "no-registry" ∷ []) (early_bad_text p) refl (headed_bad p right) head.0 head.1.0 (subst (IsHeaded head.0) e head.1.1)
+    heads_clash (codes "bad-file") (codes "no-registry" ∷ []) (file_text (λ w. w) p) refl (headed_bad p right) head.0 head.1.0 (subst (IsHeaded head.0) e head.1.1)
 bad_no_fault p right x (inr (inl is)) e =
     let head = no_baseline_kind.heads x is in
-    heads_clash (codes "bad-file") (codes "no-baseline" ∷ []) (early_bad_text p) refl (headed_bad p right) head.0 head.1.0 (subst (IsHeaded head.0) e head.1.1)
+    heads_clash (codes "bad-file") (codes "no-baseline" ∷ []) (file_text (λ w. w) p) refl (headed_bad p right) head.0 head.1.0 (subst (IsHeaded head.0) e head.1.1)
 bad_no_fault p right x (inr (inr (inl is))) e =
     let words = bad_words_are.parts x is in
     bad_other p words.0 right words.1.0 (sym e ∙ words.1.1)
 bad_no_fault p right x (inr (inr (inr is))) e =
     let head = version_kinds.heads x is in
-    heads_clash (codes "bad-file") later_words (early_bad_text p) refl (headed_bad p right) head.0 head.1.0 (subst (IsHeaded head.0) e head.1.1)
+    heads_clash (codes "bad-file") later_words (file_text (λ w. w) p) refl (headed_bad p right) head.0 head.1.0 (subst (IsHeaded head.0) e head.1.1)
 
-no_words : (p : EarlyWords) → AreEarlyWords p → (x : Fault) → IsRightFault x → fault_line x ≡ early_words_text p → ⊥
-no_words (inl u) right x fine e = no_fault (codes "two-configurations") (codes "two-configurations") refl record { lacks = lacks_byte 32 (codes "two-configurations") refl; is = inr refl } x fine e
-no_words (inr (inl p)) right x fine e = no_fault (codes "no-triplet") (triplet_text p) refl record { lacks = right.1; is = inl (token_of p.1, refl) } x fine e
-no_words (inr (inr p)) right x fine e = bad_no_fault p right x (fault_kind x fine) e
+folder_no_fault : (p : FolderParts) → IsFolderLine p → (x : Fault) → IsRightFault x → fault_line x ≡ folder_text p → ⊥
+folder_no_fault (inl p) right = no_fault (codes "overlap") (overlap_text p) refl (line_headed (codes "overlap") _ right.1)
+folder_no_fault (inr p) right = no_fault (codes "blocked") (blocked_text p) refl (line_headed (codes "blocked") _ right.1)
+
+no_words : (p : EarlyParts (List ℕ)) → AreEarlyParts IsWord p → (x : Fault) → IsRightFault x → fault_line x ≡ early_text (λ w. w) p → ⊥
+no_words (inl u) right = no_fault (codes "two-configurations") (codes "two-configurations") refl (word_headed (codes "two-configurations") (lacks_byte 32 (codes "two-configurations") refl))
+no_words (inr (inl p)) right = no_fault (codes "no-triplet") (triplet_text p) refl (line_headed (codes "no-triplet") _ right.1)
+no_words (inr (inr (inl p))) right = λ x fine. bad_no_fault p right x (fault_kind x fine)
+no_words (inr (inr (inr p))) right = folder_no_fault p right
 
 pub fault_or_early : AreOthers fault_line IsRightFault early_line IsRightEarly
 fault_or_early x early fine right e =

@@ -1,6 +1,6 @@
 -- Cycles are read instance by instance.
-use Rattle.std.proofs.Common.{◌≡◌, ◌⊎◌, ◌++◌, ◌∷◌, ◌<◌, ◌+◌, ℕ, List, [], length, length-append, map, inl, inr, refl, ap, sym, ◌∙◌, subst, append_assoc, arith, codes}
-use Rattle.std.specs.Prelude.{Option, Some, None}
+use Rattle.std.proofs.Common.{◌≡◌, ◌⊎◌, ◌++◌, ◌∷◌, ◌<◌, ℕ, List, [], length, length-append, inl, inr, refl, ap, sym, ◌∙◌, subst, append_assoc, arith, codes}
+use Rattle.std.specs.Prelude.{Some, None}
 use Rattle.std.specs.List.{All, flat_map}
 use Rattle.std.proofs.lemmas.List.{append-nil}
 use Rattle.std.proofs.lemmas.Grind.{flat_map-append}

@@ -1,5 +1,5 @@
 -- Faults are put together from the parts of their lines.
-use Rattle.std.proofs.Common.{◌≡◌, ◌++◌, ◌∷◌, ℕ, List, [], refl, ap, sym, ◌∙◌, append_assoc, codes, arith, subst}
+use Rattle.std.proofs.Common.{◌≡◌, ◌++◌, ◌∷◌, ℕ, List, [], refl, ap, sym, ◌∙◌, append_assoc, codes, arith}
 use Rattle.std.specs.Prelude.{Option, Some, None, decimal}
 use Rattle.vk_spec.specs.Versions as plain
 use Rattle.vk_spec.specs.Versions.{ask_of}
@@ -22,7 +22,7 @@ use Rattle.vk_report_reader.specs.Names.{IsPortIfAny, IsRightWho, port_or_root, 
 use Rattle.vk_report_reader.specs.Paths.{IsPlace, IsRightPath}
 use Rattle.vk_report_reader.specs.Texts.{IsText}
 use Rattle.vk_report_reader.specs.Versions.{IsRightAsk, IsRightIfAny, IsRightVersion}
-use Rattle.vk_report_reader.specs.Faults.{BadFileParts, ConflictParts, DisagreesParts, IsBadFile, IsConflict, IsCycle, IsDisagrees, IsNoBaseline, IsNoFeature, IsNoRegistry, IsNoVersion, IsRightAnd, IsRightFault, IsUnsupported, IsWord, NoBaselineParts, NoFeatureParts, NoRegistryParts, NoVersionParts, UnsupportedParts, bad_file_fault, conflict_fault, disagrees_fault, no_baseline_fault, no_feature_fault, no_registry_fault, no_version_fault, unsupported_fault}
+use Rattle.vk_report_reader.specs.Faults.{BadFileParts, ConflictParts, DisagreesParts, IsBadFile, IsConflict, IsDisagrees, IsNoBaseline, IsNoFeature, IsNoRegistry, IsNoVersion, IsRightAnd, IsRightFault, IsUnsupported, NoBaselineParts, NoFeatureParts, NoRegistryParts, NoVersionParts, UnsupportedParts, bad_file_fault, conflict_fault, disagrees_fault, no_baseline_fault, no_feature_fault, no_registry_fault, no_version_fault, unsupported_fault}
 use Rattle.vk_report_reader.specs.Places.{Any}
 use Rattle.vk_report_reader.proofs.NameForms.{name_lacks}
 use Rattle.vk_report_reader.proofs.Numbers.{decimal_lacks}

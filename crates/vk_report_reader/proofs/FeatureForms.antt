@@ -1,5 +1,5 @@
 -- Features are read between commas.
-use Rattle.std.proofs.Common.{◌≡◌, ◌≢◌, ◌==◌, ◌++◌, ◌∷◌, ◌+◌, ◌<◌, ℕ, Bool, true, false, List, [], length, map, ◌⊎◌, inl, inr, refl, ap, sym, ◌∙◌, subst, append_assoc, arith, codes}
+use Rattle.std.proofs.Common.{◌≡◌, ◌≢◌, ◌==◌, ◌++◌, ◌∷◌, ℕ, true, false, List, [], length, map, ◌⊎◌, inl, inr, refl, ap, sym, ◌∙◌, subst, append_assoc, arith, codes}
 use Rattle.std.specs.Prelude.{Option, Some, None, Result, Ok, Err}
 use Rattle.std.proofs.lemmas.List.{map-append}
 use Rattle.vk_spec.specs.Reading.{Gives}
@@ -8,15 +8,12 @@ use Rattle.vk_base.specs.declared.stops.Unread.{Unread}
 use Rattle.vk_base.specs.declared.stops.Unread.TheVariants as unread
 use Rattle.vk_base.specs.declared.names.NameFault.{NameFault}
 use Rattle.vk_base.proofs.FeatureLemmas.{feature-holds, feature-only, feature-same}
-use Rattle.std.specs.List.{All, join_with_byte, slice_split}
-use Rattle.std.specs.Cmp.Lexicographic.{slice_cmp}
-use Rattle.std.specs.Ordering.{nat_cmp}
-use Rattle.std.specs.declared.cmp.Ordering.TheVariants.{Less}
+use Rattle.std.specs.List.{All, join_with_byte}
 use Rattle.std.proofs.lemmas.Bool.Decides.{nat_tests}
 use Rattle.std.proofs.lemmas.List.Elements.{All-weaker}
 use Rattle.std.proofs.lemmas.List.Splits.{slice_split_at, slice_split_none, length-slice_split, join_with_byte-slice_split}
 use Rattle.vk_spec.specs.Manifests.{core}
-use Rattle.vk_base.specs.Names.{IsFeatureName, IsName, reads_feature, word_rule}
+use Rattle.vk_base.specs.Names.{IsFeatureName, reads_feature, word_rule}
 use Rattle.vk_base.specs.Paths.{Lacks}
 use Rattle.vk_base.specs.Tokens.{token_of}
 use Rattle.vk_base.proofs.PathLemmas.{lacks_byte}

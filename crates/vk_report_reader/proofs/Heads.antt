@@ -1,10 +1,12 @@
 -- Values of several kinds, told apart by the first words of their lines.
-use Rattle.std.proofs.Common.{◌≡◌, ◌⊎◌, ◌||◌, ◌++◌, ◌∷◌, ℕ, Bool, true, false, List, [], inl, inr, refl, ap, sym, ◌∙◌, subst}
+use Rattle.std.proofs.Common.{◌≡◌, ◌⊎◌, ◌||◌, ◌++◌, ◌∷◌, ℕ, Bool, true, false, List, [], inl, inr, refl, sym, ◌∙◌, subst}
 use Rattle.std.specs.Str.{bytes_eq}
 use Rattle.std.proofs.lemmas.Slice.Eq.{bytes_eq-Decides}
 use Rattle.vk_base.specs.Paths.{Lacks}
-use Rattle.vk_report_reader.specs.Forms.{TellsApart}
-use Rattle.vk_report_reader.proofs.Apart.{AreOthers}
+use Rattle.vk_report_reader.specs.Choices.{either_text, IsRightEither}
+use Rattle.vk_report_reader.specs.Forms.{TellsApart, pair_text, IsRightPair}
+use Rattle.vk_report_reader.specs.Places.{Any}
+use Rattle.vk_report_reader.proofs.Apart.{AreOthers, either_apart, pair_apart, word_apart}
 use Rattle.vk_report_reader.proofs.PairForms.{lacks_none, same_pair}
 use Rattle.vk_report_reader.proofs.Through.{AreParts, parts_hold}
 
@@ -79,13 +81,18 @@ heads_apart word words shows is_fine tells is_good new one other x y left right 
 abbrev pub OneOf : {X : Type 0} → (X → Type 0) → (X → Type 0) → X → Type 0
 OneOf one other x = one x ⊎ other x
 
+widened : {w : List ℕ} (word : List ℕ) (words : List (List ℕ)) → IsAmong w (word ∷ []) → IsAmong w (word ∷ words)
+widened word words (inl same) = inl same
+widened word words (inr none) = absurd none
+
 pub more_heads : {X : Type 0} (word : List ℕ) (words : List (List ℕ)) (shows : X → List ℕ) (one other : X → Type 0) → HaveHeads (word ∷ []) shows one → HaveHeads words shows other → HaveHeads (word ∷ words) shows (OneOf one other)
-more_heads word words shows one other first second x (inl is) = let w = first x is in (w.0, (widen w.1.0, w.1.1))
-  where
-    widen : {w : List ℕ} → IsAmong w (word ∷ []) → IsAmong w (word ∷ words)
-    widen (inl same) = inl same
-    widen (inr none) = absurd none
+more_heads word words shows one other first second x (inl is) = let w = first x is in (w.0, (widened word words w.1.0, w.1.1))
 more_heads word words shows one other first second x (inr is) = let w = second x is in (w.0, (inr w.1.0, w.1.1))
+
+pub choice_heads : {P Q : Type 0} (word : List ℕ) (words : List (List ℕ)) (one : P → List ℕ) (other : Q → List ℕ) (is_right_one : P → Type 0) (is_right_other : Q → Type 0)
+    → HaveHeads (word ∷ []) one is_right_one → HaveHeads words other is_right_other → HaveHeads (word ∷ words) (either_text one other) (IsRightEither is_right_one is_right_other)
+choice_heads word words one other is_right_one is_right_other first second (inl p) right = let w = first p right in (w.0, (widened word words w.1.0, w.1.1))
+choice_heads word words one other is_right_one is_right_other first second (inr q) right = let w = second q right in (w.0, (inr w.1.0, w.1.1))
 
 pub kinds_apart : {X : Type 0} (shows : X → List ℕ) (one other : X → Type 0) → TellsApart shows one → TellsApart shows other → AreOthers shows one shows other → TellsApart shows (OneOf one other)
 kinds_apart shows one other first second clash x y (inl left) (inl right) e = first x y left right e
@@ -102,4 +109,29 @@ pub one_more : {X : Type 0} (word : List ℕ) (words : List (List ℕ)) (shows :
 one_more word words shows one other new first second = record {
   heads = more_heads word words shows one other first.heads second.heads;
   apart = kinds_apart shows one other first.apart second.apart (heads_apart word words shows one shows other new first.heads second.heads);
+}
+
+-- a word with a value behind it
+pub line_headed : (word rest : List ℕ) → Lacks 32 word → IsHeaded word (word ++ 32 ∷ rest)
+line_headed word rest lacks = record { lacks = lacks; is = inl (rest, refl) }
+
+pub line_kind : {B : Type 0} (word : List ℕ) (other : B → List ℕ) (is_right : B → Type 0) → TellsApart other is_right → AreKinds (word ∷ []) (pair_text 32 (λ u. word) other) (IsRightPair 32 (λ u. word) Any is_right)
+line_kind word other is_right apart = record {
+  heads = λ p right. (word, (inl refl, line_headed word (other p.1) right.1));
+  apart = pair_apart 32 (λ u. word) other Any is_right (word_apart word) apart;
+}
+
+-- a word alone
+pub word_headed : (word : List ℕ) → Lacks 32 word → IsHeaded word word
+word_headed word lacks = record { lacks = lacks; is = inr refl }
+
+pub word_kind : (word : List ℕ) → Lacks 32 word → AreKinds (word ∷ []) (λ u. word) Any
+word_kind word lacks = record { heads = λ u right. (word, (inl refl, word_headed word lacks)); apart = word_apart word }
+
+-- a choice of a kind whose word is new, or of the others
+pub one_more_choice : {P Q : Type 0} (word : List ℕ) (words : List (List ℕ)) (one : P → List ℕ) (other : Q → List ℕ) (is_right_one : P → Type 0) (is_right_other : Q → Type 0)
+    → is_among word words ≡ false → AreKinds (word ∷ []) one is_right_one → AreKinds words other is_right_other → AreKinds (word ∷ words) (either_text one other) (IsRightEither is_right_one is_right_other)
+one_more_choice word words one other is_right_one is_right_other new first second = record {
+  heads = choice_heads word words one other is_right_one is_right_other first.heads second.heads;
+  apart = either_apart one other is_right_one is_right_other first.apart second.apart (heads_apart word words one is_right_one other is_right_other new first.heads second.heads);
 }

@@ -1,7 +1,7 @@
 -- Items are put together from the parts of their lines.
 use Rattle.std.proofs.Common.{◌≡◌, ◌++◌, ◌∷◌, ℕ, List, [], refl, ap, sym, ◌∙◌, append_assoc, arith}
 use Rattle.std.specs.Prelude.{decimal}
-use Rattle.vk_spec.specs.Versions.{Version, ask_of}
+use Rattle.vk_spec.specs.Versions.{ask_of}
 use Rattle.vk_base.specs.Names.{IsName, port_rule, word_rule}
 use Rattle.vk_base.specs.Printed.{version_text}
 use Rattle.vk_base.specs.Tokens.{token_of}

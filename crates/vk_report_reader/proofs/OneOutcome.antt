@@ -1,19 +1,15 @@
 -- A report leads one way, and to one outcome.
-use Rattle.std.proofs.Common.{◌≡◌, ◌≢◌, ◌==◌, ◌⊎◌, ◌<◌, ◌^◌, ◌+◌, ◌++◌, ◌∷◌, ℕ, Bool, true, false, List, [], length, inl, inr, refl, ap, sym, ◌∙◌, subst, append_assoc, codes, arith}
+use Rattle.std.proofs.Common.{◌≡◌, ◌≢◌, ◌==◌, ◌⊎◌, ◌<◌, ◌+◌, ◌++◌, ◌∷◌, ℕ, Bool, true, false, List, [], length, inl, inr, refl, ap, sym, ◌∙◌, subst, append_assoc, codes, arith}
 use Rattle.std.specs.Prelude.{flat_map, nat_lt, decimal, Result, Ok, Err, if◌then◌else◌}
 use Rattle.std.specs.List.{All}
 use Rattle.std.specs.Str.{bytes_eq}
 use Rattle.std.proofs.lemmas.Bool.{ltb-true}
-use Rattle.std.proofs.lemmas.Bool.Decides.{nat_tests}
 use Rattle.std.proofs.lemmas.List.{append_cancel_left}
-use Rattle.std.proofs.lemmas.List.Elements.{All-append, All-cons, All-weaker}
+use Rattle.std.proofs.lemmas.List.Elements.{All-weaker}
 use Rattle.std.proofs.lemmas.Str.{IsUtf8-from_ascii}
 use Rattle.std.proofs.lemmas.Str.Ascii.{IsAscii-from_all}
 use Rattle.vk_spec.specs.Earlies.{Early}
-use Rattle.vk_base.specs.Paths.{Lacks}
 use Rattle.vk_resolution.specs.Faults.{Fault}
-use Rattle.vk_resolution.specs.Planning.{Item}
-use Rattle.vk_resolution.specs.Reasons.{Reason}
 use Rattle.vk_resolution.specs.Outcomes.{Outcome}
 use Rattle.vk_resolution.specs.Lines.{ended, fault_line, item_text, reason_text}
 use Rattle.vk_model.specs.Lines.{early_line}

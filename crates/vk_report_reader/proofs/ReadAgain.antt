@@ -1,10 +1,9 @@
 -- The report of an outcome that can be shown leads to it.
-use Rattle.std.proofs.Common.{◌≡◌, ◌≢◌, ◌++◌, ◌∷◌, ◌<◌, ◌≤◌, ◌+◌, ◌==◌, ◌^◌, cond, ℕ, Bool, true, false, List, [], length, length-append, map, inl, inr, refl, ap, sym, ◌∙◌, subst, append_assoc, arith, codes}
-use Rattle.std.specs.Prelude.{flat_map, nat_lt, decimal, Result, Ok, Err}
+use Rattle.std.proofs.Common.{◌≡◌, ◌≢◌, ◌++◌, ◌∷◌, ◌<◌, ◌≤◌, ◌+◌, ◌==◌, ◌^◌, cond, ℕ, false, List, [], length, length-append, inl, inr, refl, ap, sym, subst, append_assoc, arith, codes}
+use Rattle.std.specs.Prelude.{nat_lt, decimal, Result, Ok, Err}
 use Rattle.std.specs.List.{All}
-use Rattle.std.proofs.lemmas.Bool.{lt-ltb, le-ltb, cases_Bool}
+use Rattle.std.proofs.lemmas.Bool.{lt-ltb, le-ltb}
 use Rattle.std.proofs.lemmas.Bool.Decides.{nat_tests}
-use Rattle.std.proofs.lemmas.Fmt.{decimal_digit}
 use Rattle.std.proofs.lemmas.List.{append-nil}
 use Rattle.std.proofs.lemmas.List.Elements.{All-nil, All-head, All-tail}
 use Rattle.vk_spec.specs.Earlies.{Early}
@@ -12,14 +11,14 @@ use Rattle.vk_resolution.specs.Faults.{Fault}
 use Rattle.vk_resolution.specs.Planning.{Item}
 use Rattle.vk_resolution.specs.Reasons.{Reason}
 use Rattle.vk_resolution.specs.Outcomes.{Outcome, planned, refused}
-use Rattle.vk_resolution.specs.Lines.{ended, fault_line, item_text, reason_text}
+use Rattle.vk_resolution.specs.Lines.{fault_line, item_text, reason_text}
 use Rattle.vk_model.specs.Lines.{early_line}
 use Rattle.vk_report.specs.Reports.{whole_report}
 use Rattle.vk_report_reader.specs.Earlies.{IsRightEarly}
 use Rattle.vk_report_reader.specs.Faults.{IsRightFault}
 use Rattle.vk_report_reader.specs.Items.{IsRightItem}
 use Rattle.vk_report_reader.specs.Reasons.{IsRightReason}
-use Rattle.vk_report_reader.specs.Places.{Any, Body, Goes, IsRead, Place, Wants, WantsAs, WantsCount, after_early, early_body, fault_body, fault_count, fault_lines, finished, headed, item_count, items, numbered, only_fault, outcome_of, pick, plan_body, reasons, start, status}
+use Rattle.vk_report_reader.specs.Places.{Any, Body, Goes, IsRead, Place, Wants, WantsAs, WantsCount, after_early, early_body, fault_body, fault_count, fault_lines, finished, headed, item_count, items, numbered, only_fault, outcome_of, plan_body, reasons, start, status}
 use Rattle.vk_report_reader.specs.Showable.{AreRight, IsShowable}
 use Rattle.vk_report_reader.proofs.PlaceLemmas.{picks_one, picks_other}
 use Rattle.vk_report_reader.proofs.WrittenAgain.{goes_to}

@@ -1,6 +1,6 @@
 -- A report is read line by line.
 use Rattle.std.proofs.Common.{◌≡◌, ◌≢◌, ◌++◌, ◌∷◌, ◌<◌, ◌+◌, ◌^◌, ℕ, Bool, true, false, Decides, List, [], length, length-append, refl, ap, sym, ◌∙◌, subst, append_assoc, arith, codes}
-use Rattle.std.specs.Prelude.{flat_map, not, IfSome, Result, Ok, Err}
+use Rattle.std.specs.Prelude.{flat_map, not, IfSome, Result, Err}
 use Rattle.vk_base.specs.Stops.{fault_in}
 use Rattle.vk_base.specs.declared.stops.Unread.{Unread}
 use Rattle.vk_base.specs.declared.stops.Unread.TheVariants as unread
@@ -13,7 +13,7 @@ use Rattle.vk_resolution.specs.Lines.{ended}
 use Rattle.vk_spec.specs.Earlies.{Early}
 use Rattle.vk_resolution.specs.Outcomes.{Outcome}
 use Rattle.vk_report_reader.specs.Cuts.{Ends, Led, NoLine}
-use Rattle.vk_report_reader.specs.Places.{Goes, IsLineText, IsRead, IsRefusedAt, Place, Wants, finished, start, status}
+use Rattle.vk_report_reader.specs.Places.{Goes, IsRead, IsRefusedAt, Place, Wants, finished, start, status}
 use Rattle.vk_report_reader.proofs.PairForms.{same_pair}
 
 goes_on : (from place next : Place) (lines : List (List ℕ)) (line : List ℕ) → Goes from lines place → Wants place line next → Goes from (lines ++ line ∷ []) next

@@ -1,17 +1,13 @@
 -- A line that may stand in a report has visible characters of ASCII and blanks alone, so it is a text without a line feed.
-use Rattle.std.proofs.Common.{◌≡◌, ◌≢◌, ◌⊎◌, ◌<◌, ◌^◌, ◌++◌, ◌∷◌, ◌&&◌, ℕ, Bool, true, List, [], map, inl, inr, refl, sym, subst, codes, arith}
-use Rattle.std.specs.Prelude.{Option, Some, None, decimal, nat_lt}
+use Rattle.std.proofs.Common.{◌≡◌, ◌<◌, ◌++◌, ◌∷◌, ◌&&◌, ℕ, Bool, true, List, [], map, inl, inr, refl, sym, subst, codes, arith}
+use Rattle.std.specs.Prelude.{Some, None, decimal, nat_lt}
 use Rattle.std.specs.List.{All, join_with_byte}
 use Rattle.std.proofs.lemmas.Bool.Decides.{nat_tests}
 use Rattle.std.proofs.lemmas.List.Elements.{All-append, All-cons, All-head, All-nil, All-tail, All-weaker}
-use Rattle.vk_spec.specs.Paths.{Path}
-use Rattle.vk_spec.specs.Pages.{Field}
-use Rattle.vk_spec.specs.Settings.{Instance}
-use Rattle.vk_spec.specs.Versions.{Ask, Version, ask_of}
-use Rattle.vk_spec.specs.Earlies.{Early}
+use Rattle.vk_spec.specs.Versions.{ask_of}
 use Rattle.vk_spec.specs.Manifests.{core}
 use Rattle.vk_base.specs.Names.{IsName, NameRule, is_name_byte, port_rule, word_rule}
-use Rattle.vk_base.specs.Paths.{Lacks, text_of_path}
+use Rattle.vk_base.specs.Paths.{text_of_path}
 use Rattle.vk_base.specs.Printed.{field_word, path_text, version_text}
 use Rattle.vk_base.specs.Tokens.{IsPlain, token_of}
 use Rattle.vk_base.proofs.PathLemmas.{both}
@@ -20,10 +16,8 @@ use Rattle.vk_json.specs.Places.{place_text}
 use Rattle.vk_model.specs.Lines.{early_line, features_text}
 use Rattle.vk_resolution.specs.Asking.{Fact, need, floor, visit}
 use Rattle.vk_resolution.specs.Consequences.{Cause}
-use Rattle.vk_resolution.specs.Faults.{Fault, conflicts, differs, has_cycle, isnt_supported, lacks_baseline, lacks_feature, lacks_registry, lacks_version, troubled, unreadable}
+use Rattle.vk_resolution.specs.Faults.{conflicts, differs, has_cycle, isnt_supported, lacks_baseline, lacks_feature, lacks_registry, lacks_version, troubled, unreadable}
 use Rattle.vk_resolution.specs.Lines.{cause_text, fault_line, item_text, reason_text, version_or_none}
-use Rattle.vk_resolution.specs.Planning.{Item}
-use Rattle.vk_resolution.specs.Reasons.{Reason}
 use Rattle.vk_report_reader.specs.Causes.{IsFloorCause, IsLine, IsNeedCause, IsVisitCause}
 use Rattle.vk_report_reader.specs.Choices.{either_text, IsRightEither}
 use Rattle.vk_report_reader.specs.Cycles.{IsWalk, walk_text}
@@ -38,9 +32,10 @@ use Rattle.vk_report_reader.specs.Places.{Any}
 use Rattle.vk_report_reader.specs.Reasons.{IsFloorReason, IsNeedReason, IsRightReason, IsVisitReason}
 use Rattle.vk_report_reader.specs.Texts.{IsText}
 use Rattle.vk_report_reader.specs.Versions.{IsRightAsk, IsRightIfAny, IsRightVersion}
-use Rattle.vk_report_reader.proofs.ApartLines.{AreEarlyBad, IsTripletLine, bad_words_are, early_bad_text, early_words_are, triplet_text}
+use Rattle.vk_report_reader.proofs.ApartLines.{bad_words_are}
 use Rattle.vk_report_reader.proofs.CauseForms as causes
 use Rattle.vk_report_reader.proofs.CycleForms.{cycle_parts_are, one_text, two_text}
+use Rattle.vk_report_reader.proofs.EarlyForms.{IsBlockedLine, IsFileLine, IsFolderLine, IsOverlapLine, IsTripletLine, blocked_text, early_words_are, file_text, folder_text, overlap_text, triplet_text}
 use Rattle.vk_report_reader.proofs.FaultForms as faults
 use Rattle.vk_report_reader.proofs.ItemForms.{item_parts_are}
 use Rattle.vk_report_reader.proofs.NameForms.{core_word, name_token}
@@ -272,11 +267,18 @@ fault_shown (has_cycle walk_in) right =
     (either_shown (λ u. codes "cycle") _ Any _ (word (codes "cycle") refl) (pair_shown (λ u. codes "cycle") walk_text Any IsWalk (word (codes "cycle") refl) walk))
     (has_cycle walk_in) (tt, right)
 
+folder_shown : AreShown folder_text IsFolderLine
+folder_shown = either_shown overlap_text blocked_text IsOverlapLine IsBlockedLine
+    (pair_shown (λ u. codes "overlap") _ Any _ (word (codes "overlap") refl) (pair_shown path_text path_text IsRightPath IsRightPath path path))
+    (pair_shown (λ u. codes "blocked") path_text Any IsRightPath (word (codes "blocked") refl) path)
+
 pub early_shown : AreShown early_line IsRightEarly
 early_shown = parts_hold early_words_are (All IsShown)
     (either_shown (λ u. codes "two-configurations") _ Any _ (word (codes "two-configurations") refl)
-    (either_shown triplet_text early_bad_text IsTripletLine AreEarlyBad
+    (either_shown triplet_text _ IsTripletLine _
     (pair_shown (λ u. codes "no-triplet") token_of Any (IsName word_rule) (word (codes "no-triplet") refl) (name word_rule))
+    (either_shown (file_text (λ w. w)) folder_text (IsFileLine IsWord) IsFolderLine
     (pair_shown (λ u. codes "bad-file") _ Any _ (word (codes "bad-file") refl)
     (pair_shown path_text _ IsRightPath _ path
-    (pair_shown place_text (λ w. w) IsPlace IsWord place why)))))
+    (pair_shown place_text (λ w. w) IsPlace IsWord place why)))
+    folder_shown)))

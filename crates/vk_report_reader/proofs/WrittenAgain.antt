@@ -1,20 +1,19 @@
 -- The lines that lead to an outcome are its report.
-use Rattle.std.proofs.Common.{◌≡◌, ◌≢◌, ◌⊎◌, ◌++◌, ◌∷◌, ◌<◌, ◌≤◌, ◌+◌, ◌==◌, cond, ℕ, Bool, true, false, List, [], length, length-append, inl, inr, refl, ap, sym, ◌∙◌, subst, append_assoc, arith, codes}
-use Rattle.std.specs.Prelude.{flat_map, nat_lt, decimal, Result, Ok, Err}
+use Rattle.std.proofs.Common.{◌≡◌, ◌⊎◌, ◌++◌, ◌∷◌, ◌<◌, ◌≤◌, ◌+◌, ◌==◌, cond, ℕ, Bool, true, false, List, [], length, length-append, inl, inr, refl, ap, sym, ◌∙◌, subst, append_assoc, arith, codes}
+use Rattle.std.specs.Prelude.{flat_map, nat_lt, decimal, Result}
 use Rattle.std.proofs.lemmas.Bool.Decides.{nat_tests}
 use Rattle.std.proofs.lemmas.Fmt.{decimal_digit}
 use Rattle.std.proofs.lemmas.List.{append-nil}
 use Rattle.std.proofs.lemmas.Grind.{flat_map-append}
 use Rattle.vk_spec.specs.Earlies.{Early}
-use Rattle.vk_resolution.specs.Planning.{Item}
 use Rattle.vk_resolution.specs.Faults.{Fault}
 use Rattle.vk_resolution.specs.Reasons.{Reason}
 use Rattle.vk_resolution.specs.Outcomes.{Outcome}
-use Rattle.vk_resolution.specs.Lines.{counted, ended, fault_line, item_text, numbered_lines, reason_text}
+use Rattle.vk_resolution.specs.Lines.{ended, fault_line, item_text, numbered_lines, reason_text}
 use Rattle.vk_model.specs.Lines.{early_line}
 use Rattle.vk_report.specs.Reports.{whole_report}
 use Rattle.vk_report_reader.specs.Choices.{either_text}
-use Rattle.vk_report_reader.specs.Places.{Any, Body, Goes, IsRead, Place, Wants, WantsAs, WantsCount, after_early, after_fault_count, after_only, after_status, early_body, fault_body, fault_count, fault_lines, finished, item_count, items, only_fault, outcome_of, pick, plan_body, reasons, start, status}
+use Rattle.vk_report_reader.specs.Places.{Body, Goes, IsRead, Place, Wants, WantsCount, after_early, after_fault_count, after_only, after_status, early_body, fault_body, fault_count, fault_lines, finished, item_count, items, only_fault, outcome_of, pick, plan_body, reasons, start, status}
 
 -- ---- lines one after the other
 

@@ -1,5 +1,5 @@
 -- A report line by line: what may stand at each place, by the lines before it.
-use Rattle.std.specs.Prelude.{◌≡◌, ◌≢◌, ◌⊎◌, ◌<◌, ◌^◌, ◌+◌, ◌==◌, ◌++◌, ℕ, Bool, true, false, nat_lt, List, [], ◌∷◌, length, flat_map, Option, Some, None, codes, decimal, Result, Ok, Err, if◌then◌else◌}
+use Rattle.std.specs.Prelude.{◌≡◌, ◌≢◌, ◌⊎◌, ◌<◌, ◌+◌, ◌==◌, ◌++◌, ℕ, Bool, true, false, nat_lt, List, [], ◌∷◌, length, flat_map, Option, Some, None, codes, decimal, Result, Ok, Err, if◌then◌else◌}
 use Rattle.std.proofs.Common.{inl, inr}
 use Rattle.std.specs.Str.{IsUtf8}
 use Rattle.vk_spec.specs.Earlies.{Early}

@@ -2,7 +2,6 @@
 use Rattle.std.specs.Prelude.{◌≢◌, ◌<◌, ◌^◌, List, [], length, Result, Ok, Err}
 use Rattle.std.specs.List.{All}
 use Rattle.vk_spec.specs.Earlies.{Early}
-use Rattle.vk_resolution.specs.Reasons.{Reason}
 use Rattle.vk_resolution.specs.Outcomes.{Outcome, planned, refused}
 use Rattle.vk_report_reader.specs.Earlies.{IsRightEarly}
 use Rattle.vk_report_reader.specs.Faults.{IsRightFault}

@@ -1,4 +1,3 @@
-use Rattle.std.specs.Prelude.{option_map}
 use Rattle.vk_report_reader.specs.PlaceViews.{place_view}
 use Rattle.vk_report_reader.proofs.PlaceLemmas.{fault_count_some, fault_count_none}
 use Rattle.vk_report_reader.proofs.advances.at_fault_count.Goals as goal
