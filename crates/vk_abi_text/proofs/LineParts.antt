@@ -17,8 +17,8 @@ use Rattle.vk_model.specs.declared.builders.Builder.{Builder}
 use Rattle.vk_report_reader.specs.Choices.{either_text, IsRightEither}
 use Rattle.vk_report_reader.specs.Forms.{TellsApart, pair_text, IsRightPair}
 use Rattle.vk_report_reader.specs.Places.{Any}
-use Rattle.vk_report_reader.proofs.Apart.{either_apart, name_apart, number_apart, pair_apart, word_apart}
-use Rattle.vk_report_reader.proofs.Heads.{AreKinds, HaveHeads, IsAmong, heads_apart, is_among}
+use Rattle.vk_report_reader.proofs.Apart.{name_apart, number_apart}
+use Rattle.vk_report_reader.proofs.Heads.{AreKinds, one_kind, one_or}
 use Rattle.vk_report_reader.proofs.NameForms.{name_lacks}
 use Rattle.vk_report_reader.proofs.PairForms.{same_pair}
 use Rattle.vk_report_reader.proofs.Through.{AreParts, parts_apart}
@@ -158,28 +158,6 @@ version_apart v w left right e =
     version_is v w (words_differ v.class w.class one.0) (tokens_differ v.text w.text left.bytes right.bytes two.0) (number_apart v.port w.port left.small right.small two.1)
 
 -- ---- kinds are told apart by their first words
-
-one_kind : {X : Type 0} (word : List ℕ) (prints : X → List ℕ) (is_right : X → Type 0) → TellsApart prints is_right → AreKinds (word ∷ []) (worded word prints) (IsWorded word is_right)
-one_kind word prints is_right apart = record {
-  heads = λ p right. (word, (inl refl, record { lacks = right.1; is = inl (prints p.1, refl) }));
-  apart = pair_apart 32 (λ u. word) prints Any is_right (word_apart word) apart;
-}
-
-either_heads : {P Q : Type 0} (word : List ℕ) (words : List (List ℕ)) (one : P → List ℕ) (other : Q → List ℕ) (is_one : P → Type 0) (is_other : Q → Type 0)
-    → HaveHeads (word ∷ []) one is_one → HaveHeads words other is_other → HaveHeads (word ∷ words) (either_text one other) (IsRightEither is_one is_other)
-either_heads word words one other is_one is_other first second (inl p) right = let w = first p right in (w.0, (widen w.1.0, w.1.1))
-  where
-    widen : {w : List ℕ} → IsAmong w (word ∷ []) → IsAmong w (word ∷ words)
-    widen (inl same) = inl same
-    widen (inr none) = absurd none
-either_heads word words one other is_one is_other first second (inr q) right = let w = second q right in (w.0, (inr w.1.0, w.1.1))
-
-one_or : {P Q : Type 0} (word : List ℕ) (words : List (List ℕ)) (one : P → List ℕ) (other : Q → List ℕ) (is_one : P → Type 0) (is_other : Q → Type 0) → is_among word words ≡ false
-    → AreKinds (word ∷ []) one is_one → AreKinds words other is_other → AreKinds (word ∷ words) (either_text one other) (IsRightEither is_one is_other)
-one_or word words one other is_one is_other new first second = record {
-  heads = either_heads word words one other is_one is_other first.heads second.heads;
-  apart = either_apart one other is_one is_other first.apart second.apart (heads_apart word words one is_one other is_other new first.heads second.heads);
-}
 
 version_kind : AreKinds (codes "version" ∷ []) (worded (codes "version") version_text) (IsWorded (codes "version") IsRightVersion)
 version_kind = one_kind (codes "version") version_text IsRightVersion version_apart

@@ -36,7 +36,7 @@ use Rattle.vk_report_reader.proofs.CauseForms as causes
 use Rattle.vk_report_reader.proofs.CycleForms.{AreCycleParts, cycle_parts_are, cycle_text, walk_apart}
 use Rattle.vk_report_reader.proofs.EarlyForms.{AreEarlyParts, IsBlockedLine, IsFileLine, IsFolderLine, IsOverlapLine, IsTripletLine, blocked_text, early_text, early_words_are, file_text, folder_text, overlap_text, triplet_text}
 use Rattle.vk_report_reader.proofs.FaultForms as faults
-use Rattle.vk_report_reader.proofs.Heads.{AreKinds, IsHeaded, OneOf, heads_clash, is_among, line_headed, line_kind, one_more, one_more_choice, parts_headed, same_bytes, word_headed, word_kind}
+use Rattle.vk_report_reader.proofs.Heads.{AreKinds, IsHeaded, OneOf, heads_clash, is_among, line_headed, one_kind, one_more, one_or, parts_headed, same_bytes, word_headed, word_kind}
 use Rattle.vk_report_reader.proofs.ItemForms.{item_parts_are}
 use Rattle.vk_report_reader.proofs.PairForms.{lacks_none, same_pair}
 use Rattle.vk_report_reader.proofs.ReasonForms as reasons
@@ -332,7 +332,7 @@ fault_apart x y left right e = fault_kinds.apart x y (fault_kind x left) (fault_
 -- ---- early lines
 
 file_kind : AreKinds (codes "bad-file" ∷ []) (file_text (λ w. w)) (IsFileLine IsWord)
-file_kind = line_kind (codes "bad-file") _ _
+file_kind = one_kind (codes "bad-file") _ _
     (pair_apart 32 path_text _ IsRightPath _ path_apart
     (pair_apart 32 place_text (λ w. w) IsPlace IsWord place_apart same_word))
 
@@ -340,20 +340,20 @@ abbrev folder_words : List (List ℕ)
 folder_words = codes "overlap" ∷ codes "blocked" ∷ []
 
 folder_kinds : AreKinds folder_words folder_text IsFolderLine
-folder_kinds = one_more_choice (codes "overlap") _ overlap_text blocked_text IsOverlapLine IsBlockedLine refl
-    (line_kind (codes "overlap") _ _ (pair_apart 32 path_text path_text IsRightPath IsRightPath path_apart path_apart))
-    (line_kind (codes "blocked") path_text IsRightPath path_apart)
+folder_kinds = one_or (codes "overlap") _ overlap_text blocked_text IsOverlapLine IsBlockedLine refl
+    (one_kind (codes "overlap") _ _ (pair_apart 32 path_text path_text IsRightPath IsRightPath path_apart path_apart))
+    (one_kind (codes "blocked") path_text IsRightPath path_apart)
 
 abbrev named_words : List (List ℕ)
 named_words = codes "no-triplet" ∷ codes "bad-file" ∷ folder_words
 
 named_kinds : AreKinds named_words (either_text triplet_text (either_text (file_text (λ w. w)) folder_text)) (IsRightEither IsTripletLine (IsRightEither (IsFileLine IsWord) IsFolderLine))
-named_kinds = one_more_choice (codes "no-triplet") _ triplet_text _ IsTripletLine _ refl
-    (line_kind (codes "no-triplet") token_of (IsName word_rule) (name_apart word_rule))
-    (one_more_choice (codes "bad-file") _ (file_text (λ w. w)) folder_text (IsFileLine IsWord) IsFolderLine refl file_kind folder_kinds)
+named_kinds = one_or (codes "no-triplet") _ triplet_text _ IsTripletLine _ refl
+    (one_kind (codes "no-triplet") token_of (IsName word_rule) (name_apart word_rule))
+    (one_or (codes "bad-file") _ (file_text (λ w. w)) folder_text (IsFileLine IsWord) IsFolderLine refl file_kind folder_kinds)
 
 early_kinds : AreKinds (codes "two-configurations" ∷ named_words) (early_text (λ w. w)) (AreEarlyParts IsWord)
-early_kinds = one_more_choice (codes "two-configurations") _ (λ u. codes "two-configurations") _ Any _ refl
+early_kinds = one_or (codes "two-configurations") _ (λ u. codes "two-configurations") _ Any _ refl
     (word_kind (codes "two-configurations") (lacks_byte 32 (codes "two-configurations") refl))
     named_kinds
 

@@ -89,10 +89,10 @@ pub more_heads : {X : Type 0} (word : List ℕ) (words : List (List ℕ)) (shows
 more_heads word words shows one other first second x (inl is) = let w = first x is in (w.0, (widened word words w.1.0, w.1.1))
 more_heads word words shows one other first second x (inr is) = let w = second x is in (w.0, (inr w.1.0, w.1.1))
 
-pub choice_heads : {P Q : Type 0} (word : List ℕ) (words : List (List ℕ)) (one : P → List ℕ) (other : Q → List ℕ) (is_right_one : P → Type 0) (is_right_other : Q → Type 0)
+pub either_heads : {P Q : Type 0} (word : List ℕ) (words : List (List ℕ)) (one : P → List ℕ) (other : Q → List ℕ) (is_right_one : P → Type 0) (is_right_other : Q → Type 0)
     → HaveHeads (word ∷ []) one is_right_one → HaveHeads words other is_right_other → HaveHeads (word ∷ words) (either_text one other) (IsRightEither is_right_one is_right_other)
-choice_heads word words one other is_right_one is_right_other first second (inl p) right = let w = first p right in (w.0, (widened word words w.1.0, w.1.1))
-choice_heads word words one other is_right_one is_right_other first second (inr q) right = let w = second q right in (w.0, (inr w.1.0, w.1.1))
+either_heads word words one other is_right_one is_right_other first second (inl p) right = let w = first p right in (w.0, (widened word words w.1.0, w.1.1))
+either_heads word words one other is_right_one is_right_other first second (inr q) right = let w = second q right in (w.0, (inr w.1.0, w.1.1))
 
 pub kinds_apart : {X : Type 0} (shows : X → List ℕ) (one other : X → Type 0) → TellsApart shows one → TellsApart shows other → AreOthers shows one shows other → TellsApart shows (OneOf one other)
 kinds_apart shows one other first second clash x y (inl left) (inl right) e = first x y left right e
@@ -115,8 +115,8 @@ one_more word words shows one other new first second = record {
 pub line_headed : (word rest : List ℕ) → Lacks 32 word → IsHeaded word (word ++ 32 ∷ rest)
 line_headed word rest lacks = record { lacks = lacks; is = inl (rest, refl) }
 
-pub line_kind : {B : Type 0} (word : List ℕ) (other : B → List ℕ) (is_right : B → Type 0) → TellsApart other is_right → AreKinds (word ∷ []) (pair_text 32 (λ u. word) other) (IsRightPair 32 (λ u. word) Any is_right)
-line_kind word other is_right apart = record {
+pub one_kind : {B : Type 0} (word : List ℕ) (other : B → List ℕ) (is_right : B → Type 0) → TellsApart other is_right → AreKinds (word ∷ []) (pair_text 32 (λ u. word) other) (IsRightPair 32 (λ u. word) Any is_right)
+one_kind word other is_right apart = record {
   heads = λ p right. (word, (inl refl, line_headed word (other p.1) right.1));
   apart = pair_apart 32 (λ u. word) other Any is_right (word_apart word) apart;
 }
@@ -129,9 +129,9 @@ pub word_kind : (word : List ℕ) → Lacks 32 word → AreKinds (word ∷ []) (
 word_kind word lacks = record { heads = λ u right. (word, (inl refl, word_headed word lacks)); apart = word_apart word }
 
 -- a choice of a kind whose word is new, or of the others
-pub one_more_choice : {P Q : Type 0} (word : List ℕ) (words : List (List ℕ)) (one : P → List ℕ) (other : Q → List ℕ) (is_right_one : P → Type 0) (is_right_other : Q → Type 0)
+pub one_or : {P Q : Type 0} (word : List ℕ) (words : List (List ℕ)) (one : P → List ℕ) (other : Q → List ℕ) (is_right_one : P → Type 0) (is_right_other : Q → Type 0)
     → is_among word words ≡ false → AreKinds (word ∷ []) one is_right_one → AreKinds words other is_right_other → AreKinds (word ∷ words) (either_text one other) (IsRightEither is_right_one is_right_other)
-one_more_choice word words one other is_right_one is_right_other new first second = record {
-  heads = choice_heads word words one other is_right_one is_right_other first.heads second.heads;
+one_or word words one other is_right_one is_right_other new first second = record {
+  heads = either_heads word words one other is_right_one is_right_other first.heads second.heads;
   apart = either_apart one other is_right_one is_right_other first.apart second.apart (heads_apart word words one is_right_one other is_right_other new first.heads second.heads);
 }
