@@ -220,7 +220,7 @@ opens_most project setting start files e =
     let form = opening_form project files (ready_view setting start) e in
     ap (λ (s : Setting). s.max_facts) (form.settings []) ∙ form.most
 
-pub opened_right : (project : Project) (o : Opened) (before after : State) → Opens project (Ok o) before after → IfSome after.told (λ t. IsOpenedFor project o t.files)
+pub opened_right : (project : Project) (o : Opened) (before after : State) → Opens project None (Ok o) before after → IfSome after.told (λ t. IsOpenedFor project o t.files)
 opened_right project (opened.Ready setting start) before after opens =
     told_after (IsReady project setting start) (opening.only_read opens)
     (of_both before.told (opening.start_right opens) opens.content (λ t kept tells. record { kept = kept; most = opens_most project setting start t.files tells.0 }))
@@ -233,7 +233,7 @@ opened_shows task (opened.Ready setting start) files shown tells h =
 opened_shows task (opened.Refused e) files shown tells h = subst (λ read. ShowsRead task read files shown) (sym tells) h
 
 -- opening looked at its own paths alone
-opening_listed : {project : Project} {answer : Result Opened Outage} {a b : State} (opens : Opens project answer a b) → IfSome a.told (λ t. IsWithin (paths_of opens.once.more) (opening_paths project t.files))
+opening_listed : {project : Project} {answer : Result Opened Outage} {a b : State} (opens : Opens project None answer a b) → IfSome a.told (λ t. IsWithin (paths_of opens.once.more) (opening_paths project t.files))
 opening_listed {project = project} {a = a} opens = subst (λ kept. IfSome a.told (λ t. IsWithin (paths_of kept) (opening_paths project t.files))) opens.once.kept opens.within
 
 -- what is asked for on behalf of the ports of what was opened is asked for by the project
@@ -258,7 +258,7 @@ listed_opened project o first second None tells opening later = tt
 listed_opened project o first second (Some t) tells opening later = listed_in project o t.files first second tells opening later
 
 -- what is read besides is of the project
-own_opened : (task : Task) (o : Opened) (own : List Path) (a b : State) → Opens (project_of task) (Ok o) a b → AreOwn (Ok task) (OpenedMayAsk o to_tell) own b → AreOwn (Ok task) (IsOfProject (project_of task) to_tell) own a
+own_opened : (task : Task) (o : Opened) (own : List Path) (a b : State) → Opens (project_of task) None (Ok o) a b → AreOwn (Ok task) (OpenedMayAsk o to_tell) own b → AreOwn (Ok task) (IsOfProject (project_of task) to_tell) own a
 own_opened (task.Plan project) o own a b opens besides = besides
 own_opened (task.Abi project instance) o own a b opens besides =
     of_both a.told opens.content (told_before (λ f. (path : Path) → Contains own path → OpenedMayAsk o to_tell f path) (opening.only_read opens) besides)
@@ -267,7 +267,7 @@ own_opened (task.Check project report) o own a b opens besides = besides
 own_opened (task.SelfLoad size project) o own a b opens besides = besides
 
 -- each path once for the plan, opening included
-reads_opened : (task : Task) (o : Opened) {failed : Bool} (a b c : State) (opens : Opens (project_of task) (Ok o) a b)
+reads_opened : (task : Task) (o : Opened) {failed : Bool} (a b c : State) (opens : Opens (project_of task) None (Ok o) a b)
     → ReadsFor (Ok task) (OpenedMayAsk o) (paths_of opens.read) failed b c → ReadsFor (Ok task) (IsOfProject (project_of task)) [] failed a c
 reads_opened task o a b c opens r = record {
   only = record { asked = paths_of opens.once.more ++ r.only.asked; looks = looks_then opens.once.looks r.only.looks };
@@ -284,7 +284,7 @@ reads_opened task o a b c opens r = record {
 }
 
 -- a project that was opened, and what came of it
-pub ends_opened : (task : Task) (o : Opened) (shown : Shown) (a b c : State) (opens : Opens (project_of task) (Ok o) a b)
+pub ends_opened : (task : Task) (o : Opened) (shown : Shown) (a b c : State) (opens : Opens (project_of task) None (Ok o) a b)
     → EndsFor (Ok task) (OpenedShows task o) (ReadsFor (Ok task) (OpenedMayAsk o) (paths_of opens.read)) shown b c → EndsFor (Ok task) (ShowsProject task) (ReadsFor (Ok task) (IsOfProject (project_of task)) []) shown a c
 ends_opened task o shown a b c opens ends = record {
   failed = ends.failed;
@@ -295,13 +295,13 @@ ends_opened task o shown a b c opens ends = record {
 }
 
 -- a project that wasn't opened
-opening_alone : (task : Task) (o : Outage) (a b : State) → Opens (project_of task) (Err o) a b → ReadsFor (Ok task) (IsOfProject (project_of task)) [] (was_out {A = Opened} (Err o)) a b
+opening_alone : (task : Task) (o : Outage) (a b : State) → Opens (project_of task) None (Err o) a b → ReadsFor (Ok task) (IsOfProject (project_of task)) [] (was_out {A = Opened} (Err o)) a b
 opening_alone task o a b opens = for_plan (Ok task) (IsOfProject (project_of task)) [] (record {
   only = record { asked = paths_of opens.once.more; looks = opens.once.looks };
   distinct = opening.none_twice opens;
   listed = IfSome_then a.told (opening_listed opens) (λ t within path has. inl (within path has));
 })
 
-pub ends_unopened : (task : Task) (o : Outage) (shown : Shown) (a b : State) → Opens (project_of task) (Err o) a b → shown ≡ shown_out o → EndsFor (Ok task) (ShowsProject task) (ReadsFor (Ok task) (IsOfProject (project_of task)) []) shown a b
+pub ends_unopened : (task : Task) (o : Outage) (shown : Shown) (a b : State) → Opens (project_of task) None (Err o) a b → shown ≡ shown_out o → EndsFor (Ok task) (ShowsProject task) (ReadsFor (Ok task) (IsOfProject (project_of task)) []) shown a b
 ends_unopened task outage.Failed shown a b opens is = rw is (record { failed = true; may = broken task; reads = opening_alone task outage.Failed a b opens; content = of_each a.told (λ t three four. absurd (four refl)) })
 ends_unopened task (outage.Memory m) shown a b opens is = rw is (record { failed = false; may = lacking (Ok task); reads = opening_alone task (outage.Memory m) a b opens; content = of_each a.told (λ t three four. absurd (three refl)) })

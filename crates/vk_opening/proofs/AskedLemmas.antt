@@ -1,6 +1,6 @@
 -- Which paths were looked at: of members of a list, of a triplet, and of a whole project.
-use Rattle.std.proofs.Common.{◌≡◌, ◌<◌, ◌+◌, ℕ, Bool, true, false, cond, List, [], ◌∷◌, ◌++◌, length, get_or, drop, map, refl, ap, sym, subst, ◌∙◌}
-use Rattle.std.specs.Prelude.{Option, Some, IfSome, Result, Ok}
+use Rattle.std.proofs.Common.{Bor, ◌≡◌, ◌<◌, ◌+◌, ℕ, Bool, true, false, cond, List, [], ◌∷◌, ◌++◌, length, get_or, drop, map, refl, ap, sym, subst, ◌∙◌}
+use Rattle.std.specs.Prelude.{Option, Some, IfSome, Result, Ok, option_map}
 use Rattle.std.specs.List.{Contains, find}
 use Rattle.std.proofs.lemmas.List.{drop_more}
 use Rattle.std.proofs.lemmas.List.Elements.{Contains-append_left}
@@ -14,11 +14,7 @@ use Rattle.vk_files.specs.Kept.{Kept, paths_of, IsOf, Held, ReadOnce}
 use Rattle.vk_files.specs.Readings.{ReadsAs, is_at}
 use Rattle.vk_files.specs.Within.{LooksWithin, LooksWhere, up_to_first}
 use Rattle.vk_files.proofs.ReadMore.{known_before}
-use Rattle.vk_files.proofs.WithinLemmas.{within_then, within_wider, where_nothing}
-use Rattle.vk_model.specs.declared.projects.Project.{Project}
-use Rattle.vk_opening.specs.TripletFiles.{triplet_file}
-use Rattle.vk_opening.specs.Projects.{triplet_path}
-use Rattle.vk_opening.specs.Asked.{has_triplet, tried_paths, opening_paths}
+use Rattle.vk_files.proofs.WithinLemmas.{one_in, within_then, within_wider, where_nothing}
 
 -- what was looked at so far is of the members up to the first that passes, and so are those that are left
 pub record AskedSoFar {X : Type 0} (path : X → Path) (test : Files → X → Bool) (left all : List X) (before now : Held) : Type 0 where
@@ -60,33 +56,30 @@ module _ {X : Type 0} (path : X → Path) (test : Files → X → Bool) where
 pub left_from : {X : Type 0} (i : ℕ) (xs : List X) (x : X) → i < length xs → x ≡ get_or xs i x → drop i xs ≡ x ∷ drop (i + 1) xs
 left_from i xs x within is = drop_more xs i x within ∙ ap (λ y. y ∷ drop (i + 1) xs) (sym is)
 
-module _ (name : List ℕ) (files : Files) where
-  -- the file that is found was tried
-  found_tried : (folders : List Path) → IfSome (find (is_at files) (map (triplet_path name) folders)) (Contains (tried_paths name folders files))
-  found_tried [] = tt
-  found_tried (folder ∷ folders) = by (found_tried folders) (is_at files (triplet_path name folder))
-    where
-      by : IfSome (find (is_at files) (map (triplet_path name) folders)) (Contains (tried_paths name folders files)) → (there : Bool)
-          → IfSome (cond there (Some (triplet_path name folder)) (find (is_at files) (map (triplet_path name) folders))) (Contains (triplet_path name folder ∷ map (triplet_path name) (cond there [] (up_to_first (has_triplet name files) folders))))
-      by later true = contains_first (triplet_path name folder) []
-      by later false = of_both (find (is_at files) (map (triplet_path name) folders)) later later (λ path has _. contains_later (triplet_path name folder) path (tried_paths name folders files) has)
+-- the first that passes is among those up to it
+first_among : {X : Type 0} (test : X → Bool) (xs : List X) → IfSome (find test xs) (Contains (up_to_first test xs))
+first_among test [] = tt
+first_among test (x ∷ xs) = by (first_among test xs) (test x)
+  where
+    by : IfSome (find test xs) (Contains (up_to_first test xs)) → (passes : Bool) → IfSome (cond passes (Some x) (find test xs)) (Contains (x ∷ cond passes [] (up_to_first test xs)))
+    by later true = contains_first x []
+    by later false = of_both (find test xs) later later (λ y has _. contains_later x y (up_to_first test xs) has)
 
-  tried_by : {P : Type 0} (folders : List Path) (path : Option Path) (read : Result (Option Path) P) → read ≡ Ok (triplet_file name folders files) → read ≡ Ok path → IfSome path (Contains (tried_paths name folders files))
-  unfolding triplet_file
-  tried_by folders path read one two = subst (λ o. IfSome o (Contains (tried_paths name folders files))) (cc) (found_tried folders)
-
--- the file of a triplet was found, and then looked at
-pub triplet_asked : {F P : Type 0} {refusal : F → P} (name : List ℕ) (folders : List Path) (path : Option Path) (a b c : Held)
-    → ReadsAs {Y = Option Path} refusal (λ path. path) (Ok path) (λ f. Ok (triplet_file name folders f)) a b → LooksWhere (tried_paths name folders) a b
-    → ((paths : List Path) → IfSome path (Contains paths) → LooksWithin paths b.kept c.kept) → LooksWhere (tried_paths name folders) a c
-triplet_asked name folders path a b c read one then = record {
-  within = of_both a.tree.told read.content one.within (λ t is looks old. within_then (looks old) (then (tried_paths name folders t.files) (tried_by name t.files folders path (Ok (triplet_file name folders t.files)) refl (is old))));
+-- a file was found, the first of these, and is looked at again
+pub found_again : {F P : Type 0} {refusal : F → P} (test : Files → Path → Bool) (paths : List Path) (path : Bor Path) {a b c : Held}
+    → ReadsAs refusal (option_map (λ (p : Bor Path). p.now)) (Ok (Some path)) (λ f. Ok (find (test f) paths)) a b → LooksWhere (λ f. up_to_first (test f) paths) a b
+    → LooksWithin (path.now ∷ []) b.kept c.kept → LooksWhere (λ f. up_to_first (test f) paths) a c
+found_again {P = P} test paths path {a = a} {b = b} {c = c} read one then = record {
+  within = of_both a.tree.told read.content one.within (λ t is looks old. within_then (looks old) (within_wider (there (test t.files) (Ok (find (test t.files) paths)) refl (is old)) then));
 }
+  where
+    there : (test : Path → Bool) (read : Result (Option Path) P) → read ≡ Ok (find test paths) → read ≡ Ok (Some path.now) → IsWithin (path.now ∷ []) (up_to_first test paths)
+    there test read one two = one_in path.now (up_to_first test paths) (subst (λ o. IfSome o (Contains (up_to_first test paths))) {y = Some path.now} (cc) (first_among test paths))
 
 -- all that was kept was looked at since nothing was
-pub all_asked : (project : Project) (before after : State) (kept now : Kept) → kept ≡ []
-    → LooksWhere (opening_paths project) (record { kept = kept; tree = before }) (record { kept = now; tree = after }) → IfSome before.told (λ t. IsWithin (paths_of now) (opening_paths project t.files))
-all_asked project before after kept now none w = of_both before.told w.within w.within (λ t is _. all (opening_paths project t.files) (is (rw none tt)))
+pub all_asked : (paths : Files → List Path) (before after : State) (kept now : Kept) → kept ≡ []
+    → LooksWhere paths (record { kept = kept; tree = before }) (record { kept = now; tree = after }) → IfSome before.told (λ t. IsWithin (paths_of now) (paths t.files))
+all_asked paths before after kept now none w = of_both before.told w.within w.within (λ t is _. all (paths t.files) (is (rw none tt)))
   where
     all : (paths : List Path) → LooksWithin paths kept now → IsWithin (paths_of now) paths
     all paths looks = subst (λ k. IsWithin (paths_of k) paths) (sym (looks.kept ∙ ap (λ k. k ++ looks.more) none)) looks.within

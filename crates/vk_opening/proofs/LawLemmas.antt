@@ -2,6 +2,7 @@
 use Rattle.std.proofs.Common.{◌≡◌, ◌+◌, ℕ, Bool, true, false, cond, List, [], ◌∷◌, ◌++◌, map, refl, ap, sym, subst, ◌∙◌, codes}
 use Rattle.std.specs.Prelude.{Result, Ok, Err, if◌then◌else◌}
 use Rattle.std.specs.FinMap as files_map
+use Rattle.std.proofs.lemmas.List.{map-id}
 use Rattle.std.proofs.lemmas.List.Elements.{All-head, All-tail, Contains-append_left, Contains-append_right}
 use Rattle.serde_json.specs.Data.{Data}
 use Rattle.vk_spec.specs.Reading.{◌>>=◌, read_each}
@@ -20,14 +21,14 @@ use Rattle.vk_files.specs.Readings.{Standing, missing, too_long, readable, stand
 use Rattle.vk_model.specs.declared.projects.Project.{Project}
 use Rattle.vk_spec.specs.Earlies.{Early, bad_file, two_configurations, no_triplet}
 use Rattle.vk_opening.specs.Starts.{Overlay}
-use Rattle.vk_opening.specs.Asked.{has_triplet, is_faulty, tried_paths, triplets_asked, overlay_paths, found_paths, opening_paths}
+use Rattle.vk_opening.specs.Asked.{is_faulty, tried_paths, triplets_asked, overlay_paths, found_paths, opening_paths}
 use Rattle.vk_opening.specs.Laws.{AgreeAt, LacksTriplet, NoneHas, triplet_paths, early_paths}
 use Rattle.vk_opening.specs.Projects.{manifest_path, config_path, triplet_path, folders_of}
 use Rattle.vk_spec.specs.Manifests.{Manifest}
 use Rattle.vk_spec.specs.Conditions.{Condition}
 use Rattle.vk_opening.specs.Roots.{Root, OwnConfiguration, has_configuration, own_configuration, root_in, or_early, early_at, port_in}
 use Rattle.vk_opening.specs.Configurations.{config_by, config_in}
-use Rattle.vk_opening.specs.TripletFiles.{Triplets, triplet_in, triplet_file, triplet_at, triplets_at}
+use Rattle.vk_opening.specs.TripletFiles.{Triplets, triplet_in, triplet_at, triplets_at}
 use Rattle.vk_opening.specs.Overlays.{overlay_by, overlay_at, overlays_at}
 use Rattle.vk_opening.specs.Openings.{Opening, triplets_of, overlays_of, opened_of}
 use Rattle.vk_opening.specs.Openings.{after_root, after_config, after_triplets, after_overlays}
@@ -60,7 +61,7 @@ too_long_first project root files is stands =
 
 triplet_step : (name : List ℕ) (folder : Path) (folders : List Path) (files : Files) (there : Bool) → is_at files (triplet_path name folder) ≡ there
     → triplet_at name (folder ∷ folders) files ≡ (if there then early_at (triplet_in name) (triplet_path name folder) files else triplet_at name folders files)
-unfolding triplet_at triplet_file
+unfolding triplet_at
 triplet_step name folder folders files true is = rw is refl
 triplet_step name folder folders files false is = rw is refl
 
@@ -71,7 +72,7 @@ first_has name (before ∷ front) rest folder files none has =
     ∙ first_has name front rest folder files (All-tail (LacksTriplet name files) before front none) has
 
 pub none_has : (name : List ℕ) (folders : List Path) (files : Files) → NoneHas name folders files → triplet_at name folders files ≡ Err (no_triplet name)
-unfolding triplet_at triplet_file
+unfolding triplet_at
 none_has name [] files none = refl
 none_has name (folder ∷ folders) files none = triplet_step name folder folders files false (All-head (LacksTriplet name files) folder folders none) ∙ none_has name folders files (All-tail (LacksTriplet name files) folder folders none)
 
@@ -110,7 +111,7 @@ module _ (one other : Files) where
       is_same = rw same refl
 
   triplet_same : (name : List ℕ) (folders : List Path) → AgreeAt (map (triplet_path name) folders) one other → triplet_at name folders other ≡ triplet_at name folders one
-  unfolding triplet_at triplet_file
+  unfolding triplet_at
   triplet_same name [] agree = refl
   triplet_same name (folder ∷ folders) agree = by (triplet_same name folders agree.1) (is_at one (triplet_path name folder)) refl
     where
@@ -202,6 +203,9 @@ first_in path test (x ∷ xs) = cons_in (path x) (map path (cond (test x) [] (up
     by true within = λ y has. absurd (contains_nothing y has)
     by false within = within
 
+first_here : (test : Path → Bool) (xs : List Path) → IsWithin (up_to_first test xs) xs
+first_here test xs = rw (map-id (up_to_first test xs), map-id xs) at (first_in (λ p. p) test xs)
+
 after_in : {A P : Type 0} (read : Result A P) (next : A → List Path) (ys : List Path) → ((x : A) → IsWithin (next x) ys) → IsWithin (paths_after read next) ys
 after_in (Ok x) next ys within = within x
 after_in (Err fault) next ys within = λ y has. absurd (contains_nothing y has)
@@ -219,8 +223,8 @@ found_early project config files =
     let tried = tried_paths project.host folders files in
     append_in (triplets_asked project config files) (target ++ host) (paths_after (triplets_of project config files) (λ triplets. overlay_paths ports files)) (map manifest_path ports)
     (append_in (tried_paths project.target folders files) target (paths_after (triplet_at project.target folders files) (λ first. tried)) host
-    (first_in (triplet_path project.target) (has_triplet project.target files) folders)
-    (after_in (triplet_at project.target folders files) (λ first. tried) host (λ first. first_in (triplet_path project.host) (has_triplet project.host files) folders)))
+    (first_here (is_at files) target)
+    (after_in (triplet_at project.target folders files) (λ first. tried) host (λ first. first_here (is_at files) host)))
     (after_in (triplets_of project config files) (λ triplets. overlay_paths ports files) (map manifest_path ports) (λ triplets. first_in manifest_path (is_faulty files) ports))
 
 pub asked_early : (project : Project) (opening : Opening) (files : Files) → opened_of project files ≡ Ok opening → IsWithin (opening_paths project files) (early_paths project opening.start.config)

@@ -1,10 +1,10 @@
 -- What was read of a project is what is answered.
 use Rattle.std.proofs.Common.{◌≡◌, ℕ, List, [], map, refl, ap, sym, subst, ◌∙◌}
-use Rattle.std.specs.Prelude.{IfSome, IfOk, Result, Ok, Err}
+use Rattle.std.specs.Prelude.{IfSome, IfOk, Option, Result, Ok, Err}
 use Rattle.vk_spec.specs.Files.{Files}
 use Rattle.vk_spec.specs.Lists.{NoRepeats}
 use Rattle.vk_spec.specs.States.{State, OnlyRead}
-use Rattle.vk_files.specs.Kept.{Kept, paths_of, IsOf, Held}
+use Rattle.vk_files.specs.Kept.{Kept, paths_of, IsOf, Held, ReadOnce}
 use Rattle.vk_files.specs.Views.{kept_of}
 use Rattle.vk_files.specs.Readings.{ReadsAs}
 use Rattle.vk_files.specs.Within.{LooksWhere}
@@ -13,15 +13,19 @@ use Rattle.vk_base.specs.declared.stops.Stop.{Stop}
 use Rattle.vk_base.specs.declared.stops.Stop.TheVariants as stop
 use Rattle.vk_model.specs.Views.{override_view}
 use Rattle.vk_model.specs.declared.projects.Project.{Project}
+use Rattle.vk_model.specs.declared.projects.Store.{Store}
 use Rattle.vk_config.specs.Configs.{Config}
-use Rattle.vk_opening.specs.Asked.{opening_paths}
-use Rattle.vk_opening.specs.Openings.{opening_with, opened_of}
+use Rattle.vk_opening.specs.Asked.{paths_with}
+use Rattle.vk_opening.specs.Openings.{opening_with, opened_with}
 use Rattle.vk_opening.proofs.AskedLemmas.{all_asked}
 use Rattle.vk_model.specs.EarlyViews.{early_view}
 use Rattle.vk_opening.specs.OpeningViews.{opening_found, opening_view, answer_of, AreOffIn}
 use Rattle.vk_base.specs.declared.instances.Instance.{Instance}
 use Rattle.vk_base.specs.declared.memory.Memory.{Memory}
-use Rattle.vk_base.specs.Stops.{was_out}
+use Rattle.vk_base.specs.Stops.{fault_seen, has_failed, was_out}
+use Rattle.vk_spec.specs.Reading.{Gives}
+use Rattle.vk_spec.specs.Earlies as plain_early
+use Rattle.vk_opening.specs.Openings as plain_opening
 use Rattle.vk_spec.specs.Settings as plain
 use Rattle.vk_resolution.specs.Keys.{IsListing}
 use Rattle.vk_resolution.specs.Planning.{instance_key}
@@ -32,7 +36,7 @@ use Rattle.vk_triplet.specs.Meanings.{meaning_of}
 use Rattle.vk_model.specs.Views.{manifest_view}
 use Rattle.vk_model.specs.SettingViews.{setting_view, instance_view}
 use Rattle.vk_rules.specs.RootSettings.{setting_of}
-use Rattle.vk_opening.specs.Opened.{Opens, ListsOwnOff}
+use Rattle.vk_opening.specs.Opened.{Opens, ListsOwnOff, IsKept, Tells}
 use Rattle.vk_opening.specs.Views.{triplets_view, overlay_view, opened_files}
 use Rattle.vk_model.specs.declared.settings.Setting.{Setting}
 use Rattle.vk_opening.specs.declared.starts.Start.{Start}
@@ -73,58 +77,48 @@ pub lists_own : (setting : Setting) (off : Result (List Instance) Memory)
 lists_own setting (Ok l) lists = lists (map instance_view l) setting.max_facts
 lists_own setting (Err m) lists = tt
 
--- the answer that goes with what was read
-pub opens_with : (project : Project) (read : Result Opening (Stop Early)) (off : Result (List Instance) Memory) (files : FileCache) (before after : State) (kept : Kept) → kept ≡ [] → NoRepeats (paths_of (kept_of files))
+-- the answer that goes with what was read: whether the tree failed, what is kept, and what is told
+fails_as : (read : Result Opening (Stop Early)) (off : Result (List Instance) Memory) (files : FileCache) → has_failed read ≡ was_out (answer_of read off files)
+fails_as (Ok o) (Ok off) files = refl
+fails_as (Ok o) (Err m) files = refl
+fails_as (Err (stop.Fault early)) off files = refl
+fails_as (Err stop.Failed) off files = refl
+fails_as (Err (stop.Memory m)) off files = refl
+
+keeps_files : (read : Result Opening (Stop Early)) (off : Result (List Instance) Memory) (files : FileCache) → IsKept (kept_of files) (answer_of read off files)
+keeps_files (Ok o) (Ok off) files = refl
+keeps_files (Ok o) (Err m) files = tt
+keeps_files (Err (stop.Fault early)) off files = tt
+keeps_files (Err stop.Failed) off files = tt
+keeps_files (Err (stop.Memory m)) off files = tt
+
+tells_read : (read : Result Opening (Stop Early)) (off : Result (List Instance) Memory) (files : FileCache) (given : Result plain_opening.Opening plain_early.Early) → IfOk off (AreOffIn read)
+    → Gives opening_view (fault_seen early_view) read given → Tells (answer_of read off files) given
+tells_read (Ok o) (Ok off) files given lists gives = (gives, lists)
+tells_read (Ok o) (Err m) files given lists gives = tt
+tells_read (Err (stop.Fault early)) off files given lists gives = gives
+tells_read (Err stop.Failed) off files given lists gives = tt
+tells_read (Err (stop.Memory m)) off files given lists gives = tt
+
+pub opens_with : (project : Project) (store : Option Store) (read : Result Opening (Stop Early)) (off : Result (List Instance) Memory) (files : FileCache) (before after : State) (kept : Kept) → kept ≡ [] → NoRepeats (paths_of (kept_of files))
     → IfOk off (AreOffIn read)
-    → ReadsAs early_view opening_view read (opened_of project) (record { kept = kept; tree = before }) (record { kept = kept_of files; tree = after })
-    → LooksWhere (opening_paths project) (record { kept = kept; tree = before }) (record { kept = kept_of files; tree = after }) → Opens project (answer_of read off files) before after
-opens_with project (Ok o) (Ok off) files before after kept none distinct lists r w = record {
+    → ReadsAs early_view opening_view read (opened_with project store) (record { kept = kept; tree = before }) (record { kept = kept_of files; tree = after })
+    → LooksWhere (paths_with project store) (record { kept = kept; tree = before }) (record { kept = kept_of files; tree = after }) → Opens project store (answer_of read off files) before after
+opens_with project store read off files before after kept none distinct lists r w = record {
   read = kept_of files;
-  once = rw none at r.once;
+  once = subst (λ f. ReadOnce f (record { kept = []; tree = before }) (record { kept = kept_of files; tree = after })) (fails_as read off files) (rw none at r.once);
   distinct = distinct;
-  within = all_asked project before after kept (kept_of files) none w;
-  kept = refl;
-  content = of_both before.told r.content r.content (λ t is _. (is (rw none tt), lists));
-}
-opens_with project (Ok o) (Err m) files before after kept none distinct lists r w = record {
-  read = kept_of files;
-  once = rw none at r.once;
-  distinct = distinct;
-  within = all_asked project before after kept (kept_of files) none w;
-  kept = tt;
-  content = of_both before.told r.content r.content (λ t is _. tt);
-}
-opens_with project (Err (stop.Fault early)) off files before after kept none distinct lists r w = record {
-  read = kept_of files;
-  once = rw none at r.once;
-  distinct = distinct;
-  within = all_asked project before after kept (kept_of files) none w;
-  kept = tt;
-  content = of_both before.told r.content r.content (λ t is _. is (rw none tt));
-}
-opens_with project (Err stop.Failed) off files before after kept none distinct lists r w = record {
-  read = kept_of files;
-  once = rw none at r.once;
-  distinct = distinct;
-  within = all_asked project before after kept (kept_of files) none w;
-  kept = tt;
-  content = of_both before.told r.content r.content (λ t is _. tt);
-}
-opens_with project (Err (stop.Memory m)) off files before after kept none distinct lists r w = record {
-  read = kept_of files;
-  once = rw none at r.once;
-  distinct = distinct;
-  within = all_asked project before after kept (kept_of files) none w;
-  kept = tt;
-  content = of_both before.told r.content r.content (λ t is _. tt);
+  within = all_asked (paths_with project store) before after kept (kept_of files) none w;
+  kept = keeps_files read off files;
+  content = of_both before.told r.content r.content (λ t is _. tells_read read off files (opened_with project store t.files) lists (is (rw none tt)));
 }
 
 -- what a caller has of it: nothing but reading was done, no path twice, and what was read is the files'
-pub only_read : {project : Project} {answer : Result Opened Outage} {before after : State} → Opens project answer before after → OnlyRead (was_out answer) before after
+pub only_read : {project : Project} {store : Option Store} {answer : Result Opened Outage} {before after : State} → Opens project store answer before after → OnlyRead (was_out answer) before after
 only_read o = record { asked = paths_of o.once.more; looks = o.once.looks }
 
-pub none_twice : {project : Project} {answer : Result Opened Outage} {before after : State} (o : Opens project answer before after) → NoRepeats (paths_of o.once.more)
+pub none_twice : {project : Project} {store : Option Store} {answer : Result Opened Outage} {before after : State} (o : Opens project store answer before after) → NoRepeats (paths_of o.once.more)
 none_twice o = subst (λ kept. NoRepeats (paths_of kept)) o.once.kept o.distinct
 
-pub start_right : {project : Project} {setting : Setting} {start : Start} {before after : State} → Opens project (Ok (opened.Ready setting start)) before after → IfSome before.told (λ t. IsOf t.files (opened_files start))
+pub start_right : {project : Project} {store : Option Store} {setting : Setting} {start : Start} {before after : State} → Opens project store (Ok (opened.Ready setting start)) before after → IfSome before.told (λ t. IsOf t.files (opened_files start))
 start_right {before = before} o = of_both before.told o.once.right o.once.right (λ t right _. subst (IsOf t.files) (sym o.once.kept ∙ o.kept) right)

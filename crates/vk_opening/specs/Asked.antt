@@ -1,5 +1,5 @@
 -- Which paths opening a project asks for.
-use Rattle.std.specs.Prelude.{◌++◌, ℕ, Bool, List, ◌∷◌, map}
+use Rattle.std.specs.Prelude.{◌++◌, ℕ, Bool, List, ◌∷◌, map, Option, Some, None}
 use Rattle.std.specs.Result.{is_err}
 use Rattle.vk_spec.specs.Paths.{Path}
 use Rattle.vk_spec.specs.Files.{Files}
@@ -7,20 +7,18 @@ use Rattle.vk_config.specs.Configs.{Config}
 use Rattle.vk_files.specs.Readings.{is_at}
 use Rattle.vk_files.specs.Within.{paths_after, up_to_first}
 use Rattle.vk_model.specs.declared.projects.Project.{Project}
+use Rattle.vk_model.specs.declared.projects.Store.{Store}
 use Rattle.vk_opening.specs.Projects.{manifest_path, config_path, triplet_path, folders_of}
 use Rattle.vk_opening.specs.Roots.{Root, root_in, early_at}
 use Rattle.vk_opening.specs.Configurations.{config_in}
 use Rattle.vk_opening.specs.TripletFiles.{triplet_at}
 use Rattle.vk_opening.specs.Overlays.{overlay_at}
-use Rattle.vk_opening.specs.Openings.{triplets_of}
+use Rattle.vk_opening.specs.Openings.{triplets_of, opened_of}
+use Rattle.vk_opening.specs.Stores.{apart, store_folders}
 
--- a folder has the file of a triplet
-abbrev pub has_triplet : List ℕ → Files → Path → Bool
-has_triplet name files folder = is_at files (triplet_path name folder)
-
--- for a triplet: its file in each folder, up to the first that has it
+-- for a triplet: its file in each folder, up to the first that is there
 abbrev pub tried_paths : List ℕ → List Path → Files → List Path
-tried_paths name folders files = map (triplet_path name) (up_to_first (has_triplet name files) folders)
+tried_paths name folders files = up_to_first (is_at files) (map (triplet_path name) folders)
 
 -- for two triplets: those of the first, and then those of the second, where the first reads
 abbrev pub both_paths : List ℕ → List ℕ → List Path → Files → List Path
@@ -49,6 +47,16 @@ found_paths project config files = triplets_asked project config files ++ paths_
 abbrev pub rest_paths : Project → Root → Files → List Path
 rest_paths project root files = config_path project.folder ∷ paths_after (config_in project.folder root.configuration files) (λ config. found_paths project config files)
 
+-- for a store: where it has to have folders, up to the first at which a file stands, where its folders are apart
+abbrev pub stored_paths : Project → Store → Config → Files → List Path
+stored_paths project store config files = paths_after (apart project store config) (λ done. up_to_first (is_at files) (store_folders store))
+
 -- all: the root manifest, and then those, where the root manifest reads
 abbrev pub opening_paths : Project → Files → List Path
 opening_paths project files = manifest_path project.folder ∷ paths_after (early_at root_in (manifest_path project.folder) files) (λ root. rest_paths project root files)
+
+-- and then those of a store, if there is one, where all of these read
+abbrev pub paths_with : Project → Option Store → Files → List Path
+paths_with project None files = opening_paths project files
+paths_with project (Some store) files =
+    opening_paths project files ++ paths_after (opened_of project files) (λ opening. stored_paths project store opening.start.config files)

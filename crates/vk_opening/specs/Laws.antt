@@ -2,12 +2,14 @@
 use Rattle.std.specs.Prelude.{◌≡◌, ◌++◌, ℕ, false, List, [], ◌∷◌, map}
 use Rattle.std.specs.List.{All}
 use Rattle.std.specs.FinMap as files_map
-use Rattle.vk_spec.specs.Paths.{Path}
+use Rattle.vk_spec.specs.Paths.{Path, IsApart}
 use Rattle.vk_spec.specs.Files.{Files}
 use Rattle.vk_config.specs.Configs.{Config}
 use Rattle.vk_model.specs.declared.projects.Project.{Project}
+use Rattle.vk_model.specs.declared.projects.Store.{Store}
 use Rattle.vk_opening.specs.Projects.{manifest_path, config_path, triplet_path, folders_of}
 use Rattle.vk_files.specs.Readings.{is_at}
+use Rattle.vk_opening.specs.Stores.{outer_folders, store_folders}
 
 -- a folder hasn't the triplet; none of these has it
 abbrev pub LacksTriplet : List ℕ → Files → Path → Type 0
@@ -31,3 +33,18 @@ early_paths project config =
 abbrev pub AgreeAt : List Path → Files → Files → Type 0
 AgreeAt [] one other = Unit {0}
 AgreeAt (path ∷ paths) one other = (files_map.get other path ≡ files_map.get one path) × AgreeAt paths one other
+
+-- neither of two folders has the other in it
+abbrev pub AreApart : Path → Path → Type 0
+AreApart one other = IsApart one other × IsApart other one
+
+abbrev pub IsFree : Files → Path → Type 0
+IsFree files path = is_at files path ≡ false
+
+-- a store's folders are apart from each other and from all that a project names, they have no project in them, and no file is in their way
+pub record IsStored (project : Project) (store : Store) (config : Config) (files : Files) : Type 0 where
+  pub both : AreApart store.installed store.cache
+  pub installed : All (AreApart store.installed) (outer_folders project config)
+  pub cache : All (AreApart store.cache) (outer_folders project config)
+  pub around : IsApart store.installed project.folder × IsApart store.cache project.folder
+  pub free : All (IsFree files) (store_folders store)

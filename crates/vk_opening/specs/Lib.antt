@@ -6,6 +6,7 @@ pub mod Roots
 pub mod Configurations
 pub mod TripletFiles
 pub mod Overlays
+pub mod Stores
 pub mod Openings
 -- what functions, laws and examples say besides
 pub mod Views

@@ -1,5 +1,5 @@
 -- What the early files of a project give: a setting and a start, or the first early line.
-use Rattle.std.specs.Prelude.{List, map, Result, Ok}
+use Rattle.std.specs.Prelude.{List, map, Option, Some, None, Result, Ok}
 use Rattle.vk_spec.specs.Reading.{◌>>=◌}
 use Rattle.vk_spec.specs.Files.{Files}
 use Rattle.vk_base.specs.FeatureViews.{feature_view}
@@ -9,6 +9,7 @@ use Rattle.vk_spec.specs.Conditions.{Condition}
 use Rattle.vk_triplet.specs.Meanings.{meaning_of}
 use Rattle.vk_config.specs.Configs.{Config}
 use Rattle.vk_model.specs.declared.projects.Project.{Project}
+use Rattle.vk_model.specs.declared.projects.Store.{Store}
 use Rattle.vk_spec.specs.Earlies.{Early}
 use Rattle.vk_opening.specs.Starts.{Overlay, Start}
 use Rattle.vk_opening.specs.Projects.{manifest_path, folders_of}
@@ -16,6 +17,7 @@ use Rattle.vk_opening.specs.Roots.{Root, root_in, early_at}
 use Rattle.vk_opening.specs.Configurations.{config_in}
 use Rattle.vk_opening.specs.TripletFiles.{Triplets, triplets_at}
 use Rattle.vk_opening.specs.Overlays.{overlays_at}
+use Rattle.vk_opening.specs.Stores.{stored_at}
 
 -- a setting, by the instances that are off in it, and what is known besides before any port is looked at
 pub record Opening : Type 0 where
@@ -46,6 +48,14 @@ opened_of project files = do
   triplets ← triplets_of project config files
   overlays ← overlays_of project config files
   Ok (opening_with project root.manifest config triplets overlays)
+
+-- the same, where packages are to be kept somewhere only if they can be
+abbrev pub stored : Project → Store → Opening → Files → Result Opening Early
+stored project store opening files = stored_at project store opening.start.config files >>= λ done. Ok opening
+
+abbrev pub opened_with : Project → Option Store → Files → Result Opening Early
+opened_with project None files = opened_of project files
+opened_with project (Some store) files = opened_of project files >>= λ opening. stored project store opening files
 
 -- what is read after each step
 abbrev pub after_overlays : Project → Manifest Condition → Config → Triplets → List Overlay → Files → Result Opening Early

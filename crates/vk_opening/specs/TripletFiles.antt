@@ -25,17 +25,14 @@ triplet_word triplet_fault.NotText = why.Utf8
 unfoldable pub triplet_in : List ℕ → List ℕ → Result Triplet FileFault
 triplet_in name bytes = said_here triplet_word (triplet_of name bytes)
 
--- the first of the folders' files of a triplet that is there
-unfoldable pub triplet_file : List ℕ → List Path → Files → Option Path
-triplet_file name folders files = find (is_at files) (map (triplet_path name) folders)
-
 abbrev pub triplet_from : List ℕ → Option Path → Files → Result Triplet Early
 triplet_from name None files = Err (no_triplet name)
 triplet_from name (Some path) files = early_at (triplet_in name) path files
 
--- the triplet of a name in folders
+-- the triplet of a name: the first of its files in folders that is there
 unfoldable pub triplet_at : List ℕ → List Path → Files → Result Triplet Early
-triplet_at name folders files = triplet_from name (triplet_file name folders files) files
+triplet_at name folders files =
+    triplet_from name (find (is_at files) (map (triplet_path name) folders)) files
 
 -- the triplet that is built for, and that of the machine that builds
 pub record Triplets : Type 0 where

@@ -8,7 +8,10 @@ ghost use Rattle.vk_files.specs.Readings.{missing, too_long, readable, standing_
 ghost use Rattle.vk_model.specs.declared.projects.Project.{Project};
 ghost use Rattle.vk_spec.specs.Earlies.{bad_file, two_configurations, no_triplet};
 ghost use Rattle.vk_opening.specs.Asked.{opening_paths};
-ghost use Rattle.vk_opening.specs.Laws.{AgreeAt, NoneHas, early_paths};
+ghost use Rattle.vk_opening.specs.Laws.{AgreeAt, IsStored, NoneHas, early_paths};
+ghost use Rattle.vk_opening.specs.Stores.{stored_at};
+ghost use Rattle.vk_config.specs.Configs.{Config};
+ghost use Rattle.vk_model.specs.declared.projects.Store.{Store};
 ghost use Rattle.vk_opening.specs.Openings.{Opening, opened_of};
 ghost use Rattle.vk_opening.specs.Projects.{manifest_path, config_path, triplet_path};
 ghost use Rattle.vk_opening.specs.Roots.{Root, root_in, early_at};
@@ -55,4 +58,11 @@ pub fn early_files()
     ensures asked { (project : Project) (opening : Opening) (files : Files) → opened_of project
         files ≡ Ok opening → IsWithin (opening_paths project files)
         (early_paths project opening.start.config) }
+{}
+
+/// Where nothing is wrong with a store, its two folders are apart from each other and from all
+/// folders that the project names, none has the project in it, and no file is in their way.
+pub fn kept_apart()
+    ensures { (project : Project) (store : Store) (config : Config) (files : Files) →
+        stored_at project store config files ≡ Ok tt → IsStored project store config files }
 {}

@@ -12,9 +12,10 @@ mod projects;
 mod readings;
 mod roots;
 mod starts;
+mod stores;
 mod triplet_files;
 
-pub use laws::{early_files, first_triplet, two_places};
+pub use laws::{early_files, first_triplet, kept_apart, two_places};
 pub use opens::{Opened, open};
 pub use overrides::Overrides;
 pub use projects::{from_folder, manifest_path};

@@ -1,5 +1,5 @@
 //! Opening a project.
-ghost use Rattle.std.specs.Prelude.{◌≡◌, ◌∷◌, [], IfOk, map};
+ghost use Rattle.std.specs.Prelude.{◌≡◌, ◌∷◌, [], IfOk, Some, map, option_map};
 ghost use Rattle.vk_files.specs.Views.{held, kept_of};
 ghost use Rattle.vk_files.specs.Within.{LooksWithin, LooksWhere};
 ghost use Rattle.vk_files.specs.Readings.{ReadsAs};
@@ -13,6 +13,8 @@ ghost use Rattle.vk_opening.specs.Openings.{after_root, after_config};
 ghost use Rattle.vk_opening.specs.Asked.{triplets_asked, overlays_asked};
 ghost use Rattle.vk_model.specs.Views.{override_view};
 ghost use Rattle.vk_opening.specs.Asked.{found_paths, rest_paths, opening_paths};
+ghost use Rattle.vk_opening.specs.Asked.{paths_with, stored_paths};
+ghost use Rattle.vk_opening.specs.Openings.{opened_with, stored};
 ghost use Rattle.vk_opening.specs.Opened.{Opens};
 ghost use Rattle.vk_opening.specs.Views.{root_view, triplets_view, overlay_view};
 ghost use Rattle.vk_opening.specs.OpeningViews.{opening_found};
@@ -29,12 +31,13 @@ use crate::projects::{folders, manifest_path};
 use crate::readings::read_early;
 use crate::roots::{Root, RootFile};
 use crate::starts::{Overlay, Start};
+use crate::stores::check_store;
 use crate::triplet_files::{Triplets, read_triplets};
 use std::alloc::Global;
 use vk_base::{FeatureName, Instance, List, Memory, Outage, Stop, TreePath};
 use vk_config::Config;
 use vk_files::FileCache;
-use vk_model::{Early, Manifest, Project, Setting};
+use vk_model::{Early, Manifest, Project, Setting, Store};
 use vk_rules::off_list;
 use vk_tree::Tree;
 
@@ -107,7 +110,7 @@ fn triplets_of<T: Tree>(
     let folders = folders(
         alloc,
         &project.folder,
-        &project.overlay_triplets,
+        project.overlay_triplets.as_slice(),
         configured,
     )?;
     read_triplets(
@@ -135,7 +138,8 @@ fn overlays_of<T: Tree>(
         (held files.old (T.state tree.old)) (held files.new (T.state tree.new)) }
 {
     let configured = config.overlay_ports.as_slice();
-    let folders = folders(alloc, &project.folder, &project.overlay_ports, configured)?;
+    let words = project.overlay_ports.as_slice();
+    let folders = folders(alloc, &project.folder, words, configured)?;
     read_overlays(alloc, files, tree, folders)
 }
 
@@ -250,6 +254,67 @@ fn read_opening<T: Tree>(
     read_rest(alloc, files, tree, project, root)
 }
 
+// What was opened, where packages can be kept in the store.
+fn stored<T: Tree>(
+    alloc: Global,
+    files: &mut FileCache,
+    tree: &mut T,
+    project: &Project,
+    store: &Store,
+    opening: Opening,
+) -> Result<Opening, Stop<Early>>
+    ensures reads { ReadsAs early_view opening_view result
+        (stored project.now store.now (opening_view opening))
+        (held files.old (T.state tree.old)) (held files.new (T.state tree.new)) }
+    ensures within { LooksWhere (stored_paths project.now store.now (config_view opening.config))
+        (held files.old (T.state tree.old)) (held files.new (T.state tree.new)) }
+{
+    match check_store(alloc, files, tree, project, store, &opening.config) {
+        Ok(()) => Ok(opening),
+        Err(stop) => {
+            drop(opening);
+            Err(stop)
+        }
+    }
+}
+
+// What was opened, and then the store.
+fn read_stored<T: Tree>(
+    alloc: Global,
+    files: &mut FileCache,
+    tree: &mut T,
+    project: &Project,
+    store: &Store,
+) -> Result<Opening, Stop<Early>>
+    ensures reads { ReadsAs early_view opening_view result
+        (opened_with project.now (Some store.now)) (held files.old (T.state tree.old))
+        (held files.new (T.state tree.new)) }
+    ensures within { LooksWhere (paths_with project.now (Some store.now))
+        (held files.old (T.state tree.old)) (held files.new (T.state tree.new)) }
+{
+    let opening = read_opening(alloc, files, tree, project)?;
+    stored(alloc, files, tree, project, store, opening)
+}
+
+fn read_with<T: Tree>(
+    alloc: Global,
+    files: &mut FileCache,
+    tree: &mut T,
+    project: &Project,
+    store: Option<&Store>,
+) -> Result<Opening, Stop<Early>>
+    ensures reads { ReadsAs early_view opening_view result
+        (opened_with project.now (option_map (λ s. s.now) store.entry))
+        (held files.old (T.state tree.old)) (held files.new (T.state tree.new)) }
+    ensures within { LooksWhere (paths_with project.now (option_map (λ s. s.now) store.entry))
+        (held files.old (T.state tree.old)) (held files.new (T.state tree.new)) }
+{
+    match store {
+        Some(store) => read_stored(alloc, files, tree, project, store),
+        None => read_opening(alloc, files, tree, project),
+    }
+}
+
 fn ready(opening: Opening, off: List<Instance>, files: FileCache) -> Opened
     ensures { result ≡ ready opening off files }
 {
@@ -321,14 +386,20 @@ fn answer(
 }
 
 /// Opens a project: reads its root manifest, its configuration, its triplets and its overlays, each
-/// path once; the setting lists the instances whose default features the root turns off. `Refused`
-/// exactly where they have a fault, with the first in this order; `Failed`
-/// exactly where a call of the tree failed.
-pub fn open<T: Tree>(alloc: Global, tree: &mut T, project: &Project) -> Result<Opened, Outage>
-    ensures { Opens project.now result (T.state tree.old) (T.state tree.new) }
+/// path once, and then looks where packages are to be kept, if a store is named. The setting lists
+/// the instances whose default features the root turns off. `Refused` exactly where files or store
+/// have a fault, with the first in this order; `Failed` exactly where a call of the tree failed.
+pub fn open<T: Tree>(
+    alloc: Global,
+    tree: &mut T,
+    project: &Project,
+    store: Option<&Store>,
+) -> Result<Opened, Outage>
+    ensures { Opens project.now (option_map (λ s. s.now) store.entry) result
+        (T.state tree.old) (T.state tree.new) }
 {
     let mut files = FileCache::new(alloc);
-    let read = read_opening(alloc, &mut files, tree, project);
+    let read = read_with(alloc, &mut files, tree, project, store);
     files.known();
     let off = off_in(alloc, &read);
     answer(read, off, files)

@@ -68,16 +68,41 @@ fn push_joined(
     Ok(())
 }
 
+// Puts the folders of the words at the end.
+fn push_named(folders: &mut List<TreePath>, words: &[TreePath]) -> Result<(), Memory>
+    ensures { OnOk result (folders.new ≡ folders.old ++ words.now) }
+{
+    for path in words {
+        folders.push(path.clone()?)?;
+    }
+    Ok(())
+}
+
+/// Puts the folders that the words name at the end, and then those of the configuration.
+pub fn push_folders(
+    alloc: Global,
+    folders: &mut List<TreePath>,
+    project: &TreePath,
+    words: &[TreePath],
+    configured: &[TreePath],
+) -> Result<(), Memory>
+    ensures { OnOk result
+        (folders.new ≡ folders.old ++ folders_of project.now words.now configured.now) }
+{
+    push_named(folders, words)?;
+    push_joined(alloc, folders, project, configured)
+}
+
 /// The folders that the words name, and then those of the configuration.
 pub fn folders(
     alloc: Global,
     project: &TreePath,
-    words: &List<TreePath>,
+    words: &[TreePath],
     configured: &[TreePath],
 ) -> Result<List<TreePath>, Memory>
     ensures { IfOk result (λ l. l ≡ folders_of project.now words.now configured.now) }
 {
-    let mut folders = words.clone()?;
-    push_joined(alloc, &mut folders, project, configured)?;
+    let mut folders = List::new(alloc);
+    push_folders(alloc, &mut folders, project, words, configured)?;
     Ok(folders)
 }

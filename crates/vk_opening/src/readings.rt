@@ -1,11 +1,12 @@
 //! A file that is read, and its fault as an early line.
 ghost use Rattle.std.specs.Prelude.{◌≡◌, ◌∷◌, [], false, Ok, option_map};
+ghost use Rattle.std.specs.List.{find};
 ghost use Rattle.vk_files.specs.Views.{held, kept_of};
-ghost use Rattle.vk_files.specs.Within.{LooksWithin};
+ghost use Rattle.vk_files.specs.Within.{LooksWhere, LooksWithin, up_to_first};
 ghost use Rattle.vk_base.specs.Stops.{fault_in, is_failure};
 ghost use Rattle.vk_base.specs.Stops.{fault_seen};
 ghost use Rattle.vk_files.specs.StandingViews.{standing_view};
-ghost use Rattle.vk_files.specs.Readings.{ReadsAs, bad_view, standing_at};
+ghost use Rattle.vk_files.specs.Readings.{ReadsAs, bad_view, is_at, standing_at};
 ghost use Rattle.vk_opening.specs.Roots.{line_of, early_at, line_at};
 ghost use Rattle.vk_model.specs.EarlyViews.{early_view};
 
@@ -75,4 +76,35 @@ pub fn standing<T: Tree>(
         Ok(standing) => Ok(standing),
         Err(stop) => Err(early(stop)),
     }
+}
+
+// Whether a file stands at a path.
+fn is_at<T: Tree>(files: &mut FileCache, tree: &mut T, path: &TreePath) -> Result<bool, Stop<Early>>
+    ensures reads { ReadsAs early_view (λ there. there) result (λ files. Ok (is_at files path.now))
+        (held files.old (T.state tree.old)) (held files.new (T.state tree.new)) }
+    ensures within { LooksWithin (path.now ∷ []) (kept_of files.old) (kept_of files.new) }
+{
+    let standing = standing(files, tree, path)?;
+    Ok(standing.is_there())
+}
+
+/// The first of the paths at which a file stands; `None` exactly where none stands at any. No path
+/// after the first is looked at.
+pub fn first_file<'a, T: Tree>(
+    files: &mut FileCache,
+    tree: &mut T,
+    paths: &'a [TreePath],
+) -> Result<Option<&'a TreePath>, Stop<Early>>
+    ensures reads { ReadsAs early_view (option_map (λ path. path.now)) result
+        (λ files. Ok (find (is_at files) paths.now)) (held files.old (T.state tree.old))
+        (held files.new (T.state tree.new)) }
+    ensures within { LooksWhere (λ files. up_to_first (is_at files) paths.now)
+        (held files.old (T.state tree.old)) (held files.new (T.state tree.new)) }
+{
+    for path in paths {
+        if is_at(files, tree, path)? {
+            return Ok(Some(path));
+        }
+    }
+    Ok(None)
 }

@@ -1,27 +1,25 @@
 //! The triplets of a project, each the first file of its name in folders of triplets.
-ghost use Rattle.std.specs.Prelude.{◌≡◌, ◌↔◌, ◌∷◌, [], List, false, Ok, Err, IfSome};
-ghost use Rattle.std.specs.Prelude.{IsTrue, option_map};
-ghost use Rattle.std.specs.List.{Contains};
-ghost use Rattle.vk_spec.specs.Paths.{Path};
+ghost use Rattle.std.specs.Prelude.{◌≡◌, Err, IfOk, false, map, option_map};
+ghost use Rattle.std.specs.List.{find};
 ghost use Rattle.vk_spec.specs.Reading.{Fails};
+ghost use Rattle.vk_spec.specs.Earlies as early;
+ghost use Rattle.vk_base.specs.Stops.{fault_in, fault_seen, is_failure};
 ghost use Rattle.vk_json.specs.Places.{here};
 ghost use Rattle.vk_triplet.specs.TripletReadings as plain;
-ghost use Rattle.vk_files.specs.Views.{held, kept_of};
-ghost use Rattle.vk_files.specs.Within.{LooksWithin, LooksWhere};
-ghost use Rattle.vk_base.specs.Stops.{fault_in, is_failure};
-ghost use Rattle.vk_base.specs.Stops.{fault_seen};
-ghost use Rattle.vk_files.specs.Readings.{ReadsAs, is_at};
-ghost use Rattle.vk_spec.specs.Earlies as early;
 ghost use Rattle.vk_model.specs.EarlyViews.{early_view};
-ghost use Rattle.vk_opening.specs.Asked.{tried_paths, both_paths};
-ghost use Rattle.vk_opening.specs.TripletFiles.{triplet_word, triplet_in, triplet_file};
-ghost use Rattle.vk_opening.specs.TripletFiles.{triplet_from, triplet_at, triplets_at};
+ghost use Rattle.vk_files.specs.Readings.{ReadsAs, is_at};
+ghost use Rattle.vk_files.specs.Views.{held};
+ghost use Rattle.vk_files.specs.Within.{LooksWhere, up_to_first};
+ghost use Rattle.vk_opening.specs.Asked.{both_paths, tried_paths};
+ghost use Rattle.vk_opening.specs.Projects.{triplet_path};
+ghost use Rattle.vk_opening.specs.TripletFiles.{triplet_from, triplet_in, triplet_word};
+ghost use Rattle.vk_opening.specs.TripletFiles.{triplet_at, triplets_at};
 ghost use Rattle.vk_opening.specs.Views.{triplets_view};
 
 use crate::projects::triplet_path;
-use crate::readings::{read_early, standing};
+use crate::readings::{first_file, read_early};
 use std::alloc::Global;
-use vk_base::{Stop, TreePath, TripletName, Unread};
+use vk_base::{List, Memory, Stop, TreePath, TripletName, Unread};
 use vk_files::{FileCache, FileReader};
 use vk_json::{FileFault, Scratch, Why, wrong};
 use vk_model::Early;
@@ -66,37 +64,19 @@ impl FileReader for TripletFile<'_> {
     }
 }
 
-// Whether a file stands at a path.
-fn is_at<T: Tree>(files: &mut FileCache, tree: &mut T, path: &TreePath) -> Result<bool, Stop<Early>>
-    ensures reads { ReadsAs early_view (λ there. there) result (λ files. Ok (is_at files path.now))
-        (held files.old (T.state tree.old)) (held files.new (T.state tree.new)) }
-    ensures within { LooksWithin (path.now ∷ []) (kept_of files.old) (kept_of files.new) }
-{
-    let standing = standing(files, tree, path)?;
-    Ok(standing.is_there())
-}
-
-// The first of the folders' files of a triplet that is there.
-fn triplet_file<T: Tree>(
+// The files of a triplet in folders, in their order.
+fn triplet_paths(
     alloc: Global,
-    files: &mut FileCache,
-    tree: &mut T,
     name: &TripletName,
     folders: &[TreePath],
-) -> Result<Option<TreePath>, Stop<Early>>
-    ensures reads { ReadsAs early_view (λ path. path) result
-        (λ files. Ok (triplet_file name.now folders.now files))
-        (held files.old (T.state tree.old)) (held files.new (T.state tree.new)) }
-    ensures within { LooksWhere (tried_paths name.now folders.now)
-        (held files.old (T.state tree.old)) (held files.new (T.state tree.new)) }
+) -> Result<List<TreePath>, Memory>
+    ensures { IfOk result (λ paths. paths ≡ map (triplet_path name.now) folders.now) }
 {
+    let mut paths = List::new(alloc);
     for folder in folders {
-        let path = triplet_path(alloc, name, folder)?;
-        if is_at(files, tree, &path)? {
-            return Ok(Some(path));
-        }
+        paths.push(triplet_path(alloc, name, folder)?)?;
     }
-    Ok(None)
+    Ok(paths)
 }
 
 fn no_triplet(name: &TripletName) -> Stop<Early>
@@ -110,20 +90,22 @@ fn no_triplet(name: &TripletName) -> Stop<Early>
     }
 }
 
-fn triplet_from<T: Tree>(
+// The triplet of a name in the first of these files that is there.
+fn first_triplet<T: Tree>(
     alloc: Global,
     files: &mut FileCache,
     tree: &mut T,
     name: &TripletName,
-    path: Option<TreePath>,
+    paths: &[TreePath],
 ) -> Result<Triplet, Stop<Early>>
-    ensures reads { ReadsAs early_view (λ t. t) result (triplet_from name.now path)
+    ensures reads { ReadsAs early_view (λ t. t) result
+        (λ files. triplet_from name.now (find (is_at files) paths.now) files)
         (held files.old (T.state tree.old)) (held files.new (T.state tree.new)) }
-    ensures within { (paths : List Path) → IfSome path (Contains paths) →
-        LooksWithin paths (kept_of files.old) (kept_of files.new) }
+    ensures within { LooksWhere (λ files. up_to_first (is_at files) paths.now)
+        (held files.old (T.state tree.old)) (held files.new (T.state tree.new)) }
 {
-    match path {
-        Some(path) => read_early(alloc, files, tree, &path, &TripletFile(name)),
+    match first_file(files, tree, paths)? {
+        Some(path) => read_early(alloc, files, tree, path, &TripletFile(name)),
         None => Err(no_triplet(name)),
     }
 }
@@ -141,14 +123,8 @@ fn read_triplet<T: Tree>(
     ensures within { LooksWhere (tried_paths name.now folders.now)
         (held files.old (T.state tree.old)) (held files.new (T.state tree.new)) }
 {
-    let path = triplet_file(alloc, files, tree, name, folders)?;
-    triplet_from(alloc, files, tree, name, path)
-}
-
-fn is_same(one: &TripletName, other: &TripletName) -> bool
-    ensures { IsTrue result ↔ (one.now ≡ other.now) }
-{
-    one == other
+    let paths = triplet_paths(alloc, name, folders)?;
+    first_triplet(alloc, files, tree, name, paths.as_slice())
 }
 
 /// The triplet that is built for, and that of the machine that builds.
@@ -158,27 +134,9 @@ pub struct Triplets {
     pub host: Triplet,
 }
 
-// The triplet of a name in folders, for both.
-fn read_for_both<T: Tree>(
-    alloc: Global,
-    files: &mut FileCache,
-    tree: &mut T,
-    name: &TripletName,
-    folders: &[TreePath],
-) -> Result<Triplets, Stop<Early>>
-    ensures reads { ReadsAs early_view triplets_view result
-        (triplets_at name.now name.now folders.now) (held files.old (T.state tree.old))
-        (held files.new (T.state tree.new)) }
-    ensures within { LooksWhere (tried_paths name.now folders.now)
-        (held files.old (T.state tree.old)) (held files.new (T.state tree.new)) }
-{
-    let target = read_triplet(alloc, files, tree, name, folders)?;
-    let host = target.clone()?;
-    Ok(Triplets { target, host })
-}
-
-// The triplets of two names, one after the other.
-fn read_one_by_one<T: Tree>(
+/// The two triplets of these names in folders. Where the names are one, so is the file, which is
+/// read once.
+pub fn read_triplets<T: Tree>(
     alloc: Global,
     files: &mut FileCache,
     tree: &mut T,
@@ -195,25 +153,4 @@ fn read_one_by_one<T: Tree>(
     let target = read_triplet(alloc, files, tree, target, folders)?;
     let host = read_triplet(alloc, files, tree, host, folders)?;
     Ok(Triplets { target, host })
-}
-
-/// The two triplets of these names in folders. Where the names are one, its file is read once.
-pub fn read_triplets<T: Tree>(
-    alloc: Global,
-    files: &mut FileCache,
-    tree: &mut T,
-    target: &TripletName,
-    host: &TripletName,
-    folders: &[TreePath],
-) -> Result<Triplets, Stop<Early>>
-    ensures reads { ReadsAs early_view triplets_view result
-        (triplets_at target.now host.now folders.now) (held files.old (T.state tree.old))
-        (held files.new (T.state tree.new)) }
-    ensures within { LooksWhere (both_paths target.now host.now folders.now)
-        (held files.old (T.state tree.old)) (held files.new (T.state tree.new)) }
-{
-    if is_same(target, host) {
-        return read_for_both(alloc, files, tree, target, folders);
-    }
-    read_one_by_one(alloc, files, tree, target, host, folders)
 }

@@ -4,7 +4,7 @@ use crate::projects::{port_of, version_of};
 use std::alloc::Global;
 use vk_base::{Outage, PortName};
 use vk_model::lines::early_line;
-use vk_model::{Project, Setting};
+use vk_model::{Project, Setting, Store};
 use vk_opening::{Opened, Start};
 use vk_row_text::{Reply, cut};
 use vk_tree::MemTree;
@@ -35,10 +35,16 @@ fn stopped(stop: Outage, reply: &mut Reply) {
     }
 }
 
-/// Opens a project on a tree.
+/// Opens a project on a tree, and looks where packages are to be kept, if a store is given.
 #[tactic(auto, using(vk_opening::proofs::OpenLemmas::start_right))]
-pub fn open_on(alloc: Global, mut tree: MemTree, project: &Project, reply: &mut Reply) -> Opening {
-    match World::open(alloc, &mut tree, project, None) {
+pub fn open_on(
+    alloc: Global,
+    mut tree: MemTree,
+    project: &Project,
+    store: Option<&Store>,
+    reply: &mut Reply,
+) -> Opening {
+    match World::open(alloc, &mut tree, project, store) {
         Ok(Opened::Ready { setting, start }) => {
             tell_ready(&setting, &start, reply);
             Opening::World(World::on(alloc, start, tree))

@@ -1,8 +1,8 @@
 //! What the words of a row stand for.
 
 use std::alloc::Global;
-use vk_base::{List, PortName, TreePath, TripletName, Unread};
-use vk_model::{Builder, Project};
+use vk_base::{List, PortName, Text, TreePath, TripletName, Unread};
+use vk_model::{Builder, Project, Store};
 use vk_row_text::{NoRow, Reply, cut, path_of};
 use vk_version::{Ask, Class, Scheme, Version, read, read_ask};
 
@@ -135,4 +135,16 @@ pub fn project_of(row: &str, reply: &mut Reply) -> Option<Project> {
     let pushed = push_folders(reply.alloc(), &mut project, ports, triplets);
     reply.needed(pushed);
     Some(project)
+}
+
+/// The store of a row: the folder that packages are installed into, and the one that they are kept
+/// in.
+pub fn store_of(row: &str, reply: &mut Reply) -> Store {
+    let (installed, cache) = cut(row);
+    Store {
+        installed: reply.path(installed),
+        cache: reply.path(cache),
+        agent: Text::new(reply.alloc()),
+        max_bytes: u64::from(MOST),
+    }
 }

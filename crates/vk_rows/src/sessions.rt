@@ -6,6 +6,7 @@
 //! - `room OUT ERR`, `run WORD ..`: how many bytes the two sinks take, and a run with these words;
 //! - `open FOLDER TARGET HOST PORTS TRIPLETS`: opens a project with these folders of ports and of
 //!   triplet files, each a list with commas, or `-`; the world is then the one that is asked;
+//! - `store INSTALLED CACHE`: where projects that are opened later in the case keep packages;
 //! - `given PORT`, `version PORT ASK`, `manifest PORT ASK`, `at PORT`, `folder PORT VERSION`: asks
 //!   the world;
 //! - `log`: ends the world, and tells the paths that its tree was asked for;
@@ -14,7 +15,7 @@
 use crate::asks::ask;
 use crate::lines::tell_paths;
 use crate::openings::{Opening, folder, open_on};
-use crate::projects::project_of;
+use crate::projects::{project_of, store_of};
 use crate::runs::{ROOM, Room, Sinks, room_of, tell_ended, words_of};
 use crate::workspaces::{Workspace, done};
 use crate::{page_rows, sink_rows, tree_rows};
@@ -22,7 +23,7 @@ use std::alloc::Global;
 use vk_app::{Ran, run};
 use vk_base::{List, Memory, Unread, Word};
 use vk_catalogue::MemCatalogue;
-use vk_model::Project;
+use vk_model::{Project, Store};
 use vk_row_text::{Answering, NoRow, Reply, cut};
 use vk_tree::{MemSink, MemTree};
 use vk_world::World;
@@ -32,6 +33,7 @@ use vk_world::World;
 pub struct Session {
     files: Workspace,
     world: Option<World<MemTree>>,
+    store: Option<Store>,
     pages: MemCatalogue,
     sink: MemSink,
     room: Room,
@@ -49,6 +51,7 @@ impl Session {
         Ok(Session {
             files,
             world: None,
+            store: None,
             pages,
             sink,
             room: ROOM,
@@ -64,6 +67,7 @@ impl Session {
 
     fn restart(&mut self, alloc: Global) -> Result<(), Unread<NoRow>> {
         self.room = ROOM;
+        self.store = None;
         self.pages = MemCatalogue::new(alloc)?;
         self.files.restart(alloc)
     }
@@ -79,7 +83,7 @@ impl Session {
     fn open_project(&mut self, project: &Project, reply: &mut Reply) {
         match self.files.take_tree(reply.alloc()) {
             Ok(tree) => {
-                let opening = open_on(reply.alloc(), tree, project, reply);
+                let opening = open_on(reply.alloc(), tree, project, self.store.as_ref(), reply);
                 self.keep(opening);
             }
             Err(memory) => reply.lack(memory),
@@ -134,7 +138,12 @@ impl Session {
         self.room = room_of(row, reply);
     }
 
-    // Begins a group or a case, or sets files or room.
+    fn set_store(&mut self, row: &str, reply: &mut Reply) {
+        reply.silence();
+        self.store = Some(store_of(row, reply));
+    }
+
+    // Begins a group or a case, or sets files, a store or room.
     fn set(&mut self, what: &str, row: &str, reply: &mut Reply) {
         let alloc = reply.alloc();
         match what {
@@ -145,6 +154,7 @@ impl Session {
             "blanks" => done(reply, self.files.put_blanks(alloc, row)),
             "fails" => done(reply, self.files.fail_at(alloc, row)),
             "room" => self.set_room(row, reply),
+            "store" => self.set_store(row, reply),
             _ => reply.refuse(),
         }
     }

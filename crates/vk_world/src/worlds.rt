@@ -1,5 +1,5 @@
 //! A catalogue of ports over the files of a tree.
-ghost use Rattle.std.specs.Prelude.{◌≡◌, IfOk, IfSome};
+ghost use Rattle.std.specs.Prelude.{◌≡◌, IfOk, IfSome, option_map};
 ghost use Rattle.vk_spec.specs.Catalogues.{OnlyAsked, OnPages};
 ghost use Rattle.vk_base.specs.Stops.{was_out};
 ghost use Rattle.vk_files.specs.Kept.{IsOf, paths_of};
@@ -60,17 +60,19 @@ impl<T: Tree> Model for World<T> {
 
 impl<T: Tree> World<T> {
     /// Opens a project: reads its root manifest, its configuration, its triplets and its overlays,
-    /// each path once. `Refused` exactly where they have a fault, with the first in this order;
-    /// `Failed` exactly where a call of the tree failed. The store isn't looked at yet.
+    /// each path once, and then looks where packages are to be kept, if a store is named. `Refused`
+    /// exactly where files or store have a fault, with the first in this order; `Failed` exactly
+    /// where a call of the tree failed.
     pub fn open(
         alloc: Global,
         tree: &mut T,
         project: &Project,
-        _store: Option<&Store>,
+        store: Option<&Store>,
     ) -> Result<Opened, Outage>
-        ensures { Opens project.now result (T.state tree.old) (T.state tree.new) }
+        ensures { Opens project.now (option_map (λ s. s.now) store.entry) result
+            (T.state tree.old) (T.state tree.new) }
     {
-        open(alloc, tree, project)
+        open(alloc, tree, project, store)
     }
 
     /// The world of a project that was opened on a tree. Takes no memory.

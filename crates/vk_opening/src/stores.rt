@@ -1,0 +1,277 @@
+//! Where packages are installed and kept, which is looked at before any port is.
+ghost use Rattle.std.specs.Prelude.{◌≡◌, ◌++◌, IfOk, OnOk, false, flat_map};
+ghost use Rattle.std.specs.Prelude.{option_map, option_to_list};
+ghost use Rattle.std.specs.List.{find};
+ghost use Rattle.vk_spec.specs.Earlies as early;
+ghost use Rattle.vk_spec.specs.Reading.{Gives};
+ghost use Rattle.vk_base.specs.Stops.{fault_seen, has_failed};
+ghost use Rattle.vk_config.specs.Views.{config_view, source_view};
+ghost use Rattle.vk_model.specs.EarlyViews.{early_view};
+ghost use Rattle.vk_files.specs.Readings.{ReadsAs, is_at};
+ghost use Rattle.vk_files.specs.Views.{held};
+ghost use Rattle.vk_files.specs.Within.{LooksWhere, up_to_first};
+ghost use Rattle.vk_opening.specs.Asked.{stored_paths};
+ghost use Rattle.vk_opening.specs.Stores.{apart, apart_by, apart_from, refused_if, unblocked};
+ghost use Rattle.vk_opening.specs.Stores.{begins, has_in_it, is_far_up, overlaps};
+ghost use Rattle.vk_opening.specs.Stores.{outer_folders, prefixes, source_folder, store_folders};
+ghost use Rattle.vk_opening.specs.Stores.{stored_at};
+
+use crate::projects::{from_folder, push_folders};
+use crate::readings::first_file;
+use std::alloc::Global;
+use vk_base::{List, Memory, Stop, TreePath};
+use vk_config::{Config, Registry, Source};
+use vk_files::FileCache;
+use vk_model::{Early, Project, Store};
+use vk_tree::Tree;
+
+fn begins(folder: &TreePath, path: &TreePath) -> bool
+    ensures { result ≡ begins folder.now path.now }
+{
+    folder.begins(path)
+}
+
+fn overlaps(one: &TreePath, other: &TreePath) -> bool
+    ensures { result ≡ overlaps one.now other.now }
+{
+    begins(one, other) || begins(other, one)
+}
+
+fn is_far_up(folder: &TreePath, project: &TreePath) -> bool
+    ensures { result ≡ is_far_up folder.now project.now }
+{
+    folder.part_count() == 0
+        && (folder.is_rooted() || (!project.is_rooted() && project.steps_up() < folder.steps_up()))
+}
+
+fn has_in_it(folder: &TreePath, project: &TreePath) -> bool
+    ensures { result ≡ has_in_it folder.now project.now }
+{
+    begins(folder, project) || is_far_up(folder, project)
+}
+
+// The line of two folders.
+fn overlap(first: &TreePath, second: &TreePath) -> Result<Early, Memory>
+    ensures { IfOk result (λ line. early_view line ≡ early.overlap first.now second.now) }
+{
+    Ok(Early::Overlap {
+        first: first.clone()?,
+        second: second.clone()?,
+    })
+}
+
+// That nothing is wrong with two folders, or else their line.
+fn refused_if(wrong: bool, one: &TreePath, other: &TreePath) -> Result<(), Stop<Early>>
+    ensures told { Gives (λ done. tt) (fault_seen early_view) result
+        (refused_if wrong one.now other.now) }
+    ensures calm { has_failed result ≡ false }
+{
+    if wrong {
+        return Err(Stop::Fault(overlap(one, other)?));
+    }
+    Ok(())
+}
+
+fn first_overlap<'a>(folder: &TreePath, others: &'a [TreePath]) -> Option<&'a TreePath>
+    ensures { option_map (λ other. other.now) result ≡ find (overlaps folder.now) others.now }
+{
+    others.iter().find(|other| overlaps(folder, other))
+}
+
+// That a folder overlaps none of these, or else its line with the first that it overlaps.
+fn apart_from(folder: &TreePath, others: &[TreePath]) -> Result<(), Stop<Early>>
+    ensures told { Gives (λ done. tt) (fault_seen early_view) result
+        (apart_from folder.now others.now) }
+    ensures calm { has_failed result ≡ false }
+{
+    match first_overlap(folder, others) {
+        Some(other) => Err(Stop::Fault(overlap(folder, other)?)),
+        None => Ok(()),
+    }
+}
+
+// That the folders of a store are apart, from these too, and have no project in them.
+#[tactic(auto, unfolding(crate::specs::Stores::apart_by))]
+fn apart_by(project: &TreePath, store: &Store, folders: &[TreePath]) -> Result<(), Stop<Early>>
+    ensures told { Gives (λ done. tt) (fault_seen early_view) result
+        (apart_by project.now store.now folders.now) }
+    ensures calm { has_failed result ≡ false }
+{
+    let Store {
+        installed,
+        cache,
+        ..
+    } = store;
+    refused_if(overlaps(installed, cache), installed, cache)?;
+    apart_from(installed, folders)?;
+    apart_from(cache, folders)?;
+    refused_if(has_in_it(installed, project), installed, project)?;
+    refused_if(has_in_it(cache, project), cache, project)
+}
+
+// Puts the folder of a source at the end, if it is one of files.
+fn push_source(
+    alloc: Global,
+    folders: &mut List<TreePath>,
+    project: &TreePath,
+    source: &Source,
+) -> Result<(), Memory>
+    ensures { OnOk result (folders.new
+        ≡ folders.old ++ source_folder project.now (source_view source.now)) }
+{
+    match source {
+        Source::Filesystem { path, .. } => Ok(folders.push(from_folder(alloc, project, path)?)?),
+        Source::Git | Source::Builtin | Source::Artifact => Ok(()),
+    }
+}
+
+// Puts the folders of registries at the end.
+fn push_registries(
+    alloc: Global,
+    folders: &mut List<TreePath>,
+    project: &TreePath,
+    registries: &[Registry],
+) -> Result<(), Memory>
+    ensures { OnOk result (folders.new ≡ folders.old
+        ++ flat_map (λ r. source_folder project.now (source_view r.source)) registries.now) }
+{
+    for registry in registries {
+        push_source(alloc, folders, project, &registry.source)?;
+    }
+    Ok(())
+}
+
+// Puts the folder of the default registry at the end, if there is one of files.
+fn push_default(
+    alloc: Global,
+    folders: &mut List<TreePath>,
+    project: &TreePath,
+    default: &Option<Source>,
+) -> Result<(), Memory>
+    ensures { OnOk result (folders.new ≡ folders.old ++ flat_map (source_folder project.now)
+        (option_to_list (option_map source_view default.now))) }
+{
+    match default {
+        Some(source) => push_source(alloc, folders, project, source),
+        None => Ok(()),
+    }
+}
+
+// Where else a project has files.
+fn outer_folders(
+    alloc: Global,
+    project: &Project,
+    config: &Config,
+) -> Result<List<TreePath>, Memory>
+    ensures { IfOk result
+        (λ folders. folders ≡ outer_folders project.now (config_view config.now)) }
+{
+    let mut outer = List::new(alloc);
+    let folder = &project.folder;
+    push_registries(alloc, &mut outer, folder, config.registries.as_slice())?;
+    push_default(alloc, &mut outer, folder, &config.default)?;
+    let (words, configured) = (&project.overlay_ports, &config.overlay_ports);
+    push_folders(
+        alloc,
+        &mut outer,
+        folder,
+        words.as_slice(),
+        configured.as_slice(),
+    )?;
+    let (words, configured) = (&project.overlay_triplets, &config.overlay_triplets);
+    push_folders(
+        alloc,
+        &mut outer,
+        folder,
+        words.as_slice(),
+        configured.as_slice(),
+    )?;
+    Ok(outer)
+}
+
+fn apart(
+    alloc: Global,
+    project: &Project,
+    store: &Store,
+    config: &Config,
+) -> Result<(), Stop<Early>>
+    ensures told { Gives (λ done. tt) (fault_seen early_view) result
+        (apart project.now store.now (config_view config.now)) }
+    ensures calm { has_failed result ≡ false }
+{
+    let folders = outer_folders(alloc, project, config)?;
+    apart_by(&project.folder, store, folders.as_slice())
+}
+
+// Puts the prefixes of a path at the end, from the shortest to itself.
+fn push_prefixes(alloc: Global, places: &mut List<TreePath>, path: &TreePath) -> Result<(), Memory>
+    ensures { OnOk result (places.new ≡ places.old ++ prefixes path.now) }
+{
+    for count in 0..path.part_count() {
+        places.push(path.prefix(alloc, count)?)?;
+    }
+    places.push(path.clone()?)?;
+    Ok(())
+}
+
+// Where a store has to have folders.
+fn store_folders(alloc: Global, store: &Store) -> Result<List<TreePath>, Memory>
+    ensures { IfOk result (λ places. places ≡ store_folders store.now) }
+{
+    let mut places = List::new(alloc);
+    push_prefixes(alloc, &mut places, &store.installed)?;
+    push_prefixes(alloc, &mut places, &store.cache)?;
+    places.push(store.cache.child(alloc, "abi2")?)?;
+    places.push(store.cache.child(alloc, "tmp")?)?;
+    places.push(store.cache.child(alloc, "damaged")?)?;
+    Ok(places)
+}
+
+// The line of a file that is in the way.
+fn blocked(path: &TreePath) -> Result<Early, Memory>
+    ensures { IfOk result (λ line. early_view line ≡ early.blocked path.now) }
+{
+    Ok(Early::Blocked {
+        path: path.clone()?,
+    })
+}
+
+// That no file stands at these paths, or else the line of the first at which one does.
+fn unblocked<T: Tree>(
+    files: &mut FileCache,
+    tree: &mut T,
+    places: &[TreePath],
+) -> Result<(), Stop<Early>>
+    ensures reads { ReadsAs early_view (λ done. tt) result
+        (λ files. unblocked (find (is_at files) places.now))
+        (held files.old (T.state tree.old)) (held files.new (T.state tree.new)) }
+    ensures within { LooksWhere (λ files. up_to_first (is_at files) places.now)
+        (held files.old (T.state tree.old)) (held files.new (T.state tree.new)) }
+{
+    match first_file(files, tree, places)? {
+        Some(path) => Err(Stop::Fault(blocked(path)?)),
+        None => Ok(()),
+    }
+}
+
+/// That packages can be installed and kept in these folders: they are apart from each other, from
+/// the project's folder and from all that it names, and no file stands where they need a folder.
+/// `Fault` has the first line that says otherwise.
+pub fn check_store<T: Tree>(
+    alloc: Global,
+    files: &mut FileCache,
+    tree: &mut T,
+    project: &Project,
+    store: &Store,
+    config: &Config,
+) -> Result<(), Stop<Early>>
+    ensures reads { ReadsAs early_view (λ done. tt) result
+        (stored_at project.now store.now (config_view config.now))
+        (held files.old (T.state tree.old)) (held files.new (T.state tree.new)) }
+    ensures within { LooksWhere (stored_paths project.now store.now (config_view config.now))
+        (held files.old (T.state tree.old)) (held files.new (T.state tree.new)) }
+{
+    apart(alloc, project, store, config)?;
+    let places = store_folders(alloc, store)?;
+    unblocked(files, tree, places.as_slice())
+}
