@@ -11,7 +11,7 @@ use Rattle.vk_spec.specs.States.{State}
 use Rattle.vk_spec.proofs.ListLemmas.{contains_first, contains_later}
 use Rattle.vk_spec.proofs.OptionLemmas.{of_each, of_both}
 use Rattle.vk_files.specs.Kept.{Kept, paths_of, IsOf, Held, ReadOnce}
-use Rattle.vk_files.specs.Readings.{ReadsAs, is_at}
+use Rattle.vk_files.specs.Readings.{ReadsAs}
 use Rattle.vk_files.specs.Within.{LooksWithin, LooksWhere, up_to_first}
 use Rattle.vk_files.proofs.ReadMore.{known_before}
 use Rattle.vk_files.proofs.WithinLemmas.{one_in, within_then, within_wider, where_nothing}

@@ -1,5 +1,5 @@
 -- Files that are found among paths, and two triplets.
-use Rattle.std.proofs.Common.{◌≡◌, ℕ, Bool, List, map, subst}
+use Rattle.std.proofs.Common.{ℕ, Bool, List, map, subst}
 use Rattle.std.proofs.lemmas.List.{map-id}
 use Rattle.std.specs.Prelude.{Option, option_map, Result, Ok}
 use Rattle.std.specs.List.{find}

@@ -1,5 +1,5 @@
 -- Where packages are installed and kept: what these two folders have to be apart from, and where no file may stand.
-use Rattle.std.specs.Prelude.{◌++◌, ◌==◌, ◌&&◌, ◌||◌, ◌+◌, ℕ, Bool, not, List, [], ◌∷◌, length, take, map, flat_map, Option, Some, None, option_to_list, Result, Ok, Err, codes, bytes_eq, nat_lt, if◌then◌else◌}
+use Rattle.std.specs.Prelude.{◌++◌, ◌==◌, ◌&&◌, ◌||◌, ◌+◌, Bool, not, List, [], ◌∷◌, length, take, map, flat_map, Option, Some, None, option_to_list, Result, Ok, Err, codes, bytes_eq, nat_lt, if◌then◌else◌}
 use Rattle.std.specs.List.{find, starts_with, range_with_len}
 use Rattle.vk_spec.specs.Paths.{Path}
 use Rattle.vk_spec.specs.Files.{Files}
