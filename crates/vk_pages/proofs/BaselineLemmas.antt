@@ -2,10 +2,12 @@
 use Rattle.std.proofs.Common.{◌≡◌, ℕ, true, false, List, [], ◌∷◌, ◌++◌, refl}
 use Rattle.std.specs.Prelude.{Some, Result, Ok, Err, bytes_eq}
 use Rattle.std.specs.Bool.{Decides}
+use Rattle.std.specs.Result.{IsErrAnd}
+use Rattle.std.proofs.lemmas.Result.{err_from_is_err_and}
 use Rattle.std.proofs.lemmas.Slice.Eq.{bytes_eq-Decides, slice_eq-Decides}
+use Rattle.vk_spec.specs.Paths.{Path}
 use Rattle.vk_spec.specs.Files.{Files}
 use Rattle.vk_spec.specs.Reading.{Gives}
-use Rattle.vk_spec.specs.Pages as page
 use Rattle.vk_spec.proofs.VersionLemmas.{both_decide}
 use Rattle.vk_registry.specs.Baselines.{Entry}
 use Rattle.vk_registry.specs.declared.baselines.Baseline.{Baseline}
@@ -16,18 +18,19 @@ use Rattle.vk_files.specs.Kept.{Held}
 use Rattle.vk_files.specs.Views.{same_path}
 use Rattle.vk_base.specs.Stops.{has_failed}
 use Rattle.vk_base.specs.Stops.{fault_seen}
-use Rattle.vk_files.specs.Readings.{Bad, ReadsAs, ReadsNoting}
+use Rattle.vk_files.specs.Readings.{Bad, ReadsAs}
+use Rattle.vk_files.specs.Within.{LooksWithin}
 use Rattle.vk_files.specs.declared.bad_files.BadFile.{BadFile}
 use Rattle.vk_base.specs.declared.stops.Stop.{Stop}
 use Rattle.vk_files.proofs.FirstLemmas.{never}
 use Rattle.vk_files.proofs.NoteLemmas.{right_more, right_found}
-use Rattle.vk_files.proofs.NotingLemmas.{noting_pure, noting_then}
-use Rattle.vk_spec.proofs.OptionLemmas.{of_both}
+use Rattle.vk_pages.specs.Finds.{Finds}
 use Rattle.vk_pages.specs.Homes.{baseline_file, baseline_given, baseline_for}
 use Rattle.vk_pages.specs.BaselineNotes.{BaselineNotes, same_served, baseline_noted, IsBaselineOf, AreBaselines, nothing_said}
 use Rattle.vk_pages.specs.HomeViews.{served_view}
 use Rattle.vk_pages.specs.NoteViews.{read_view}
 use Rattle.vk_pages.specs.declared.served.Served.{Served}
+use Rattle.vk_pages.proofs.FindLemmas.{learned_so, finds_file}
 
 served_decides : (a b : Served) → Decides (same_served a b) ((a.folder ≡ b.folder) × (a.baseline ≡ b.baseline))
 served_decides a b = both_decide (same_path a.folder b.folder) (bytes_eq a.baseline b.baseline) (slice_eq-Decides bytes_eq-Decides a.folder b.folder (same_path a.folder b.folder) refl) (bytes_eq-Decides a.baseline b.baseline)
@@ -38,39 +41,32 @@ served_is a b e = let p = (served_decides a b).0 e in λ i. record { folder = p.
 pub served_itself : (a : Served) → same_served a a ≡ true
 served_itself a = (served_decides a a).1 (refl, refl)
 
-inside : {Y P : Type 0} {x y : Y} (r : Result Y P) → r ≡ Ok x → r ≡ Ok y → y ≡ x
-inside r one two = (cc)
-
 -- the baseline of a registry was read, and is noted
-pub noted_one : {found : ℕ} (served : Served) (read : Result Baseline BadFile) (notes more : BaselineNotes) (a b : Held) → more ≡ notes ++ (served, read_view read) ∷ []
-    → ReadsAs {F = Wrong} wrong_view read_view (Ok read) (λ f. Ok (baseline_file (served_view served) f)) a b → ReadsNoting {F = Wrong} wrong_view (λ (done : ℕ). tt {0}) (Ok found) nothing_said (AreBaselines notes) (AreBaselines more) a b
-noted_one served read notes more a b all one = record {
-  once = one.once;
-  content = rw all (of_both a.tree.told one.content one.content (λ t gives _ old before.
-      (right_more (IsBaselineOf t.files) notes ((served, read_view read) ∷ []) before (inside (said t.files) refl (gives old), tt {0}), refl)));
+pub noted_one : {found : ℕ} (served : Served) {read : Result Baseline BadFile} (notes : BaselineNotes) {more : BaselineNotes} {paths : List Path} {a b : Held} → more ≡ notes ++ (served, read_view read) ∷ []
+    → ReadsAs {F = Wrong} wrong_view read_view (Ok read) (λ f. Ok (baseline_file (served_view served) f)) a b → LooksWithin paths a.kept b.kept
+    → Finds (λ (done : ℕ). tt {0}) (Ok found) nothing_said (λ f. paths) (AreBaselines notes) (AreBaselines more) a b
+noted_one served {read = read} notes all one looks = record {
+  reads = learned_so refl (λ f known. (known, λ p has. has)) (λ f before known gives.
+      let is : read_view read ≡ baseline_file (served_view served) f = (cc) in
+      (rw all (right_more (IsBaselineOf f) notes ((served, read_view read) ∷ []) before (is, tt {0})), refl)) (finds_file {Known = AreBaselines notes} one looks).reads;
 }
-  where
-    said : Files → Result (Result (List Entry) Bad) page.Wrong
-    said f = Ok (baseline_file (served_view served) f)
 
 -- it wasn't read
-pub noted_none : (Known : Files → Type 0) (s : Stop Wrong) (served : Served) (a b : Held)
-    → ReadsAs {X = Result Baseline BadFile} wrong_view read_view (Err s) (λ f. Ok (baseline_file (served_view served) f)) a b → ReadsNoting {X = ℕ} wrong_view (λ done. tt {0}) (Err s) nothing_said Known Known a b
-noted_none Known s served a b one = record {
-  once = one.once;
-  content = of_both a.tree.told one.content one.content (λ t fails _ old known. (known, never (fault_seen wrong_view s) (baseline_file (served_view served) t.files) (tt {0}) (fails old)));
-}
-
--- what is noted is what the file says
-note_right : (f : Files) (served : Served) (read : Result (List Entry) Bad) (notes : BaselineNotes) → AreBaselines notes f → baseline_noted served notes ≡ Some read → read ≡ baseline_file (served_view served) f
-note_right f served read notes known found = right_found (IsBaselineOf f) same_served served_is notes served read known found
+pub noted_none : {answer : Result ℕ (Stop Wrong)} {s : Stop Wrong} (served : Served) {Known : Files → Type 0} {paths : List Path} {a b : Held}
+    → ReadsAs {X = Result Baseline BadFile} wrong_view read_view (Err s) (λ f. Ok (baseline_file (served_view served) f)) a b → LooksWithin paths a.kept b.kept → IsErrAnd answer (λ e. e ≡ s)
+    → Finds (λ done. tt {0}) answer nothing_said (λ f. paths) Known Known a b
+noted_none {answer = answer} {s = s} served {Known = Known} one looks is =
+    let p = err_from_is_err_and answer is in
+    rw (p.1, p.2) (record {
+      reads = learned_so refl (λ f known. (known, λ p has. has)) (λ f before known fails. (known, never (fault_seen wrong_view s) (baseline_file (served_view served) f) (tt {0}) fails)) (finds_file {Known = Known} one looks).reads;
+    })
 
 -- what a note gives is what the file gives
-pub note_gives : {found : ℕ} (served : Served) (port : List ℕ) (read : Result (List Entry) Bad) (notes before : BaselineNotes) (answer : Result Given (Stop Wrong)) (a b : Held)
+pub note_gives : {found : ℕ} (served : Served) (port : List ℕ) {read : Result (List Entry) Bad} (notes before : BaselineNotes) {answer : Result Given (Stop Wrong)} {paths : Files → List Path} {a b : Held}
     → baseline_noted served notes ≡ Some read → has_failed answer ≡ false → Gives given_view (fault_seen wrong_view) answer (baseline_given port read)
-    → ReadsNoting {F = Wrong} wrong_view (λ (done : ℕ). tt {0}) (Ok found) nothing_said (AreBaselines before) (AreBaselines notes) a b
-    → ReadsNoting wrong_view given_view answer (baseline_for (served_view served) port) (AreBaselines before) (AreBaselines notes) a b
-note_gives served port read notes before answer a b found calm gives looked =
-    noting_then (λ done f. baseline_for (served_view served) port f) looked
-    (noting_pure wrong_view given_view answer (baseline_for (served_view served) port) (AreBaselines notes) (AreBaselines notes) b calm
-    (λ f old known. (known, rw (note_right f served read notes known found) at gives)))
+    → Finds (λ (done : ℕ). tt {0}) (Ok found) nothing_said paths (AreBaselines before) (AreBaselines notes) a b → Finds given_view answer (baseline_for (served_view served) port) paths (AreBaselines before) (AreBaselines notes) a b
+note_gives served port {read = read} notes before found calm gives looked = record {
+  reads = learned_so calm (λ f known. (known, λ p has. has)) (λ f old known said.
+      let right : read ≡ baseline_file (served_view served) f = right_found (IsBaselineOf f) same_served served_is notes served read known found in
+      (known, rw right at gives)) looked.reads;
+}

@@ -1,5 +1,4 @@
-pub mod AskedLemmas
+pub mod FindLemmas
+pub mod OverlayLemmas
 pub mod BaselineLemmas
 pub mod PageLaws
-pub mod PinnedLemmas
-mod LastLemmas

@@ -1,6 +1,5 @@
 -- What contracts see of a port's home: plain data.
 use Rattle.std.specs.Prelude.{map}
-use Rattle.vk_spec.specs.Paths.{Path}
 use Rattle.vk_model.specs.Views.{manifest_view}
 use Rattle.vk_config.specs.Views.{config_view}
 use Rattle.vk_catalogue.specs.Views.{given_view}
@@ -10,8 +9,6 @@ use Rattle.vk_pages.specs.Homes as plain
 use Rattle.vk_pages.specs.declared.homes.Home.{Home}
 use Rattle.vk_pages.specs.declared.homes.Home.TheVariants as home
 use Rattle.vk_pages.specs.declared.homes.Layout.{Layout}
-use Rattle.vk_pages.specs.declared.registries.GivenTable.{GivenTable}
-use Rattle.vk_pages.specs.declared.overlays.OwnVersion.{OwnVersion}
 use Rattle.vk_pages.specs.declared.served.Served.{Served}
 
 abbrev pub home_view : Home → plain.Home
@@ -23,11 +20,3 @@ layout_view l = record { folder = l.folder; config = config_view l.config; overl
 
 abbrev pub served_view : Served → plain.Served
 served_view s = record { folder = s.folder; baseline = s.baseline }
-
--- the home in a registry in this folder
-abbrev pub table_home : Path → GivenTable → plain.Home
-table_home folder found = plain.in_registry (given_view found.given) folder found.table
-
--- the home of an overlay's port in this folder
-abbrev pub own_home : Path → OwnVersion → plain.Home
-own_home folder own = plain.in_overlay folder own.version (manifest_view own.manifest.value)

@@ -1,5 +1,5 @@
 -- Where a port's versions are: the first overlay that has it, or the registry that serves it.
-use Rattle.std.specs.Prelude.{◌++◌, ◌==◌, ◌⊎◌, ℕ, Bool, false, List, [], ◌∷◌, length, slice_get, Option, Some, None, option_map, IsSome, Result, Ok, Err, bytes_eq, if◌then◌else◌}
+use Rattle.std.specs.Prelude.{◌==◌, ◌⊎◌, ℕ, Bool, false, List, length, slice_get, Option, Some, None, option_map, IsSome, Result, Ok, Err, bytes_eq, if◌then◌else◌}
 use Rattle.std.specs.List.{find}
 use Rattle.vk_spec.specs.Paths.{Path}
 use Rattle.vk_spec.specs.Files.{Files}
@@ -45,13 +45,17 @@ overlay_for overlays port files = find (has_port port files) overlays
 unfoldable pub overlay_home : Path → Manifest Condition → Result Home Wrong
 overlay_home folder m = stated_version (manifest_path folder) m >>= λ v. Ok (in_overlay folder v m)
 
--- the same of a manifest that has to have the port's name
-unfoldable pub named_home : List ℕ → Path → Manifest Condition → Result Home Wrong
-named_home port folder m = named (manifest_path folder) port m >>= λ same. overlay_home folder m
+-- a manifest at a path, which has to have the port's name
+abbrev pub if_named : Path → List ℕ → Manifest Condition → Result (Manifest Condition) Wrong
+if_named path port m = named path port m >>= λ same. Ok m
+
+-- the manifest in a folder, which has to have the port's name
+abbrev pub named_manifest : List ℕ → Path → Files → Result (Manifest Condition) Wrong
+named_manifest port folder files = manifest_file (manifest_path folder) files >>= if_named (manifest_path folder) port
 
 -- the port in its folder of an overlay
 abbrev pub folder_home : List ℕ → Path → Files → Result Home Wrong
-folder_home port folder files = manifest_file (manifest_path folder) files >>= named_home port folder
+folder_home port folder files = named_manifest port folder files >>= overlay_home folder
 
 abbrev pub home_in : Overlay → List ℕ → Files → Result Home Wrong
 home_in (is_port folder m) port files = overlay_home folder m

@@ -3,7 +3,7 @@ pub mod Wrongs
 pub mod Homes
 pub mod Pages
 pub mod Asked
-pub mod Looked
+pub mod Finds
 -- what functions, laws and examples say besides
 pub mod BaselineNotes
 pub mod HomeViews

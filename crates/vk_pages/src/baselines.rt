@@ -10,10 +10,11 @@ ghost use Rattle.vk_files.specs.Views.{held, kept_of};
 ghost use Rattle.vk_files.specs.Within.{LooksWithin};
 ghost use Rattle.vk_base.specs.Stops.{is_failure, has_failed};
 ghost use Rattle.vk_base.specs.Stops.{fault_seen};
-ghost use Rattle.vk_files.specs.Readings.{Bad, bad_view, ReadsAs, ReadsNoting};
+ghost use Rattle.vk_files.specs.Readings.{Bad, bad_view, ReadsAs};
 ghost use Rattle.vk_registry.specs.RegistryFiles.{baseline_path};
 ghost use Rattle.vk_pages.specs.Homes.{baseline_file, baseline_given, baseline_for};
 ghost use Rattle.vk_pages.specs.BaselineNotes.{AreBaselines, baseline_noted, nothing_said, same_served};
+ghost use Rattle.vk_pages.specs.Finds.{Finds};
 ghost use Rattle.vk_pages.specs.HomeViews.{served_view};
 ghost use Rattle.vk_pages.specs.NoteViews.{read_view, notes_of};
 
@@ -48,6 +49,7 @@ fn or_bad(stop: Stop<BadFile>) -> Result<Result<Baseline, BadFile>, Stop<Wrong>>
 }
 
 // The baseline of a registry, or its bad file.
+#[tactic(auto, using(vk_files::proofs::WithinLemmas::nothing_since))]
 fn read_baseline<T: Tree>(
     alloc: Global,
     files: &mut FileCache,
@@ -123,12 +125,11 @@ impl Baselines {
         served: &Served,
     ) -> Result<usize, Stop<Wrong>>
         requires { baseline_noted served.now (notes_of self.old) ≡ None }
-        ensures noted { ReadsNoting wrong_view (λ done. tt) result nothing_said
+        ensures noted { Finds (λ done. tt) result nothing_said
+            (λ f. baseline_path served.now.folder ∷ [])
             (AreBaselines (notes_of self.old)) (AreBaselines (notes_of self.new))
             (held files.old (T.state tree.old)) (held files.new (T.state tree.new)) }
         ensures there { IfOk result (IsNoteAt (same_served served.now) (notes_of self.new)) }
-        ensures asked { LooksWithin (baseline_path served.now.folder ∷ [])
-            (kept_of files.old) (kept_of files.new) }
     {
         let key = served.clone()?;
         self.read.reserve(1)?;
@@ -147,12 +148,11 @@ impl Baselines {
         tree: &mut T,
         served: &Served,
     ) -> Result<usize, Stop<Wrong>>
-        ensures noted { ReadsNoting wrong_view (λ done. tt) result nothing_said
+        ensures noted { Finds (λ done. tt) result nothing_said
+            (λ f. baseline_path served.now.folder ∷ [])
             (AreBaselines (notes_of self.old)) (AreBaselines (notes_of self.new))
             (held files.old (T.state tree.old)) (held files.new (T.state tree.new)) }
         ensures there { IfOk result (IsNoteAt (same_served served.now) (notes_of self.new)) }
-        ensures asked { LooksWithin (baseline_path served.now.folder ∷ [])
-            (kept_of files.old) (kept_of files.new) }
     {
         match self.read.get_index_of(served) {
             Some(place) => Ok(place),
@@ -169,9 +169,9 @@ impl Baselines {
         self.read.get_index(place).unwrap().1
     }
 
-    /// What a registry's baseline has for a port. `Fault` says that it has nothing, or what is
-    /// wrong with its file, which is the only one that is looked at.
-    pub fn given<T: Tree>(
+    // What a registry's baseline has for a port. `Fault` says that it has nothing, or what is
+    // wrong with its file, which is the only one that is looked at.
+    pub(crate) fn given<T: Tree>(
         &mut self,
         alloc: Global,
         files: &mut FileCache,
@@ -179,12 +179,10 @@ impl Baselines {
         served: &Served,
         port: &PortName,
     ) -> Result<Given, Stop<Wrong>>
-        ensures reads { ReadsNoting wrong_view given_view result
-            (baseline_for (served_view served.now) port.now)
+        ensures { Finds given_view result (baseline_for (served_view served.now) port.now)
+            (λ f. baseline_path served.now.folder ∷ [])
             (AreBaselines (notes_of self.old)) (AreBaselines (notes_of self.new))
             (held files.old (T.state tree.old)) (held files.new (T.state tree.new)) }
-        ensures asked { LooksWithin (baseline_path served.now.folder ∷ [])
-            (kept_of files.old) (kept_of files.new) }
     {
         let place = self.look(alloc, files, tree, served)?;
         given_in(self.at(place), port)

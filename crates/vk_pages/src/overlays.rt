@@ -4,7 +4,7 @@ ghost use Rattle.vk_spec.specs.Reading.{Gives};
 ghost use Rattle.vk_model.specs.Views.{manifest_view};
 ghost use Rattle.vk_catalogue.specs.Views.{wrong_view};
 ghost use Rattle.vk_files.specs.Views.{held, kept_of};
-ghost use Rattle.vk_files.specs.Within.{LooksWithin, LooksWhere};
+ghost use Rattle.vk_files.specs.Within.{LooksWithin};
 ghost use Rattle.vk_base.specs.Stops.{has_failed};
 ghost use Rattle.vk_base.specs.Stops.{fault_seen};
 ghost use Rattle.vk_files.specs.Readings.{ReadsAs, is_at};
@@ -12,9 +12,10 @@ ghost use Rattle.vk_opening.specs.Projects.{manifest_path};
 ghost use Rattle.vk_opening.specs.Views.{overlay_view};
 ghost use Rattle.vk_registry.specs.RegistryFiles.{port_folder};
 ghost use Rattle.vk_pages.specs.Homes.{is_named, has_port, overlay_for, in_overlay};
-ghost use Rattle.vk_pages.specs.Homes.{overlay_home, named_home, folder_home, home_in};
+ghost use Rattle.vk_pages.specs.Homes.{overlay_home, if_named, named_manifest, home_in};
 ghost use Rattle.vk_pages.specs.Asked.{overlay_path, overlay_paths};
-ghost use Rattle.vk_pages.specs.HomeViews.{home_view, own_home};
+ghost use Rattle.vk_pages.specs.Finds.{Finds, NothingKnown};
+ghost use Rattle.vk_pages.specs.HomeViews.{home_view};
 
 use crate::contents::{content, stands};
 use crate::homes::Home;
@@ -39,6 +40,7 @@ fn is_named(manifest: &Manifest, port: &PortName) -> bool
 }
 
 // Whether a folder of ports has this one.
+#[tactic(auto, using(vk_files::proofs::WithinLemmas::nothing_since))]
 fn holds_port<T: Tree>(
     alloc: Global,
     files: &mut FileCache,
@@ -85,10 +87,9 @@ pub fn overlay_for<'a, T: Tree>(
     tree: &mut T,
     port: &PortName,
 ) -> Result<Option<&'a Overlay>, Stop<Wrong>>
-    ensures reads { ReadsAs wrong_view (option_map (λ o. overlay_view o.now)) result
+    ensures { Finds (option_map (λ o. overlay_view o.now)) result
         (λ f. Ok (overlay_for (map overlay_view overlays.now) port.now f))
-        (held files.old (T.state tree.old)) (held files.new (T.state tree.new)) }
-    ensures asked { LooksWhere (λ f. overlay_paths (map overlay_view overlays.now) f port.now)
+        (λ f. overlay_paths (map overlay_view overlays.now) f port.now) NothingKnown NothingKnown
         (held files.old (T.state tree.old)) (held files.new (T.state tree.new)) }
 {
     for overlay in overlays {
@@ -114,108 +115,58 @@ fn own_version(
     Ok(stated_version(alloc, &path, manifest)?.clone()?)
 }
 
-// The home of a port in its folder, whose manifest is borrowed.
-fn port_home(alloc: Global, folder: &TreePath, manifest: &Rc<Manifest>) -> Result<Home, Stop<Wrong>>
+// The home of a port in its folder.
+fn port_home(alloc: Global, folder: TreePath, manifest: Rc<Manifest>) -> Result<Home, Stop<Wrong>>
     ensures told { Gives home_view (fault_seen wrong_view) result
-        (overlay_home folder.now (manifest_view manifest.now.value)) }
+        (overlay_home folder (manifest_view manifest.value)) }
     ensures calm { has_failed result ≡ false }
 {
-    let version = own_version(alloc, folder, manifest)?;
+    let version = own_version(alloc, &folder, &manifest)?;
     Ok(Home::Overlay {
-        folder: folder.clone()?,
+        folder,
         version,
-        manifest: manifest.clone()?,
+        manifest,
     })
 }
 
-// The version of a manifest that has to have the port's name.
-#[tactic(auto, unfolding(crate::specs::Homes::named_home))]
-fn named_version(
-    alloc: Global,
-    path: &TreePath,
-    folder: &TreePath,
-    manifest: &Manifest,
-    port: &PortName,
-) -> Result<Version, Stop<Wrong>>
-    requires { path.now ≡ manifest_path folder.now }
-    ensures told { Gives (λ v. in_overlay folder.now v (manifest_view manifest.now))
-        (fault_seen wrong_view) result
-        (named_home port.now folder.now (manifest_view manifest.now)) }
-    ensures calm { has_failed result ≡ false }
-{
-    named(alloc, path, port, manifest)?;
-    own_version(alloc, folder, manifest)
-}
-
-// A port's version, with its manifest.
-#[derive(Drop)]
-struct OwnVersion {
-    version: Version,
-    manifest: Rc<Manifest>,
-}
-
-// The version of a manifest that has to have the port's name, with the manifest.
+// A manifest that has to have the port's name, to be shared.
 fn named_own(
     alloc: Global,
     path: &TreePath,
-    folder: &TreePath,
-    manifest: Manifest,
     port: &PortName,
-) -> Result<OwnVersion, Stop<Wrong>>
-    requires { path.now ≡ manifest_path folder.now }
-    ensures told { Gives (own_home folder.now) (fault_seen wrong_view) result
-        (named_home port.now folder.now (manifest_view manifest)) }
+    manifest: Manifest,
+) -> Result<Rc<Manifest>, Stop<Wrong>>
+    ensures told { Gives (λ m. manifest_view m.value) (fault_seen wrong_view) result
+        (if_named path.now port.now (manifest_view manifest)) }
     ensures calm { has_failed result ≡ false }
 {
-    let version = named_version(alloc, path, folder, &manifest, port)?;
-    Ok(OwnVersion {
-        version,
-        manifest: Rc::new(alloc, manifest)?,
-    })
+    named(alloc, path, port, &manifest)?;
+    Ok(Rc::new(alloc, manifest)?)
 }
 
-// The version of a port in its folder of an overlay.
-fn version_in<T: Tree>(
+// The manifest in a folder, which has to have the port's name.
+#[tactic(auto, using(vk_files::proofs::WithinLemmas::nothing_since))]
+fn named_manifest<T: Tree>(
     alloc: Global,
     files: &mut FileCache,
     tree: &mut T,
     folder: &TreePath,
     port: &PortName,
-) -> Result<OwnVersion, Stop<Wrong>>
-    ensures reads { ReadsAs wrong_view (own_home folder.now) result
-        (folder_home port.now folder.now) (held files.old (T.state tree.old))
+) -> Result<Rc<Manifest>, Stop<Wrong>>
+    ensures reads { ReadsAs wrong_view (λ m. manifest_view m.value) result
+        (named_manifest port.now folder.now) (held files.old (T.state tree.old))
         (held files.new (T.state tree.new)) }
     ensures asked { LooksWithin (manifest_path folder.now ∷ [])
         (kept_of files.old) (kept_of files.new) }
 {
     let path = manifest_path(alloc, folder)?;
     let manifest = content(alloc, files, tree, &path, &PortFile)?;
-    named_own(alloc, &path, folder, manifest, port)
-}
-
-// A port in its folder of an overlay.
-fn folder_home<T: Tree>(
-    alloc: Global,
-    files: &mut FileCache,
-    tree: &mut T,
-    folder: TreePath,
-    port: &PortName,
-) -> Result<Home, Stop<Wrong>>
-    ensures reads { ReadsAs wrong_view home_view result (folder_home port.now folder)
-        (held files.old (T.state tree.old)) (held files.new (T.state tree.new)) }
-    ensures asked { LooksWithin (manifest_path folder ∷ [])
-        (kept_of files.old) (kept_of files.new) }
-{
-    let own = version_in(alloc, files, tree, &folder, port)?;
-    Ok(Home::Overlay {
-        folder,
-        version: own.version,
-        manifest: own.manifest,
-    })
+    named_own(alloc, &path, port, manifest)
 }
 
 /// The home of a port that an overlay has. `Fault` has what is wrong with its manifest, which is
 /// the only file that is looked at.
+#[tactic(auto, using(vk_files::proofs::WithinLemmas::nothing_since))]
 pub fn home_in<T: Tree>(
     alloc: Global,
     files: &mut FileCache,
@@ -230,10 +181,11 @@ pub fn home_in<T: Tree>(
         (kept_of files.old) (kept_of files.new) }
 {
     match overlay {
-        Overlay::Port(folder, manifest) => port_home(alloc, folder, manifest),
+        Overlay::Port(folder, manifest) => port_home(alloc, folder.clone()?, manifest.clone()?),
         Overlay::Ports(folder) => {
             let folder = port_folder(alloc, folder, port)?;
-            folder_home(alloc, files, tree, folder, port)
+            let manifest = named_manifest(alloc, files, tree, &folder, port)?;
+            port_home(alloc, folder, manifest)
         }
     }
 }

@@ -8,13 +8,13 @@ ghost use Rattle.vk_files.specs.Views.{held, kept_of};
 ghost use Rattle.vk_files.specs.Within.{LooksWithin};
 ghost use Rattle.vk_base.specs.Stops.{has_failed};
 ghost use Rattle.vk_base.specs.Stops.{fault_seen};
-ghost use Rattle.vk_files.specs.Readings.{ReadsAs, ReadsNoting};
-ghost use Rattle.vk_pages.specs.Homes.{given_by, table_in, served_home, registry_home};
+ghost use Rattle.vk_files.specs.Readings.{ReadsAs};
+ghost use Rattle.vk_pages.specs.Homes.{given_by, home_with, served_home, registry_home};
 ghost use Rattle.vk_registry.specs.RegistryFiles.{table_path};
 ghost use Rattle.vk_pages.specs.Asked.{given_paths, served_paths, registry_paths};
-ghost use Rattle.vk_pages.specs.Looked.{LooksNoting};
+ghost use Rattle.vk_pages.specs.Finds.{Finds};
 ghost use Rattle.vk_pages.specs.BaselineNotes.{AreBaselines};
-ghost use Rattle.vk_pages.specs.HomeViews.{home_view, table_home, layout_view, served_view};
+ghost use Rattle.vk_pages.specs.HomeViews.{home_view, layout_view, served_view};
 ghost use Rattle.vk_pages.specs.NoteViews.{notes_of};
 
 use crate::baselines::Baselines;
@@ -25,7 +25,7 @@ use std::alloc::Global;
 use vk_base::{PortName, Stop};
 use vk_catalogue::{Given, Wrong};
 use vk_files::FileCache;
-use vk_registry::{Table, table_path};
+use vk_registry::table_path;
 use vk_tree::Tree;
 use vk_version::Ask;
 
@@ -47,13 +47,11 @@ fn given_by<T: Tree>(
     tree: &mut T,
     port: &PortName,
 ) -> Result<Given, Stop<Wrong>>
-    ensures reads { ReadsNoting wrong_view given_view result
+    ensures { Finds given_view result
         (given_by (option_map (λ a. ask_view a.now) set.entry) (served_view served.now) port.now)
+        (λ f. given_paths (option_map (λ a. ask_view a.now) set.entry) (served_view served.now))
         (AreBaselines (notes_of baselines.old)) (AreBaselines (notes_of baselines.new))
         (held files.old (T.state tree.old)) (held files.new (T.state tree.new)) }
-    ensures asked { LooksWithin
-        (given_paths (option_map (λ a. ask_view a.now) set.entry) (served_view served.now))
-        (kept_of files.old) (kept_of files.new) }
 {
     match set {
         Some(ask) => override_given(ask),
@@ -61,51 +59,29 @@ fn given_by<T: Tree>(
     }
 }
 
-fn table_in<T: Tree>(
+// The home in a registry, where this is given.
+#[tactic(auto, using(vk_files::proofs::WithinLemmas::nothing_since))]
+fn home_with<T: Tree>(
     alloc: Global,
-    served: &Served,
+    given: Given,
+    served: Served,
     files: &mut FileCache,
     tree: &mut T,
     port: &PortName,
-) -> Result<Table, Stop<Wrong>>
-    ensures reads { ReadsAs wrong_view (λ t. t) result (table_in (served_view served.now) port.now)
+) -> Result<Home, Stop<Wrong>>
+    ensures reads { ReadsAs wrong_view home_view result
+        (home_with (given_view given) (served_view served) port.now)
         (held files.old (T.state tree.old)) (held files.new (T.state tree.new)) }
-    ensures asked { LooksWithin (table_path port.now served.now.folder ∷ [])
+    ensures asked { LooksWithin (table_path port.now served.folder ∷ [])
         (kept_of files.old) (kept_of files.new) }
 {
     let path = table_path(alloc, &served.folder, port)?;
-    content(alloc, files, tree, &path, &PortTable)
-}
-
-// What is given for a port, and its table.
-#[derive(Drop)]
-struct GivenTable {
-    given: Given,
-    table: Table,
-}
-
-fn given_table<T: Tree>(
-    alloc: Global,
-    set: Option<&Ask>,
-    served: &Served,
-    files: &mut FileCache,
-    baselines: &mut Baselines,
-    tree: &mut T,
-    port: &PortName,
-) -> Result<GivenTable, Stop<Wrong>>
-    ensures reads { ReadsNoting wrong_view (table_home served.now.folder) result
-        (served_home (option_map (λ a. ask_view a.now) set.entry) (served_view served.now) port.now)
-        (AreBaselines (notes_of baselines.old)) (AreBaselines (notes_of baselines.new))
-        (held files.old (T.state tree.old)) (held files.new (T.state tree.new)) }
-    ensures asked { LooksNoting
-        (λ f. served_paths (option_map (λ a. ask_view a.now) set.entry) (served_view served.now)
-        f port.now)
-        (AreBaselines (notes_of baselines.old))
-        (held files.old (T.state tree.old)) (held files.new (T.state tree.new)) }
-{
-    let given = given_by(alloc, set, served, files, baselines, tree, port)?;
-    let table = table_in(alloc, served, files, tree, port)?;
-    Ok(GivenTable { given, table })
+    let table = content(alloc, files, tree, &path, &PortTable)?;
+    Ok(Home::Registry {
+        given,
+        folder: served.folder,
+        table,
+    })
 }
 
 // A port in a registry, for which something may be set.
@@ -118,22 +94,14 @@ fn served_home<T: Tree>(
     tree: &mut T,
     port: &PortName,
 ) -> Result<Home, Stop<Wrong>>
-    ensures reads { ReadsNoting wrong_view home_view result
+    ensures { Finds home_view result
         (served_home (option_map (λ a. ask_view a.now) set.entry) (served_view served) port.now)
-        (AreBaselines (notes_of baselines.old)) (AreBaselines (notes_of baselines.new))
-        (held files.old (T.state tree.old)) (held files.new (T.state tree.new)) }
-    ensures asked { LooksNoting
         (λ f. served_paths (option_map (λ a. ask_view a.now) set.entry) (served_view served)
-        f port.now)
-        (AreBaselines (notes_of baselines.old))
+        f port.now) (AreBaselines (notes_of baselines.old)) (AreBaselines (notes_of baselines.new))
         (held files.old (T.state tree.old)) (held files.new (T.state tree.new)) }
 {
-    let found = given_table(alloc, set, &served, files, baselines, tree, port)?;
-    Ok(Home::Registry {
-        given: found.given,
-        folder: served.folder,
-        table: found.table,
-    })
+    let given = given_by(alloc, set, &served, files, baselines, tree, port)?;
+    home_with(alloc, given, served, files, tree, port)
 }
 
 /// The home of a port in the registry that serves it. `Fault` says that none does, that its
@@ -147,12 +115,9 @@ pub fn registry_home<T: Tree>(
     tree: &mut T,
     port: &PortName,
 ) -> Result<Home, Stop<Wrong>>
-    ensures reads { ReadsNoting wrong_view home_view result
-        (registry_home (layout_view layout.now) port.now)
+    ensures { Finds home_view result (registry_home (layout_view layout.now) port.now)
+        (λ f. registry_paths (layout_view layout.now) f port.now)
         (AreBaselines (notes_of baselines.old)) (AreBaselines (notes_of baselines.new))
-        (held files.old (T.state tree.old)) (held files.new (T.state tree.new)) }
-    ensures asked { LooksNoting (λ f. registry_paths (layout_view layout.now) f port.now)
-        (AreBaselines (notes_of baselines.old))
         (held files.old (T.state tree.old)) (held files.new (T.state tree.new)) }
 {
     let served = served_for(alloc, layout, port)?;

@@ -1,9 +1,5 @@
 use Rattle.vk_files.proofs.ReadMore.{reads_wanting}
-use Rattle.vk_files.proofs.WithinLemmas.{nothing_since}
 use Rattle.vk_pages.proofs.baselines.read_baseline.Goals as goal
 
 pub returns-in_err-path-clause-reads : goal.returns-in_err-path-clause-reads
 returns-in_err-path-clause-reads g c = reads_wanting c.from_residual.ensures.1
-
-pub returns-in_err-path-clause-asked : goal.returns-in_err-path-clause-asked
-returns-in_err-path-clause-asked g c = nothing_since _ _

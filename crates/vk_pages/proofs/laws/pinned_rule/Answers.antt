@@ -1,4 +1,4 @@
-use Rattle.vk_pages.proofs.PinnedLemmas.{is_pinned_where}
+use Rattle.vk_pages.proofs.PageLaws.{is_pinned_where}
 use Rattle.vk_pages.proofs.laws.pinned_rule.Goals as goal
 
 pub returns : goal.returns

@@ -1,5 +1,4 @@
 use Rattle.vk_files.proofs.ReadMore.{reads_wanting}
-use Rattle.vk_files.proofs.WithinLemmas.{nothing_since}
 use Rattle.vk_pages.proofs.overlays.holds_port.Goals as goal
 
 pub returns-in_err-folder-clause-reads : goal.returns-in_err-folder-clause-reads
@@ -7,9 +6,3 @@ returns-in_err-folder-clause-reads g c = reads_wanting c.from_residual.ensures.1
 
 pub returns-in_err-path-clause-reads : goal.returns-in_err-path-clause-reads
 returns-in_err-path-clause-reads g c = reads_wanting c.from_residual-in_err-path.ensures.1
-
-pub returns-in_err-folder-clause-asked : goal.returns-in_err-folder-clause-asked
-returns-in_err-folder-clause-asked g c = nothing_since _ _
-
-pub returns-in_err-path-clause-asked : goal.returns-in_err-path-clause-asked
-returns-in_err-path-clause-asked g c = nothing_since _ _

@@ -1,13 +1,11 @@
 use Rattle.std.proofs.Common.{drop, map}
 use Rattle.vk_files.specs.Views.{held}
-use Rattle.vk_files.proofs.FirstLemmas.{NoneYet}
 use Rattle.vk_opening.specs.Views.{overlay_view}
 use Rattle.vk_pages.specs.Homes.{has_port}
 use Rattle.vk_pages.specs.Asked.{overlay_path}
-use Rattle.vk_pages.proofs.AskedLemmas.{AskedSoFar}
+use Rattle.vk_pages.proofs.OverlayLemmas.{NoneSoFar}
 use Rattle.vk_pages.proofs.overlays.overlay_for.Given as goal
 
 abbrev pub invariant-loop-overlay : goal.invariant-loop-overlay
 invariant-loop-overlay g l =
-    NoneYet overlay_view (has_port l.port) l.overlay-index l.overlays (held l.initial.files (g.T.Tree.state l.initial.tree)) (held l.files (g.T.Tree.state l.tree))
-    × AskedSoFar (overlay_path l.port) (has_port l.port) (map overlay_view (drop l.overlay-index l.overlays)) (map overlay_view l.overlays) (held l.initial.files (g.T.Tree.state l.initial.tree)) (held l.files (g.T.Tree.state l.tree))
+    NoneSoFar (overlay_path l.port) (has_port l.port) (map overlay_view (drop l.overlay-index l.overlays)) (map overlay_view l.overlays) (held l.initial.files (g.T.Tree.state l.initial.tree)) (held l.files (g.T.Tree.state l.tree))

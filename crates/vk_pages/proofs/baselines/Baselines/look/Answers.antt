@@ -1,9 +1,9 @@
-use Rattle.std.proofs.Common.{◌∙◌, sym, ap}
+use Rattle.std.proofs.Common.{◌∙◌, sym, ap, refl}
 use Rattle.std.specs.Option.{is_some}
 use Rattle.vk_files.proofs.NotedLemmas.{none_noted, placed_note}
-use Rattle.vk_files.proofs.WithinLemmas.{nothing_since}
 use Rattle.vk_pages.specs.BaselineNotes.{same_served}
 use Rattle.vk_pages.specs.NoteViews.{read_view}
+use Rattle.vk_pages.proofs.FindLemmas.{finds_here}
 use Rattle.vk_pages.proofs.baselines.Baselines.look.Goals as goal
 
 pub returns-in-Some-clause-there : goal.returns-in-Some-clause-there
@@ -12,5 +12,5 @@ returns-in-Some-clause-there g c = placed_note read_view (same_served c.args.ser
 pub note-requires : goal.note-requires
 note-requires g c = none_noted read_view (same_served c.args.served.now) c.args.self.now.read.entries (sym c.get_index_of.ensures.found ∙ ap is_some c.in-None.is)
 
-pub returns-in-Some-clause-asked : goal.returns-in-Some-clause-asked
-returns-in-Some-clause-asked g c = nothing_since _ _
+pub returns-in-Some-clause-noted : goal.returns-in-Some-clause-noted
+returns-in-Some-clause-noted g c = finds_here refl (λ f. refl)

@@ -1,0 +1,94 @@
+-- The first overlay that has a port, as a loop finds it, and which paths are looked at.
+use Rattle.std.proofs.Common.{◌≡◌, Bool, true, false, cond, List, [], ◌∷◌, ◌++◌, refl, ap, sym, subst, ◌∙◌}
+use Rattle.std.specs.Prelude.{Option, Some, None, IfSome, option_map, Result, Ok, Err}
+use Rattle.std.specs.Result.{IsErrAnd}
+use Rattle.std.specs.List.{find, flat_map}
+use Rattle.std.proofs.lemmas.Result.{err_from_is_err_and}
+use Rattle.std.proofs.lemmas.List.Elements.{Contains-append_left, Contains-append_right}
+use Rattle.vk_spec.specs.Lists.{IsWithin}
+use Rattle.vk_spec.specs.Paths.{Path}
+use Rattle.vk_spec.specs.Files.{Files}
+use Rattle.vk_spec.specs.Reading.{Gives}
+use Rattle.vk_spec.specs.Pages as plain
+use Rattle.vk_spec.proofs.OptionLemmas.{of_both}
+use Rattle.vk_base.specs.Stops.{fault_seen, has_failed}
+use Rattle.vk_base.specs.declared.stops.Stop.{Stop}
+use Rattle.vk_catalogue.specs.Views.{wrong_view}
+use Rattle.vk_model.specs.declared.wrongs.Wrong.{Wrong}
+use Rattle.vk_files.specs.Kept.{Held}
+use Rattle.vk_files.specs.Within.{up_to_first}
+use Rattle.vk_files.proofs.FirstLemmas.{never}
+use Rattle.vk_pages.specs.Finds.{Reads, Finds, NothingKnown}
+use Rattle.vk_pages.proofs.FindLemmas.{learned_here, learned_so, learned_then}
+
+-- what is found among those that are left is what is found among all, and their paths are among those of all
+pub record GoesOn {A : Type 0} (paths : A → List Path) (test : A → Bool) (left all : List A) : Type 0 where
+  pub found : find test left ≡ find test all
+  pub among : IsWithin (flat_map paths (up_to_first test left)) (flat_map paths (up_to_first test all))
+
+-- none passed so far
+pub record NoneSoFar {A : Type 0} (paths : A → List Path) (test : Files → A → Bool) (left all : List A) (before now : Held) : Type 0 where
+  pub reads : Reads false (λ f. GoesOn paths (test f) left all) (λ f. flat_map paths (up_to_first (test f) all)) NothingKnown NothingKnown before now
+
+module _ {A : Type 0} (paths : A → List Path) (test : A → Bool) where
+  first_within : {x : A} {left all : List A} → GoesOn paths test (x ∷ left) all → IsWithin (paths x) (flat_map paths (up_to_first test all))
+  first_within {x = x} {left = left} on p has = on.among p (Contains-append_left (paths x) (flat_map paths (cond (test x) [] (up_to_first test left))) p has)
+
+  passed : {x : A} {left all : List A} → test x ≡ false → GoesOn paths test (x ∷ left) all → GoesOn paths test left all
+  passed {x = x} {left = left} {all = all} fails on = record {
+    found = subst (λ b. cond b (Some x) (find test left) ≡ find test all) fails on.found;
+    among = λ p has.
+        subst (λ b. IsWithin (paths x ++ flat_map paths (cond b [] (up_to_first test left))) (flat_map paths (up_to_first test all))) fails on.among p
+        (Contains-append_right (paths x) (flat_map paths (up_to_first test left)) p has);
+  }
+
+  taken : {x : A} {left all : List A} → test x ≡ true → GoesOn paths test (x ∷ left) all → find test all ≡ Some x
+  taken {x = x} {left = left} passes on = sym on.found ∙ ap (λ b. cond b (Some x) (find test left)) passes
+
+  -- the paths of the one that passes are among those
+  found_among : (xs : List A) → IfSome (find test xs) (λ x. IsWithin (paths x) (flat_map paths (up_to_first test xs)))
+  found_among [] = tt
+  found_among (x ∷ xs) = by (found_among xs) (test x)
+    where
+      by : IfSome (find test xs) (λ y. IsWithin (paths y) (flat_map paths (up_to_first test xs))) → (passes : Bool)
+          → IfSome (cond passes (Some x) (find test xs)) (λ y. IsWithin (paths y) (paths x ++ flat_map paths (cond passes [] (up_to_first test xs))))
+      by later true = λ y has. Contains-append_left (paths x) [] y has
+      by later false = of_both (find test xs) later later (λ y among _ z has. Contains-append_right (paths x) (flat_map paths (up_to_first test xs)) z (among z has))
+
+  pub found_within : (xs : List A) (x : A) {read : Result (Option A) plain.Wrong} → read ≡ Ok (find test xs) → read ≡ Ok (Some x) → IsWithin (paths x) (flat_map paths (up_to_first test xs))
+  found_within xs x told is =
+      let found : find test xs ≡ Some x = (cc) in
+      subst (λ o. IfSome o (λ x. IsWithin (paths x) (flat_map paths (up_to_first test xs)))) found (found_among xs)
+
+pub none_yet : {A : Type 0} {paths : A → List Path} {test : Files → A → Bool} {all : List A} {h : Held} → NoneSoFar paths test all all h h
+none_yet = record { reads = learned_here refl (λ f known. (known, record { found = refl; among = λ p has. has })) }
+
+module _ {A : Type 0} {paths : A → List Path} {test : Files → A → Bool} {all : List A} {a b : Held} where
+  -- what follows of whether the next one passes
+  after_next : {answer : Result Bool (Stop Wrong)} {x : A} {now left : List A} {c : Held} {Holds : Files → Type 0} → now ≡ x ∷ left → NoneSoFar paths test now all a b
+      → Finds (λ b. b) answer (λ f. Ok (test f x)) (λ f. paths x) NothingKnown NothingKnown b c → ((f : Files) → GoesOn paths (test f) (x ∷ left) all → Gives (λ b. b) (fault_seen wrong_view) answer (Ok (test f x)) → Holds f)
+      → Reads (has_failed answer) Holds (λ f. flat_map paths (up_to_first (test f) all)) NothingKnown NothingKnown a c
+  after_next is so_far one holds = learned_then (subst (λ l. NoneSoFar paths test l all a b) is so_far).reads one.reads (λ f known on. (known, (λ p has. has), first_within paths (test f) on, holds f on))
+
+  -- it doesn't pass
+  pub none_more : {x : A} {now left : List A} {c : Held} → now ≡ x ∷ left → NoneSoFar paths test now all a b → Finds (λ b. b) (Ok false) (λ f. Ok (test f x)) (λ f. paths x) NothingKnown NothingKnown b c → NoneSoFar paths test left all a c
+  none_more {x = x} is so_far one = record { reads = after_next is so_far one (λ f on told. let fails : test f x ≡ false = (cc) in passed paths (test f) fails on) }
+
+  module _ {R : Type 0} {seen : R → A} where
+    -- it passes
+    pub first_found : {r : R} {now left : List A} {c : Held} → now ≡ seen r ∷ left → NoneSoFar paths test now all a b → Finds (λ b. b) (Ok true) (λ f. Ok (test f (seen r))) (λ f. paths (seen r)) NothingKnown NothingKnown b c
+        → Finds (option_map seen) (Ok (Some r)) (λ f. Ok (find (test f) all)) (λ f. flat_map paths (up_to_first (test f) all)) NothingKnown NothingKnown a c
+    first_found {r = r} is so_far one = record { reads = after_next is so_far one (λ f on told. let passes : test f (seen r) ≡ true = (cc) in ap Ok (taken paths (test f) passes on)) }
+
+    -- whether it passes isn't known
+    pub first_stopped : {s : Stop Wrong} {answer : Result (Option R) (Stop Wrong)} {x : A} {now left : List A} {c : Held} → now ≡ x ∷ left → NoneSoFar paths test now all a b
+        → Finds {X = Bool} (λ b. b) (Err s) (λ f. Ok (test f x)) (λ f. paths x) NothingKnown NothingKnown b c → IsErrAnd answer (λ e. e ≡ s)
+        → Finds (option_map seen) answer (λ f. Ok (find (test f) all)) (λ f. flat_map paths (up_to_first (test f) all)) NothingKnown NothingKnown a c
+    first_stopped {s = s} {answer = answer} {x = x} is so_far one err =
+        let p = err_from_is_err_and answer err in
+        rw (p.1, p.2) (record { reads = after_next is so_far one (λ f on. never (fault_seen wrong_view s) (test f x) (find (test f) all)) })
+
+    -- none passes
+    pub none_found : {now : List A} → now ≡ [] → NoneSoFar paths test now all a b
+        → Finds {X = Option R} (option_map seen) (Ok None) (λ f. Ok (find (test f) all)) (λ f. flat_map paths (up_to_first (test f) all)) NothingKnown NothingKnown a b
+    none_found is so_far = record { reads = learned_so refl (λ f known. (known, λ p has. has)) (λ f before known on. (known, ap Ok (sym on.found))) (subst (λ l. NoneSoFar paths test l all a b) is so_far).reads }
