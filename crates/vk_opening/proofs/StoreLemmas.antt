@@ -20,8 +20,8 @@ use Rattle.vk_config.specs.declared.registries.Registry.{Registry}
 use Rattle.vk_files.specs.Readings.{is_at}
 use Rattle.vk_model.specs.declared.projects.Project.{Project}
 use Rattle.vk_model.specs.declared.projects.Store.{Store}
-use Rattle.vk_opening.specs.Laws.{AreApart, IsFree, IsStored}
-use Rattle.vk_opening.specs.Stores.{above, prefixes, source_folder, begins, overlaps, has_in_it, outer_folders, refused_if, refused_beside, apart_from, apart_by, apart, store_folders, unblocked, stored_at}
+use Rattle.vk_opening.specs.Laws.{AreApart, IsFree, IsOutside, IsStored}
+use Rattle.vk_opening.specs.Stores.{above, prefixes, source_folder, begins, overlaps, is_far_up, has_in_it, outer_folders, refused_if, refused_beside, apart_from, apart_by, apart, store_folders, unblocked, stored_at}
 
 begins_both : (folder path : Path) → (begins folder path ≡ true → path ≡ folder ++ drop (length folder) path) × ((rest : Path) → path ≡ folder ++ rest → begins folder path ≡ true)
 begins_both folder path = starts_is bytes_eq-Decides path folder (begins folder path) refl
@@ -114,5 +114,7 @@ stored_is project store config files e =
       free = none_passes (IsFree files) (is_at files) (λ p is. is) (store_folders store) (unblocked_none _ place.1);
     }
   where
-    outside : (folder : Path) → refused_if (has_in_it folder project.folder) folder project.folder ≡ Ok tt → IsApart folder project.folder
-    outside folder e = no_begin folder project.folder (neither (begins folder project.folder) _ (not_refused _ folder project.folder e)).0
+    outside : (folder : Path) → refused_if (has_in_it folder project.folder) folder project.folder ≡ Ok tt → IsOutside folder project.folder
+    outside folder e =
+        let n = neither (begins folder project.folder) (is_far_up folder project.folder) (not_refused _ folder project.folder e) in
+        (no_begin folder project.folder n.0, n.1)

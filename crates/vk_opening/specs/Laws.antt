@@ -9,7 +9,7 @@ use Rattle.vk_model.specs.declared.projects.Project.{Project}
 use Rattle.vk_model.specs.declared.projects.Store.{Store}
 use Rattle.vk_opening.specs.Projects.{manifest_path, config_path, triplet_path, folders_of}
 use Rattle.vk_files.specs.Readings.{is_at}
-use Rattle.vk_opening.specs.Stores.{outer_folders, store_folders}
+use Rattle.vk_opening.specs.Stores.{is_far_up, outer_folders, store_folders}
 
 -- a folder hasn't the triplet; none of these has it
 abbrev pub LacksTriplet : List ℕ → Files → Path → Type 0
@@ -38,6 +38,10 @@ AgreeAt (path ∷ paths) one other = (files_map.get other path ≡ files_map.get
 abbrev pub AreApart : Path → Path → Type 0
 AreApart one other = IsApart one other × IsApart other one
 
+-- a folder hasn't a project's folder in it: it doesn't begin it, nor is it so far up
+abbrev pub IsOutside : Path → Path → Type 0
+IsOutside folder project = IsApart folder project × (is_far_up folder project ≡ false)
+
 abbrev pub IsFree : Files → Path → Type 0
 IsFree files path = is_at files path ≡ false
 
@@ -46,5 +50,5 @@ pub record IsStored (project : Project) (store : Store) (config : Config) (files
   pub both : AreApart store.installed store.cache
   pub installed : All (AreApart store.installed) (outer_folders project config)
   pub cache : All (AreApart store.cache) (outer_folders project config)
-  pub around : IsApart store.installed project.folder × IsApart store.cache project.folder
+  pub around : IsOutside store.installed project.folder × IsOutside store.cache project.folder
   pub free : All (IsFree files) (store_folders store)

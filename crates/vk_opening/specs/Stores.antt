@@ -22,7 +22,7 @@ begins folder path = starts_with bytes_eq path folder
 abbrev pub overlaps : Path → Path → Bool
 overlaps one other = begins one other || begins other one
 
--- a folder is `/`, or more steps up than a project that isn't rooted
+-- a folder without parts that is `/`, or more steps up than a project that isn't rooted
 abbrev pub is_far_up : Path → Path → Bool
 is_far_up folder project =
     (length (parts_of folder) == 0) && (is_rooted folder || (not (is_rooted project) && nat_lt (ups_of project) (ups_of folder)))

@@ -254,9 +254,9 @@ fn unblocked<T: Tree>(
     }
 }
 
-/// That packages can be installed and kept in these folders: they are apart from each other, from
-/// the project's folder and from all that it names, and no file stands where they need a folder.
-/// `Fault` has the first line that says otherwise.
+/// That packages can be installed and kept in these folders: they are apart from each other and
+/// from all folders that the project names, have no project in them, and no file stands where they
+/// need a folder. `Fault` has the first line that says otherwise.
 pub fn check_store<T: Tree>(
     alloc: Global,
     files: &mut FileCache,
