@@ -42,11 +42,8 @@ use Rattle.vk_opening.specs.Starts.{Start}
 use Rattle.vk_pages.specs.Homes.{home_of}
 use Rattle.vk_pages.specs.Pages.{page_at, page_of}
 use Rattle.vk_pages.proofs.PageLaws.{is_page}
-use Rattle.vk_world.specs.HomeNotes.{FoundHome}
-use Rattle.vk_world.specs.Listed.{listed_in}
-use Rattle.vk_world.specs.VersionFolders.{version_folder, folder_found}
 use Rattle.vk_world.specs.Worlds.{WorldView, pages_in, places_in, start_in, state_of}
-use Rattle.vk_world.proofs.ListedLemmas.{some_is, version_on_page, folder_of_listed}
+use Rattle.vk_world.proofs.ListedLemmas.{version_stands}
 use Rattle.vk_worklist.specs.declared.faults.CloseFault.{CloseFault}
 use Rattle.vk_app.specs.Resolutions.{Settles}
 use Rattle.vk_app.specs.Resolved.{Resolves}
@@ -96,23 +93,13 @@ place_in p f xs =
 
 -- ---- the folder of an item
 
--- the version that a page has for its own ask stands in a folder
-pub listed_folder : (port : List ℕ) (files : Files) (found : FoundHome) (v : Version) → version_in (page_at port files found) (ask_of v) ≡ Some v → (folder : Path) × (folder_found found v ≡ Some folder)
-listed_folder port files found v e = by found (listed_in found (ask_of v)) refl (sym (version_on_page port files found (ask_of v)) ∙ e)
-  where
-    by : (found : FoundHome) (l : Option (Version × Path)) → listed_in found (ask_of v) ≡ l → option_map (λ (p : Version × Path). p.0) l ≡ Some v → (folder : Path) × (folder_found found v ≡ Some folder)
-    by (Err wrong) None is same = (cc)
-    by (Err wrong) (Some l) is same = (cc)
-    by (Ok home) None is same = (cc)
-    by (Ok home) (Some l) is same = (l.1, subst (λ w. version_folder home w ≡ Some l.1) (some_is same) (folder_of_listed home (ask_of v) l is))
-
--- so does each version on the pages of a world
+-- each version on the pages of a world stands in a folder
 stands_somewhere : {T : Type 0} (state : T → State) (w : WorldView T) (port : List ℕ) (v : Version) → OnPages (λ ps. HasVersion ps port v) (state_of state w) → OnPages (λ ps. (folder : Path) × ((state_of state w).origin.places port v ≡ Some folder)) (state_of state w)
 stands_somewhere state w port v has = by (state w.tree).told has
   where
     by : (o : Option Told) → IfSome (pages_in (start_in w.learned) o) (λ ps. HasVersion ps port v) → IfSome (pages_in (start_in w.learned) o) (λ ps. (folder : Path) × (places_in (start_in w.learned) o port v ≡ Some folder))
     by None h = tt
-    by (Some t) h = listed_folder port t.files (home_of (start_in w.learned) port t.files) v h.listed
+    by (Some t) h = version_stands port t.files (home_of (start_in w.learned) port t.files) v h.listed
 
 -- a folder that is answered is that of the item
 pub folder_answered : (s : CatalogueState Condition) (port : List ℕ) (v : Version) (folder : Path) → OnPages (λ ps. Some folder ≡ s.origin.places port v) s → OnPages (λ ps. s.origin.places port v ∷ [] ≡ Some folder ∷ []) s

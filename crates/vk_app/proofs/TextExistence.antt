@@ -23,7 +23,8 @@ use Rattle.vk_app.specs.Resolutions.{Resolution, early, resolved, too_many, Sett
 use Rattle.vk_app.specs.Shown.{Shown, printed, shown_for}
 use Rattle.vk_app.specs.Texts.{place_of, AreFolders, PlanTells, not_planned, shown_at, ShowsPlaced, ShowsText}
 use Rattle.vk_app.specs.Folders.{HaveItems}
-use Rattle.vk_app.proofs.FolderLemmas.{all_have_versions, listed_folder}
+use Rattle.vk_app.proofs.FolderLemmas.{all_have_versions}
+use Rattle.vk_world.proofs.ListedLemmas.{version_stands}
 
 -- ---- folders
 
@@ -37,7 +38,7 @@ all_some f (x ∷ xs) each =
 
 folders_exist : (start : Start) (files : Files) (items : List Item) → HaveItems (page_of start files) items → (folders : List Path) × AreFolders start files items folders
 folders_exist start files items have =
-    all_some (λ item. place_in start files item.instance.port item.version) items (λ item h. listed_folder item.instance.port files (home_of start item.instance.port files) item.version (have item h).listed)
+    all_some (λ item. place_in start files item.instance.port item.version) items (λ item h. version_stands item.instance.port files (home_of start item.instance.port files) item.version (have item h).listed)
 
 -- ---- what is shown
 

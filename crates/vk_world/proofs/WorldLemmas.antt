@@ -1,12 +1,14 @@
 -- A world over a tree: it stays sound, and its answers are what the pages say.
-use Rattle.std.proofs.Common.{◌≡◌, ◌≤◌, ◌-◌, ℕ, suc, Bool, inl, inr, List, [], ◌∷◌, ◌++◌, length, take, drop, refl, ap, sym, subst, ◌∙◌, length-append, arith}
+use Rattle.std.proofs.Common.{◌≡◌, ◌-◌, ℕ, suc, inl, inr, List, [], ◌∷◌, ◌++◌, length, take, drop, refl, ap, sym, subst, ◌∙◌, length-append, arith}
 use Rattle.std.specs.Prelude.{Option, Some, None, option_map, IfSome, IsSome, Result, Ok, Err, IfOk}
+use Rattle.std.specs.List.{Contains}
 use Rattle.std.proofs.lemmas.List.Elements.{Contains-append_cases}
 use Rattle.std.proofs.lemmas.List.{append-nil, append_assoc, append_cancel_left, map-append, take-append-le, take-append-drop, drop-append-le}
 use Rattle.std.proofs.Math.ListN.{drop_of_length-le}
 use Rattle.std.proofs.Math.Seq.{take-append_seam, take-length}
-use Rattle.vk_spec.specs.Lists.{NoRepeats, IsWithin}
+use Rattle.vk_spec.specs.Lists.{NoRepeats}
 use Rattle.vk_spec.proofs.ListLemmas.{contains_nothing}
+use Rattle.vk_spec.proofs.OptionLemmas.{of_both}
 use Rattle.vk_spec.specs.Paths.{Path}
 use Rattle.vk_spec.specs.Files.{Files}
 use Rattle.vk_spec.specs.Calls.{is_failed}
@@ -14,24 +16,27 @@ use Rattle.vk_spec.specs.States.{Told, State, with_asked}
 use Rattle.vk_spec.specs.Pages.{Page}
 use Rattle.vk_spec.specs.Catalogues.{ArePages, OnPage, OnlyAsked, Asks}
 use Rattle.vk_spec.specs.Conditions.{Condition}
+use Rattle.vk_spec.specs.Versions.{Version}
 use Rattle.vk_base.specs.Stops.{was_out}
 use Rattle.vk_catalogue.specs.Views.{seen_by}
 use Rattle.vk_base.specs.declared.stops.Outage.{Outage}
 use Rattle.vk_base.specs.declared.stops.Outage.TheVariants as outage
-use Rattle.vk_files.specs.Kept.{Kept, paths_of, IsOf, IsSeen, Held, ReadOnce}
+use Rattle.vk_files.specs.Kept.{Kept, paths_of, IsOf, IsSeen}
 use Rattle.vk_files.specs.Within.{LooksWithin}
-use Rattle.vk_files.specs.Views.{kept_of, held}
+use Rattle.vk_files.specs.Views.{kept_of}
 use Rattle.vk_files.proofs.NoteLemmas.{right_more}
 use Rattle.vk_opening.specs.Starts.{Start}
-use Rattle.vk_pages.specs.HomeViews.{layout_view}
+use Rattle.vk_pages.specs.Finds.{IsLearned}
+use Rattle.vk_pages.specs.Homes.{home_of}
 use Rattle.vk_pages.specs.Pages.{page_of}
 use Rattle.vk_pages.specs.Asked.{page_paths}
-use Rattle.vk_world.specs.Learning.{Learns}
-use Rattle.vk_spec.specs.Versions.{Version}
-use Rattle.vk_world.specs.Libraries.{start_of, IsRight, SaysFolderOf, Stays}
+use Rattle.vk_pages.proofs.PageLaws.{is_page}
+use Rattle.vk_world.specs.HomeNotes.{FoundHome}
+use Rattle.vk_world.specs.Libraries.{start_of, IsRight, Serves, SaysFolderAt}
 use Rattle.vk_world.specs.Worlds.{paths_in, opened_in, asked_since, log_before, without_asked, places_in, page_paths_in}
 use Rattle.vk_world.specs.Worlds.{ArePagePaths, origin_on, pages_in, learned_view, world_state, IsSoundOn, IsSound, IsReadSince}
 use Rattle.vk_world.specs.declared.libraries.Library.{Library}
+use Rattle.vk_world.proofs.LibraryLemmas.{start_stays}
 
 -- ---- lists
 
@@ -45,158 +50,129 @@ before_is log before asked e =
     let n : length log - length asked ≡ length before = omega (arith, ap length e, length-append before asked) in
     rw (n, e) (take-append_seam before asked)
 
--- ---- what was kept since
+-- ---- a call about a port
 
-paths_more : {failed : Bool} (before after : Library) {s s' : State} (r : ReadOnce failed (held before.files s) (held after.files s')) → paths_in (learned_view after) ≡ paths_in (learned_view before) ++ paths_of r.more
-paths_more before after r = ap paths_of r.kept ∙ map-append (λ e. e.0) (kept_of before.files) r.more
+-- what is told of files stays as the log grows
+told_on : (P : Told → Type 0) (asked : List Path) (o : Option Told) → IfSome o (λ t. P (record { files = t.files; log = t.log ++ asked })) → IfSome (with_asked asked o) P
+told_on P asked None holds = tt
+told_on P asked (Some t) holds = holds
 
-since_more : {failed : Bool} (before after : Library) {s s' : State} → before.opened ≤ length (paths_in (learned_view before)) → Stays before after → (r : ReadOnce failed (held before.files s) (held after.files s')) → asked_since (learned_view after) ≡ asked_since (learned_view before) ++ paths_of r.more
-since_more before after within stays r =
-    ap (λ n. drop n (paths_in (learned_view after))) stays.opened ∙ ap (drop before.opened) (paths_more before after r) ∙ drop-append-le before.opened (paths_in (learned_view before)) (paths_of r.more) within
-
-within_more : {failed : Bool} (before after : Library) {s s' : State} → before.opened ≤ length (paths_in (learned_view before)) → Stays before after → (r : ReadOnce failed (held before.files s) (held after.files s')) → after.opened ≤ length (paths_in (learned_view after))
-within_more before after within stays r =
-    rw (stays.opened) (omega (arith, within, ap length (paths_more before after r), length-append (paths_in (learned_view before)) (paths_of r.more)))
-
--- the paths of a call about a port are of its page
-more_paths : (paths : List ℕ → List Path) (port : List ℕ) (asked more : List Path) → ArePagePaths paths asked → IsWithin more (paths port) → ArePagePaths paths (asked ++ more)
-more_paths paths port asked more old new p has =
-    elim (Contains-append_cases asked more p has) [
-      | inl before ↦ old p before
-      | inr since ↦ (port, new p since)
-    ]
-
-looked_within : {failed : Bool} {paths : List Path} {a b : Held} (r : ReadOnce failed a b) → LooksWithin paths a.kept b.kept → IsWithin (paths_of r.more) paths
-looked_within {paths = paths} {a = a} r looks = subst (λ more. IsWithin (paths_of more) paths) (append_cancel_left a.kept looks.more r.more (sym looks.kept ∙ r.kept)) looks.within
-
--- what opening had looked at stays
-opened_stays : {failed : Bool} {before after : Library} {s s' : State} → before.opened ≤ length (paths_in (learned_view before)) → Stays before after → ReadOnce failed (held before.files s) (held after.files s') → opened_in (learned_view after) ≡ opened_in (learned_view before)
-opened_stays {before = before} {after = after} within stays r =
-    ap (λ n. take n (paths_in (learned_view after))) stays.opened ∙ ap (take before.opened) (paths_more before after r) ∙ take-append-le before.opened (paths_in (learned_view before)) (paths_of r.more) within
-
-start_stays : (before after : Library) → Stays before after → start_of after ≡ start_of before
-start_stays before after s = ap layout_view s.layout
-
--- ---- it stays sound
-
-sound_on : {X : Type 0} {answer : Result X Outage} {Says : Files → X → Type 0} (before after : Library) (port : List ℕ) {s s' : State} → before.opened ≤ length (paths_in (learned_view before)) → Stays before after
-    → (l : Learns answer Says (λ f. page_paths (start_of before) f port) (IsRight before) (IsRight after) (held before.files s) (held after.files s')) → (t : Told)
-    → IsOf t.files l.once.more → (IsOf t.files (kept_of before.files) → IsRight before t.files → IsRight after t.files × IfOk answer (Says t.files))
-    → (IsOf t.files (kept_of before.files) → IsRight before t.files → LooksWithin (page_paths (start_of before) t.files port) (kept_of before.files) (kept_of after.files))
-    → IsSoundOn before t → IsSoundOn after (record { files = t.files; log = t.log ++ paths_of l.once.more })
-sound_on before after port within stays l t more content looks sound = record {
-  files = subst (IsOf t.files) (sym l.once.kept) (right_more (IsSeen t.files) (kept_of before.files) l.once.more sound.files more);
-  right = (content sound.files sound.right).0;
-  before = sound.before;
-  log = ap (λ log. log ++ paths_of l.once.more) sound.log ∙ append_assoc sound.before (asked_since (learned_view before)) (paths_of l.once.more) ∙ ap (λ asked. sound.before ++ asked) (sym (since_more before after within stays l.once));
-  within = subst (λ start. ArePagePaths (page_paths start t.files) (asked_since (learned_view after))) (sym (start_stays before after stays))
-      (subst (ArePagePaths (page_paths (start_of before) t.files)) (sym (since_more before after within stays l.once))
-      (more_paths (page_paths (start_of before) t.files) port (asked_since (learned_view before)) (paths_of l.once.more) sound.within (looked_within l.once (looks sound.files sound.right))));
-}
-
-pub still_sound : {X : Type 0} {answer : Result X Outage} {Says : Files → X → Type 0} (before after : Library) (port : List ℕ) {s s' : State} → IsSound s before → Stays before after
-    → Learns answer Says (λ f. page_paths (start_of before) f port) (IsRight before) (IsRight after) (held before.files s) (held after.files s') → IsSound s' after
-still_sound {answer = answer} {Says = Says} before after port {s = s} {s' = s'} sound stays l = record {
-  opened = within_more before after sound.opened stays l.once;
-  told = subst (λ o. IfSome o (IsSoundOn after)) (sym l.once.looks.told) (by s.told l.once.right l.content l.asked.within sound.told);
-}
-  where
-    by : (o : Option Told) → IfSome o (λ t. IsOf t.files l.once.more) → IfSome o (λ t. IsOf t.files (kept_of before.files) → IsRight before t.files → IsRight after t.files × IfOk answer (Says t.files))
-        → IfSome o (λ t. IsOf t.files (kept_of before.files) → IsRight before t.files → LooksWithin (page_paths (start_of before) t.files port) (kept_of before.files) (kept_of after.files)) → IfSome o (IsSoundOn before)
-        → IfSome (with_asked (paths_of l.once.more) o) (IsSoundOn after)
-    by None more content looks old = tt
-    by (Some t) more content looks old = sound_on before after port sound.opened stays l t more content looks old
-
--- ---- it only asked
-
-pages_stay : (start : Start) (asked : List Path) (o : Option Told) → option_map (λ t. page_of start t.files) (with_asked asked o) ≡ option_map (λ t. page_of start t.files) o
-pages_stay start asked None = refl
-pages_stay start asked (Some t) = refl
-
-places_stay : (start : Start) (asked : List Path) (o : Option Told) → places_in start (with_asked asked o) ≡ places_in start o
-places_stay start asked None = refl
-places_stay start asked (Some t) = refl
-
-paths_stay : (start : Start) (asked : List Path) (o : Option Told) → page_paths_in start (with_asked asked o) ≡ page_paths_in start o
-paths_stay start asked None = refl
-paths_stay start asked (Some t) = refl
-
--- what the tree told when the world was made stays
-told_stays : (before after : Library) (o p : Option Told) (more : List Path) → p ≡ with_asked more o
-    → IfSome o (IsSoundOn before) → IfSome p (IsSoundOn after)
-    → asked_since (learned_view after) ≡ asked_since (learned_view before) ++ more
-    → option_map (without_asked (asked_since (learned_view after))) p
-    ≡ option_map (without_asked (asked_since (learned_view before))) o
-told_stays before after None p more e one two since = ap (option_map (without_asked (asked_since (learned_view after)))) e
-told_stays before after (Some t) p more e one two since =
-    let was = asked_since (learned_view before) in
-    let now = asked_since (learned_view after) in
-    let log : t.log ++ more ≡ one.before ++ now =
-    ap (λ l. l ++ more) one.log ∙ append_assoc one.before was more ∙ ap (λ asked. one.before ++ asked) (sym since) in
-    let same : log_before now (t.log ++ more) ≡ log_before was t.log =
-    before_is (t.log ++ more) one.before now log ∙ sym (before_is t.log one.before was one.log) in
-    ap (option_map (without_asked now)) e ∙ (λ i. Some (record { files = t.files; log = same i }))
+files_stay : {A : Type 0} (f : Option Told → A) (asked : List Path) (o : Option Told) → ((t : Told) → f (Some (record { files = t.files; log = t.log ++ asked })) ≡ f (Some t)) → f (with_asked asked o) ≡ f o
+files_stay f asked None same = refl
+files_stay f asked (Some t) same = same t
 
 same_failed : {X A : Type 0} (view : X → A) (answer : Result X Outage) → is_failed (seen_by view answer) ≡ was_out answer
 same_failed view (Ok x) = refl
 same_failed view (Err outage.Failed) = refl
 same_failed view (Err (outage.Memory m)) = refl
 
-pub only_asked : {X : Type 0} {answer : Result X Outage} {Says : Files → X → Type 0} (before after : Library) (port : List ℕ) {s s' : State} → IsSound s before → Stays before after
-    → Learns answer Says (λ f. page_paths (start_of before) f port) (IsRight before) (IsRight after) (held before.files s) (held after.files s') → OnlyAsked (was_out answer) (world_state s (learned_view before)) (world_state s' (learned_view after))
-only_asked before after port {s = s} {s' = s'} sound stays l =
-    let looks = l.once.looks in
-    let since = since_more before after sound.opened stays l.once in
-    let later = still_sound before after port sound stays l in
-    record {
-      pages = ap (λ start. option_map (λ t. page_of start t.files) s'.told) (start_stays before after stays) ∙ ap (option_map (λ t. page_of (start_of before) t.files)) looks.told ∙ pages_stay (start_of before) (paths_of l.once.more) s.told;
-      origin = λ i. record {
-        told = told_stays before after s.told s'.told (paths_of l.once.more) looks.told sound.told later.told since i;
-        changes = looks.changes i;
-        opened = opened_stays sound.opened stays l.once i;
-        places = (ap (λ start. places_in start s'.told) (start_stays before after stays)
-            ∙ ap (places_in (start_of before)) looks.told ∙ places_stay (start_of before) (paths_of l.once.more) s.told) i;
-        page_paths = (ap (λ start. page_paths_in start s'.told) (start_stays before after stays)
-            ∙ ap (page_paths_in (start_of before)) looks.told ∙ paths_stay (start_of before) (paths_of l.once.more) s.told) i;
-      };
-      calls = looks.calls;
-      faults = looks.ends.faults;
-      sure = looks.ends.sure;
-      safe = looks.ends.safe;
-    }
+module _ {X : Type 0} {answer : Result X Outage} {Says : Files → FoundHome → X → Type 0} {port : List ℕ} {before after : Library} {s s' : State} (sound : IsSound s before) (served : Serves answer Says port before after s s') where
+  abbrev was : List Path
+  was = asked_since (learned_view before)
 
--- ---- its answers are what the pages say
+  abbrev now : List Path
+  now = asked_since (learned_view after)
 
-pub asks_learned : {X A : Type 0} {answer : Result X Outage} {Says : Files → X → Type 0} (before after : Library) {s s' : State} (view : X → A) (port : List ℕ) (PageSays : Page Condition → A → Type 0)
-    → ((start : Start) (files : Files) → ArePages (page_of start files)) → IsSound s before → Stays before after
-    → ((t : Told) → s.told ≡ Some t → (x : X) → Says t.files x → PageSays (page_of (start_of before) t.files port) (view x))
-    → Learns answer Says (λ f. page_paths (start_of before) f port) (IsRight before) (IsRight after) (held before.files s) (held after.files s') → Asks port PageSays (seen_by view answer) (world_state s (learned_view before)) (world_state s' (learned_view after))
-asks_learned {X} {answer = answer} {Says = Says} before after {s = s} {s' = s'} view port PageSays pages sound stays page_says l = record {
-  told = told answer s.told refl l.content sound.told;
-  kept = kept s.told;
-  only = subst (λ failed. OnlyAsked failed (world_state s (learned_view before)) (world_state s' (learned_view after))) (sym (same_failed view answer)) (only_asked before after port sound stays l);
-}
-  where
-    kept : (o : Option Told) → IfSome (option_map (λ t. page_of (start_of before) t.files) o) ArePages
-    kept None = tt
-    kept (Some t) = pages (start_of before) t.files
+  abbrev more : List Path
+  more = paths_of served.learns.reads.once.more
 
-    told : (r : Result X Outage) (o : Option Told) → s.told ≡ o → IfSome o (λ t. IsOf t.files (kept_of before.files) → IsRight before t.files → IsRight after t.files × IfOk r (Says t.files)) → IfSome o (IsSoundOn before)
-        → IfOk (seen_by view r) (λ x. IfSome (option_map (λ t. page_of (start_of before) t.files) o) (λ p. PageSays (p port) x))
-    told (Err e) o is content old = tt
-    told (Ok x) None is content old = tt
-    told (Ok x) (Some t) is content old = page_says t is x (content old.files old.right).1
+  paths_more : paths_in (learned_view after) ≡ paths_in (learned_view before) ++ more
+  paths_more = ap paths_of served.learns.reads.once.kept ∙ map-append (λ e. e.0) (kept_of before.files) served.learns.reads.once.more
+
+  since_more : now ≡ was ++ more
+  since_more =
+      ap (λ n. drop n (paths_in (learned_view after))) served.stays.opened ∙ ap (drop before.opened) paths_more ∙ drop-append-le before.opened (paths_in (learned_view before)) more sound.opened
+
+  -- what was learned, where the files are told
+  learned : IfSome s.told (λ t. IsLearned (IsRight after t.files) (IfOk answer (Says t.files (home_of (start_of before) port t.files))) (page_paths (start_of before) t.files port) (kept_of before.files) (kept_of after.files))
+  learned = of_both s.told sound.told served.learns.reads.learned (λ t on learned. learned on.files on.right)
+
+  -- the paths that were looked at are of the port's page
+  more_paths : (paths : List ℕ → List Path) → ArePagePaths paths was → LooksWithin (paths port) (kept_of before.files) (kept_of after.files) → ArePagePaths paths now
+  more_paths paths old looks p has =
+      elim (Contains-append_cases was more p (subst (λ asked. Contains asked p) since_more has)) [
+        | inl there ↦ old p there
+        | inr since ↦ (port, looks.within p (subst (λ kept. Contains (paths_of kept) p) (append_cancel_left (kept_of before.files) served.learns.reads.once.more looks.more (sym served.learns.reads.once.kept ∙ looks.kept)) since))
+      ]
+
+  sound_on : (t : Told) → IsSoundOn before t → IsOf t.files served.learns.reads.once.more → IsRight after t.files → LooksWithin (page_paths (start_of before) t.files port) (kept_of before.files) (kept_of after.files) → IsSoundOn after (record { files = t.files; log = t.log ++ more })
+  sound_on t on of right looks = record {
+    files = subst (IsOf t.files) (sym served.learns.reads.once.kept) (right_more (IsSeen t.files) (kept_of before.files) served.learns.reads.once.more on.files of);
+    right = right;
+    before = on.before;
+    log = ap (λ log. log ++ more) on.log ∙ append_assoc on.before was more ∙ ap (λ asked. on.before ++ asked) (sym since_more);
+    within = subst (λ start. ArePagePaths (page_paths start t.files) now) (sym (start_stays served.stays)) (more_paths (page_paths (start_of before) t.files) on.within looks);
+  }
+
+  -- it stays sound
+  pub still_sound : IsSound s' after
+  still_sound =
+      let both : IfSome s.told (λ t. IsSoundOn before t × IsOf t.files served.learns.reads.once.more) = of_both s.told sound.told served.learns.reads.once.right (λ t on of. (on, of)) in
+      record {
+        opened = rw (served.stays.opened) (omega (arith, sound.opened, ap length paths_more, length-append (paths_in (learned_view before)) more));
+        told = subst (λ o. IfSome o (IsSoundOn after)) (sym served.learns.reads.once.looks.told)
+            (told_on (IsSoundOn after) more s.told (of_both s.told both learned (λ t both l. sound_on t both.0 both.1 l.right l.within)));
+      }
+
+  -- what is told of files by the start stays
+  told_as : {A : Type 0} (f : Start → Option Told → A) → ((start : Start) (t : Told) → f start (Some (record { files = t.files; log = t.log ++ more })) ≡ f start (Some t)) → f (start_of after) s'.told ≡ f (start_of before) s.told
+  told_as f same = ap (λ start. f start s'.told) (start_stays served.stays) ∙ ap (f (start_of before)) served.learns.reads.once.looks.told ∙ files_stay (f (start_of before)) more s.told (same (start_of before))
+
+  -- and so does what the tree told when the world was made
+  told_stays : (o p : Option Told) → p ≡ with_asked more o → IfSome o (IsSoundOn before) → option_map (without_asked now) p ≡ option_map (without_asked was) o
+  told_stays None p e on = ap (option_map (without_asked now)) e
+  told_stays (Some t) p e on =
+      let log : t.log ++ more ≡ on.before ++ now = ap (λ l. l ++ more) on.log ∙ append_assoc on.before was more ∙ ap (λ asked. on.before ++ asked) (sym since_more) in
+      let same : log_before now (t.log ++ more) ≡ log_before was t.log = before_is (t.log ++ more) on.before now log ∙ sym (before_is t.log on.before was on.log) in
+      ap (option_map (without_asked now)) e ∙ (λ i. Some (record { files = t.files; log = same i }))
+
+  pub only_asked : OnlyAsked (was_out answer) (world_state s (learned_view before)) (world_state s' (learned_view after))
+  only_asked =
+      let looks = served.learns.reads.once.looks in
+      let opened = ap (λ n. take n (paths_in (learned_view after))) served.stays.opened ∙ ap (take before.opened) paths_more ∙ take-append-le before.opened (paths_in (learned_view before)) more sound.opened in
+      record {
+        pages = told_as pages_in (λ start t. refl);
+        origin = λ i. record {
+          told = told_stays s.told s'.told looks.told sound.told i;
+          changes = looks.changes i;
+          opened = opened i;
+          places = told_as places_in (λ start t. refl) i;
+          page_paths = told_as page_paths_in (λ start t. refl) i;
+        };
+        calls = looks.calls;
+        faults = looks.ends.faults;
+        sure = looks.ends.sure;
+        safe = looks.ends.safe;
+      }
+
+  -- its answers are what the pages say
+  pub asks_served : {A : Type 0} (view : X → A) (PageSays : Page Condition → A → Type 0)
+      → ((t : Told) → s.told ≡ Some t → (x : X) → Says t.files (home_of (start_of before) port t.files) x → PageSays (page_of (start_of before) t.files port) (view x))
+      → Asks port PageSays (seen_by view answer) (world_state s (learned_view before)) (world_state s' (learned_view after))
+  asks_served view PageSays page_says = record {
+    told = told answer s.told refl (of_both s.told learned learned (λ t l _. l.holds));
+    kept = kept s.told;
+    only = subst (λ failed. OnlyAsked failed (world_state s (learned_view before)) (world_state s' (learned_view after))) (sym (same_failed view answer)) only_asked;
+  }
+    where
+      kept : (o : Option Told) → IfSome (pages_in (start_of before) o) ArePages
+      kept None = tt
+      kept (Some t) = is_page (start_of before) t.files
+
+      told : (r : Result X Outage) (o : Option Told) → s.told ≡ o → IfSome o (λ t. IfOk r (Says t.files (home_of (start_of before) port t.files))) → IfOk (seen_by view r) (λ x. IfSome (pages_in (start_of before) o) (λ p. PageSays (p port) x))
+      told (Err e) o is says = tt
+      told (Ok x) None is says = tt
+      told (Ok x) (Some t) is says = page_says t is x says
 
 -- where the files are told, a version stands where they say
-pub folder_told : {answer : Result (Option Path) Outage} {paths : Files → List Path} (before after : Library) (port : List ℕ) (v : Version) {s s' : State} → IsSound s before
-    → Learns answer (SaysFolderOf (start_of before) port v) paths (IsRight before) (IsRight after) (held before.files s) (held after.files s') → IfOk answer (λ folder. IfSome (pages_in (start_of before) s.told) (λ _. folder ≡ places_in (start_of before) s.told port v))
-folder_told {answer = answer} before after port v {s = s} sound l = by answer s.told l.content sound.told
+pub folder_told : {answer : Result (Option Path) Outage} {port : List ℕ} {v : Version} {before after : Library} {s s' : State} → IsSound s before → Serves answer (SaysFolderAt v) port before after s s'
+    → IfOk answer (λ folder. IfSome (pages_in (start_of before) s.told) (λ _. folder ≡ places_in (start_of before) s.told port v))
+folder_told {answer = answer} {port = port} {v = v} {before = before} {s = s} sound served = by answer s.told (of_both s.told (learned sound served) (learned sound served) (λ t l _. l.holds))
   where
-    by : (r : Result (Option Path) Outage) (o : Option Told) → IfSome o (λ t. IsOf t.files (kept_of before.files) → IsRight before t.files → IsRight after t.files × IfOk r (SaysFolderOf (start_of before) port v t.files)) → IfSome o (IsSoundOn before)
-        → IfOk r (λ folder. IfSome (pages_in (start_of before) o) (λ _. folder ≡ places_in (start_of before) o port v))
-    by (Err e) o content old = tt
-    by (Ok folder) None content old = tt
-    by (Ok folder) (Some t) content old = (content old.files old.right).1
+    by : (r : Result (Option Path) Outage) (o : Option Told) → IfSome o (λ t. IfOk r (SaysFolderAt v t.files (home_of (start_of before) port t.files))) → IfOk r (λ folder. IfSome (pages_in (start_of before) o) (λ _. folder ≡ places_in (start_of before) o port v))
+    by (Err e) o says = tt
+    by (Ok folder) None says = tt
+    by (Ok folder) (Some t) says = says
 
 -- what holds on a port's page holds of the page of the files
 pub on_page : (port : List ℕ) (P : Page Condition → Type 0) (lib : Library) (s : State) (t : Told) → s.told ≡ Some t → OnPage port P (world_state s (learned_view lib)) → P (page_of (start_of lib) t.files port)

@@ -1,28 +1,22 @@
 -- What a call answers that reads files and keeps notes of them, and what it leaves.
-use Rattle.std.specs.Prelude.{◌≡◌, List, IfSome, Result, Ok, Err, IfOk}
+use Rattle.std.specs.Prelude.{◌≡◌, List, Result, Ok, Err, IfOk}
 use Rattle.vk_spec.specs.Paths.{Path}
 use Rattle.vk_spec.specs.Files.{Files}
-use Rattle.vk_files.specs.Kept.{IsOf, Held, ReadOnce}
-use Rattle.vk_pages.specs.Looked.{LooksNoting}
+use Rattle.vk_files.specs.Kept.{Held}
+use Rattle.vk_pages.specs.Finds.{Reads}
 use Rattle.vk_base.specs.declared.stops.Stop.{Stop}
 use Rattle.vk_base.specs.declared.stops.Stop.TheVariants as stop
 use Rattle.vk_base.specs.declared.stops.Outage.{Outage}
 use Rattle.vk_base.specs.declared.stops.Outage.TheVariants as outage
 use Rattle.vk_base.specs.Stops.{was_out}
 
--- nothing but reading was done, and what was found is kept; and where the files are told and the notes were right of them, the notes are right after it, what is answered holds, and each path that was looked at is one of these
+-- nothing but reading was done, and where the files are told and the notes were right of them, the notes are right after it, what is answered holds, and each path that was looked at is one of these
 pub record Learns {X : Type 0} (answer : Result X Outage) (Says : Files → X → Type 0) (paths : Files → List Path) (Before After : Files → Type 0) (before after : Held) : Type 0 where
-  pub once : ReadOnce (was_out answer) before after
-  pub content : IfSome before.tree.told (λ t. IsOf t.files before.kept → Before t.files → After t.files × IfOk answer (Says t.files))
-  pub asked : LooksNoting paths Before before after
+  pub reads : Reads (was_out answer) (λ f. IfOk answer (Says f)) paths Before After before after
 
 -- nothing is said of an answer
 abbrev pub SaysNothing : {X : Type 0} → Files → X → Type 0
 SaysNothing files x = Unit {0}
-
--- nothing is known of files
-abbrev pub NothingKnown : Files → Type 0
-NothingKnown files = Unit {0}
 
 -- what is answered is what the files mean
 abbrev pub Means : {X Y : Type 0} → (X → Y) → (Files → Y) → Files → X → Type 0

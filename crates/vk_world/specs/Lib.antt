@@ -6,6 +6,5 @@ pub mod Learning
 pub mod PortAsks
 pub mod ManifestNotes
 pub mod Listed
-pub mod ManifestAnswers
 pub mod Libraries
 pub mod Worlds

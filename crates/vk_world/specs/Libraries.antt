@@ -1,20 +1,26 @@
--- What a world keeps, and when it is right.
-use Rattle.std.specs.Prelude.{◌≡◌, ℕ, List, Result, Option}
+-- What a world keeps, when it is right, and what a call about a port answers.
+use Rattle.std.specs.Prelude.{◌≡◌, ℕ, List, Result, Option, Some, IsSome}
 use Rattle.vk_spec.specs.Paths.{Path}
 use Rattle.vk_spec.specs.Files.{Files}
+use Rattle.vk_spec.specs.States.{State}
 use Rattle.vk_spec.specs.Versions.{Version, Ask}
-use Rattle.vk_spec.specs.Pages.{version_in}
+use Rattle.vk_spec.specs.Pages.{version_in, manifest_in}
 use Rattle.vk_catalogue.specs.Views.{given_said, manifest_said}
 use Rattle.vk_model.specs.declared.wrongs.Wrong.{Wrong}
 use Rattle.vk_model.specs.declared.wrongs.Given.{Given}
 use Rattle.vk_model.specs.declared.manifests.Manifest.{Manifest}
 use Rattle.std.specs.declared.rc.Rc.{Rc}
+use Rattle.vk_base.specs.declared.stops.Outage.{Outage}
+use Rattle.vk_files.specs.Views.{held}
 use Rattle.vk_opening.specs.Starts.{Start}
+use Rattle.vk_pages.specs.Asked.{page_paths}
+use Rattle.vk_pages.specs.Homes.{home_of}
 use Rattle.vk_pages.specs.HomeViews.{layout_view}
-use Rattle.vk_pages.specs.Pages.{page_of}
-use Rattle.vk_world.specs.HomeNotes.{AreHomes}
-use Rattle.vk_world.specs.ManifestNotes.{AreManifests, IsManifestOf}
-use Rattle.vk_world.specs.VersionFolders.{place_in}
+use Rattle.vk_pages.specs.Pages.{page_at}
+use Rattle.vk_world.specs.HomeNotes.{FoundHome, AreHomes}
+use Rattle.vk_world.specs.Learning.{Learns}
+use Rattle.vk_world.specs.ManifestNotes.{AreManifests}
+use Rattle.vk_world.specs.VersionFolders.{folder_found}
 use Rattle.vk_world.specs.declared.libraries.Library.{Library}
 
 -- what is known of the project
@@ -31,17 +37,22 @@ pub record Stays (before after : Library) : Type 0 where
   pub layout : after.layout ≡ before.layout
   pub opened : after.opened ≡ before.opened
 
--- ---- what answers say of files
+-- a call about a port answered what is said of files and of what is found for the port there, only the paths of the port's page were looked at, and what was known at the start stays
+pub record Serves {X : Type 0} (answer : Result X Outage) (Says : Files → FoundHome → X → Type 0) (port : List ℕ) (before after : Library) (s s' : State) : Type 0 where
+  pub learns : Learns answer (λ f. Says f (home_of (start_of before) port f)) (λ f. page_paths (start_of before) f port) (IsRight before) (IsRight after) (held before.files s) (held after.files s')
+  pub stays : Stays before after
 
-abbrev pub SaysGivenOf : Start → List ℕ → Files → Result Given Wrong → Type 0
-SaysGivenOf start port files given = given_said given ≡ (page_of start files port).given
+-- ---- what answers say of a port's page, and of where its versions stand
 
-abbrev pub SaysVersionOf : Start → List ℕ → Ask → Files → Option Version → Type 0
-SaysVersionOf start port ask files version = version ≡ version_in (page_of start files port) ask
+abbrev pub SaysGivenAt : List ℕ → Files → FoundHome → Result Given Wrong → Type 0
+SaysGivenAt port files found given = given_said given ≡ (page_at port files found).given
 
-abbrev pub SaysFolderOf : Start → List ℕ → Version → Files → Option Path → Type 0
-SaysFolderOf start port version files folder = folder ≡ place_in start files port version
+abbrev pub SaysVersionAt : List ℕ → Ask → Files → FoundHome → Option Version → Type 0
+SaysVersionAt port ask files found version = version ≡ version_in (page_at port files found) ask
+
+abbrev pub SaysFolderAt : Version → Files → FoundHome → Option Path → Type 0
+SaysFolderAt version files found folder = folder ≡ folder_found found version
 
 -- where a version is there for the ask
-abbrev pub SaysManifestOf : {Z : Type 0} → Start → List ℕ → Ask → Files → Result (Rc Manifest Z) Wrong → Type 0
-SaysManifestOf start port ask files m = IsManifestOf start files port ask (manifest_said m)
+abbrev pub SaysManifestAt : {Z : Type 0} → List ℕ → Ask → Files → FoundHome → Result (Rc Manifest Z) Wrong → Type 0
+SaysManifestAt port ask files found m = IsSome (version_in (page_at port files found) ask) → Some (manifest_said m) ≡ manifest_in (page_at port files found) ask

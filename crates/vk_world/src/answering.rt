@@ -1,14 +1,14 @@
 //! Answers from what was found for a port.
-ghost use Rattle.std.specs.Prelude.{◌≡◌, IfOk, Some, None, false, option_map};
+ghost use Rattle.std.specs.Prelude.{◌≡◌, ℕ, List, IfOk, Ok, Some, None, false, option_map};
 ghost use Rattle.std.specs.Prelude.{if◌then◌else◌};
-ghost use Rattle.vk_spec.specs.Paths.{Path};
-ghost use Rattle.vk_spec.specs.Versions.{same_version};
+ghost use Rattle.vk_spec.specs.Files.{Files};
+ghost use Rattle.vk_spec.specs.Versions.{ask_of, same_ask, same_version};
 ghost use Rattle.vk_version.specs.AskViews.{ask_view};
 ghost use Rattle.vk_base.specs.Stops.{was_out};
-ghost use Rattle.vk_catalogue.specs.Views.{given_said};
 ghost use Rattle.vk_pages.specs.HomeViews.{home_view};
 ghost use Rattle.vk_world.specs.HomeNotes.{found_home};
-ghost use Rattle.vk_world.specs.Listed.{given_in, listed_at, listed_in, own_listed, table_listed};
+ghost use Rattle.vk_world.specs.Libraries.{SaysGivenAt, SaysVersionAt};
+ghost use Rattle.vk_world.specs.Listed.{row_meant};
 ghost use Rattle.vk_world.specs.VersionFolders.{folder_found, table_folder, version_folder};
 
 use crate::listed::{given_at, row_meant, row_with, same_version};
@@ -21,7 +21,8 @@ use vk_version::{Ask, Version};
 
 /// What is given for a port, by what was found.
 pub fn answer_given(found: &Result<Home, Wrong>) -> Result<Result<Given, Wrong>, Outage>
-    ensures told { IfOk result (λ given. given_said given ≡ given_in (found_home found.now)) }
+    ensures told { (port : List ℕ) (files : Files)
+        → IfOk result (SaysGivenAt port files (found_home found.now)) }
     ensures calm { was_out result ≡ false }
 {
     match found {
@@ -32,8 +33,9 @@ pub fn answer_given(found: &Result<Home, Wrong>) -> Result<Result<Given, Wrong>,
 
 // An overlay's version, if it is what an ask means.
 fn own_version(version: &Version, ask: &Ask) -> Result<Option<Version>, Memory>
-    ensures { IfOk result (λ v. (folder : Path)
-        → v ≡ option_map (λ l. l.0) (own_listed folder version.now (ask_view ask.now))) }
+    ensures { IfOk result
+        (λ v. v ≡ (if same_ask (ask_of version.now) (ask_view ask.now)
+        then Some version.now else None)) }
 {
     if version.ask() != ask {
         return Ok(None);
@@ -43,8 +45,8 @@ fn own_version(version: &Version, ask: &Ask) -> Result<Option<Version>, Memory>
 
 // The version of a registry's table that an ask means.
 fn table_version(table: &Table, ask: &Ask) -> Result<Option<Version>, Memory>
-    ensures { IfOk result (λ v. (registry : Path)
-        → v ≡ option_map (λ l. l.0) (table_listed registry table.now (ask_view ask.now))) }
+    ensures { IfOk result
+        (λ v. v ≡ option_map (λ r. r.version) (row_meant table.now (ask_view ask.now))) }
 {
     match row_meant(table, ask) {
         Some(row) => Ok(Some(row.version.clone()?)),
@@ -53,8 +55,8 @@ fn table_version(table: &Table, ask: &Ask) -> Result<Option<Version>, Memory>
 }
 
 fn version_at(home: &Home, ask: &Ask) -> Result<Option<Version>, Memory>
-    ensures { IfOk result
-        (λ v. v ≡ option_map (λ l. l.0) (listed_at (home_view home.now) (ask_view ask.now))) }
+    ensures { (port : List ℕ) (files : Files)
+        → IfOk result (SaysVersionAt port (ask_view ask.now) files (Ok (home_view home.now))) }
 {
     match home {
         Home::Overlay { version, .. } => own_version(version, ask),
@@ -64,8 +66,8 @@ fn version_at(home: &Home, ask: &Ask) -> Result<Option<Version>, Memory>
 
 /// The version of a port that an ask means, by what was found.
 pub fn answer_version(found: &Result<Home, Wrong>, ask: &Ask) -> Result<Option<Version>, Outage>
-    ensures told { IfOk result
-        (λ v. v ≡ option_map (λ l. l.0) (listed_in (found_home found.now) (ask_view ask.now))) }
+    ensures told { (port : List ℕ) (files : Files)
+        → IfOk result (SaysVersionAt port (ask_view ask.now) files (found_home found.now)) }
     ensures calm { was_out result ≡ false }
 {
     match found {
@@ -98,7 +100,7 @@ fn table_folder(
 ) -> Result<Option<TreePath>, Memory>
     ensures { IfOk result (λ f. f ≡ table_folder registry.now table.now version.now) }
 {
-    match row_with(table, version) {
+    match row_with(table.rows(), version) {
         Some(row) => Ok(Some(row_folder(alloc, registry, row)?)),
         None => Ok(None),
     }

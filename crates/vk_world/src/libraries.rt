@@ -3,13 +3,12 @@ ghost use Rattle.std.specs.Prelude.{◌≡◌, IfOk, bytes_eq, length};
 ghost use Rattle.vk_spec.specs.Files.{Files};
 ghost use Rattle.vk_version.specs.AskViews.{ask_view};
 ghost use Rattle.vk_files.specs.Notes.{IsNoteAt};
-ghost use Rattle.vk_files.specs.Views.{held, kept_of};
+ghost use Rattle.vk_files.specs.Views.{kept_of};
 ghost use Rattle.vk_opening.specs.Views.{start_view, opened_files};
-ghost use Rattle.vk_pages.specs.Asked.{home_paths, page_paths};
-ghost use Rattle.vk_world.specs.Learning.{Learns, SaysNothing};
+ghost use Rattle.vk_world.specs.Learning.{SaysNothing};
 ghost use Rattle.vk_world.specs.HomeNotes.{homes_in};
-ghost use Rattle.vk_world.specs.Libraries.{start_of, IsRight, Stays, SaysGivenOf, SaysVersionOf};
-ghost use Rattle.vk_world.specs.Libraries.{SaysFolderOf, SaysManifestOf};
+ghost use Rattle.vk_world.specs.Libraries.{start_of, IsRight, Serves, SaysGivenAt, SaysVersionAt};
+ghost use Rattle.vk_world.specs.Libraries.{SaysFolderAt, SaysManifestAt};
 
 use crate::answering::{answer_folder, answer_given, answer_version};
 use crate::homes::Homes;
@@ -75,11 +74,9 @@ impl Library {
         tree: &mut T,
         port: &PortName,
     ) -> Result<usize, Outage>
-        ensures learns { Learns result SaysNothing (λ f. home_paths (start_of self.old) f port.now)
-            (IsRight self.old) (IsRight self.new) (held self.old.files (T.state tree.old))
-            (held self.new.files (T.state tree.new)) }
+        ensures serves { Serves result (λ f found. SaysNothing f) port.now self.old self.new
+            (T.state tree.old) (T.state tree.new) }
         ensures there { IfOk result (IsNoteAt (bytes_eq port.now) (homes_in self.new.homes)) }
-        ensures stays { Stays self.old self.new }
     {
         self.homes
             .look(alloc, &self.layout, &mut self.files, tree, port)
@@ -92,10 +89,8 @@ impl Library {
         tree: &mut T,
         port: &PortName,
     ) -> Result<Result<Given, Wrong>, Outage>
-        ensures learns { Learns result (SaysGivenOf (start_of self.old) port.now)
-            (λ f. home_paths (start_of self.old) f port.now) (IsRight self.old) (IsRight self.new)
-            (held self.old.files (T.state tree.old)) (held self.new.files (T.state tree.new)) }
-        ensures stays { Stays self.old self.new }
+        ensures { Serves result (SaysGivenAt port.now) port.now self.old self.new
+            (T.state tree.old) (T.state tree.new) }
     {
         let place = self.look(alloc, tree, port)?;
         answer_given(self.homes.at(place))
@@ -109,11 +104,8 @@ impl Library {
         port: &PortName,
         ask: &Ask,
     ) -> Result<Option<Version>, Outage>
-        ensures learns { Learns result
-            (SaysVersionOf (start_of self.old) port.now (ask_view ask.now))
-            (λ f. home_paths (start_of self.old) f port.now) (IsRight self.old) (IsRight self.new)
-            (held self.old.files (T.state tree.old)) (held self.new.files (T.state tree.new)) }
-        ensures stays { Stays self.old self.new }
+        ensures { Serves result (SaysVersionAt port.now (ask_view ask.now)) port.now self.old self.new
+            (T.state tree.old) (T.state tree.new) }
     {
         let place = self.look(alloc, tree, port)?;
         answer_version(self.homes.at(place), ask)
@@ -127,10 +119,8 @@ impl Library {
         port: &PortName,
         version: &Version,
     ) -> Result<Option<TreePath>, Outage>
-        ensures learns { Learns result (SaysFolderOf (start_of self.old) port.now version.now)
-            (λ f. home_paths (start_of self.old) f port.now) (IsRight self.old) (IsRight self.new)
-            (held self.old.files (T.state tree.old)) (held self.new.files (T.state tree.new)) }
-        ensures stays { Stays self.old self.new }
+        ensures { Serves result (SaysFolderAt version.now) port.now self.old self.new
+            (T.state tree.old) (T.state tree.new) }
     {
         let place = self.look(alloc, tree, port)?;
         answer_folder(alloc, self.homes.at(place), version)
@@ -144,11 +134,8 @@ impl Library {
         port: &PortName,
         ask: &Ask,
     ) -> Result<Result<Rc<Manifest>, Wrong>, Outage>
-        ensures learns { Learns result
-            (SaysManifestOf (start_of self.old) port.now (ask_view ask.now))
-            (λ f. page_paths (start_of self.old) f port.now) (IsRight self.old) (IsRight self.new)
-            (held self.old.files (T.state tree.old)) (held self.new.files (T.state tree.new)) }
-        ensures stays { Stays self.old self.new }
+        ensures { Serves result (SaysManifestAt port.now (ask_view ask.now)) port.now self.old self.new
+            (T.state tree.old) (T.state tree.new) }
     {
         let place = self.look(alloc, tree, port)?;
         let found = self.homes.at(place);
@@ -162,11 +149,8 @@ impl Library {
         tree: &mut T,
         key: PortAsk,
     ) -> Result<Result<Rc<Manifest>, Wrong>, Outage>
-        ensures learns { Learns result
-            (SaysManifestOf (start_of self.old) key.port (ask_view key.ask))
-            (λ f. page_paths (start_of self.old) f key.port) (IsRight self.old) (IsRight self.new)
-            (held self.old.files (T.state tree.old)) (held self.new.files (T.state tree.new)) }
-        ensures stays { Stays self.old self.new }
+        ensures { Serves result (SaysManifestAt key.port (ask_view key.ask)) key.port self.old self.new
+            (T.state tree.old) (T.state tree.new) }
     {
         let found = self.read_manifest(alloc, tree, &key.port, &key.ask)?;
         self.manifests.keep(alloc, key, &found)?;
@@ -182,11 +166,8 @@ impl Library {
         port: &PortName,
         ask: &Ask,
     ) -> Result<Result<Rc<Manifest>, Wrong>, Outage>
-        ensures learns { Learns result
-            (SaysManifestOf (start_of self.old) port.now (ask_view ask.now))
-            (λ f. page_paths (start_of self.old) f port.now) (IsRight self.old) (IsRight self.new)
-            (held self.old.files (T.state tree.old)) (held self.new.files (T.state tree.new)) }
-        ensures stays { Stays self.old self.new }
+        ensures { Serves result (SaysManifestAt port.now (ask_view ask.now)) port.now self.old self.new
+            (T.state tree.old) (T.state tree.new) }
     {
         let key = PortAsk::of(port, ask)?;
         match self.manifests.get(&key) {

@@ -1,13 +1,16 @@
 //! What the home of a port has.
-ghost use Rattle.std.specs.Prelude.{◌≡◌, IfOk, IfSome, option_map, slice_get};
+ghost use Rattle.std.specs.Prelude.{◌≡◌, ℕ, List, IfOk, Ok, option_map, slice_get};
 ghost use Rattle.std.specs.List.{find};
+ghost use Rattle.std.specs.Option.{option_copied};
+ghost use Rattle.vk_spec.specs.Files.{Files};
 ghost use Rattle.vk_spec.specs.Versions.{same_version};
 ghost use Rattle.vk_registry.specs.Tables.{IsTable};
 ghost use Rattle.vk_registry.specs.TableViews.{row_view};
 ghost use Rattle.vk_version.specs.AskViews.{ask_view};
 ghost use Rattle.vk_catalogue.specs.Views.{given_view};
 ghost use Rattle.vk_pages.specs.HomeViews.{home_view};
-ghost use Rattle.vk_world.specs.Listed.{given_at, row_meant};
+ghost use Rattle.vk_pages.specs.Pages.{page_at};
+ghost use Rattle.vk_world.specs.Listed.{row_meant};
 
 use std::alloc::AllocError;
 use vk_catalogue::Given;
@@ -17,7 +20,8 @@ use vk_version::{Ask, Version};
 
 /// What is given at a home.
 pub fn given_at(home: &Home) -> Result<Given, AllocError>
-    ensures { IfOk result (λ given. given_view given ≡ given_at (home_view home.now)) }
+    ensures { (port : List ℕ) (files : Files) → IfOk result
+        (λ given. Ok (given_view given) ≡ (page_at port files (Ok (home_view home.now))).given) }
 {
     match home {
         Home::Overlay { version, .. } => Ok(Given::Overlay(version.clone()?)),
@@ -35,9 +39,7 @@ fn row_at(table: &Table, place: usize) -> Option<&Row>
 
 /// The row of a table that an ask means; `None` exactly where there is none.
 pub fn row_meant<'a>(table: &'a Table, ask: &Ask) -> Option<&'a Row>
-    ensures row { option_map (λ r. row_view r.now) result
-        ≡ row_meant table.now (ask_view ask.now) }
-    ensures table { IfSome result (λ _. IsTable table.now) }
+    ensures { option_map (λ r. row_view r.now) result ≡ row_meant table.now (ask_view ask.now) }
 {
     match find(table, ask) {
         Some(place) => row_at(table, place),
@@ -52,15 +54,9 @@ pub fn same_version(one: &Version, other: &Version) -> bool
     one.class() == other.class() && (one.text() == other.text() && one.port() == other.port())
 }
 
-/// The row of a table that has a version; `None` exactly where there is none.
-pub fn row_with<'a>(table: &'a Table, version: &Version) -> Option<&'a Row>
-    ensures { option_map (λ r. row_view r.now) result
-        ≡ find (λ r. same_version version.now r.version) table.now }
+/// The row that has a version; `None` exactly where there is none. It looks at the rows in order.
+pub fn row_with<'a>(rows: &'a [Row], version: &Version) -> Option<&'a Row>
+    ensures { option_copied result ≡ find (λ r. same_version version.now r.version) rows.now }
 {
-    let row = row_meant(table, version.ask())?;
-    if same_version(version, &row.version) {
-        Some(row)
-    } else {
-        None
-    }
+    rows.iter().find(|row| same_version(version, &row.version))
 }

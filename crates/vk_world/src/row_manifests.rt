@@ -1,24 +1,23 @@
 //! The manifest of a version, which is read where it stands.
-ghost use Rattle.std.specs.Prelude.{◌≡◌, ◌∷◌, [], map, Ok, Err, IfOk, false};
-ghost use Rattle.vk_spec.specs.Reading.{Gives};
+ghost use Rattle.std.specs.Prelude.{◌≡◌, ◌∷◌, [], map, option_map, Some, Ok, Err, IfOk};
+ghost use Rattle.vk_spec.specs.Pages.{row_in};
 ghost use Rattle.vk_registry.specs.TableViews.{row_view};
 ghost use Rattle.vk_version.specs.AskViews.{ask_view};
 ghost use Rattle.vk_base.specs.declared.stops.Outage.TheVariants as outage;
-ghost use Rattle.vk_base.specs.Stops.{out_of_memory, has_failed};
+ghost use Rattle.vk_base.specs.Stops.{out_of_memory};
 ghost use Rattle.vk_model.specs.Views.{manifest_view};
 ghost use Rattle.vk_catalogue.specs.Views.{manifest_said, wrong_view};
-ghost use Rattle.vk_base.specs.Stops.{fault_seen};
 ghost use Rattle.vk_files.specs.Readings.{ReadsAs};
 ghost use Rattle.vk_files.specs.Within.{LooksWithin};
 ghost use Rattle.vk_files.specs.Views.{held, kept_of};
 ghost use Rattle.vk_opening.specs.Projects.{manifest_path};
-ghost use Rattle.vk_pages.specs.Pages.{row_folder, row_manifest};
+ghost use Rattle.vk_pages.specs.Finds.{NothingKnown};
+ghost use Rattle.vk_pages.specs.Pages.{row_folder, row_manifest, page_row};
 ghost use Rattle.vk_pages.specs.Asked.{row_path, manifest_paths};
 ghost use Rattle.vk_pages.specs.HomeViews.{home_view};
-ghost use Rattle.vk_world.specs.Learning.{Learns, Means, NothingKnown};
-ghost use Rattle.vk_world.specs.Listed.{agreed, manifest_at};
+ghost use Rattle.vk_world.specs.Learning.{Learns};
 ghost use Rattle.vk_world.specs.HomeNotes.{found_home};
-ghost use Rattle.vk_world.specs.ManifestAnswers.{IsRowManifest, IsManifestFor};
+ghost use Rattle.vk_world.specs.Libraries.{SaysManifestAt};
 
 use crate::listed::row_meant;
 use crate::settling::settle;
@@ -32,7 +31,7 @@ use vk_opening::{PortFile, manifest_path};
 use vk_pages::{Home, content, row_folder};
 use vk_registry::{Row, Table, agree};
 use vk_tree::Tree;
-use vk_version::{Ask, Version};
+use vk_version::Ask;
 
 // Where the manifest of a row stands.
 fn row_path(alloc: Global, registry: &TreePath, row: &Row) -> Result<TreePath, Memory>
@@ -42,42 +41,7 @@ fn row_path(alloc: Global, registry: &TreePath, row: &Row) -> Result<TreePath, M
     manifest_path(alloc, &folder)
 }
 
-// A manifest that is there, to be shared, if it is that of the port and the version.
-#[tactic(auto, unfolding(crate::specs::Listed::agreed))]
-fn agreed(
-    alloc: Global,
-    path: &TreePath,
-    port: &PortName,
-    version: &Version,
-    manifest: Manifest,
-) -> Result<Rc<Manifest>, Stop<Wrong>>
-    ensures told { Gives (λ m. manifest_view m.value) (fault_seen wrong_view) result
-        (agreed path.now port.now version.now (manifest_view manifest)) }
-    ensures calm { has_failed result ≡ false }
-{
-    agree(alloc, path, port, version, &manifest)?;
-    Ok(Rc::new(alloc, manifest)?)
-}
-
-// The manifest at a path, if it is that of the port and the version.
-fn manifest_at<T: Tree>(
-    alloc: Global,
-    files: &mut FileCache,
-    tree: &mut T,
-    path: &TreePath,
-    port: &PortName,
-    version: &Version,
-) -> Result<Rc<Manifest>, Stop<Wrong>>
-    ensures reads { ReadsAs wrong_view (λ m. manifest_view m.value) result
-        (manifest_at path.now port.now version.now)
-        (held files.old (T.state tree.old)) (held files.new (T.state tree.new)) }
-    ensures asked { LooksWithin (path.now ∷ []) (kept_of files.old) (kept_of files.new) }
-{
-    let manifest = content(alloc, files, tree, path, &PortFile)?;
-    agreed(alloc, path, port, version, manifest)
-}
-
-// The manifest of a row, or what is wrong with it.
+// The manifest of a row, if it is that of the port and the version.
 fn row_manifest<T: Tree>(
     alloc: Global,
     files: &mut FileCache,
@@ -85,14 +49,17 @@ fn row_manifest<T: Tree>(
     port: &PortName,
     registry: &TreePath,
     row: &Row,
-) -> Result<Result<Rc<Manifest>, Wrong>, Outage>
-    ensures { Learns result
-        (Means manifest_said (row_manifest port.now registry.now (row_view row.now)))
-        (λ f. row_path registry.now (row_view row.now) ∷ []) NothingKnown NothingKnown
+) -> Result<Rc<Manifest>, Stop<Wrong>>
+    ensures reads { ReadsAs wrong_view (λ m. manifest_view m.value) result
+        (row_manifest port.now registry.now (row_view row.now))
         (held files.old (T.state tree.old)) (held files.new (T.state tree.new)) }
+    ensures asked { LooksWithin (row_path registry.now (row_view row.now) ∷ [])
+        (kept_of files.old) (kept_of files.new) }
 {
     let path = row_path(alloc, registry, row)?;
-    settle(manifest_at(alloc, files, tree, &path, port, &row.version))
+    let manifest = content(alloc, files, tree, &path, &PortFile)?;
+    agree(alloc, &path, port, &row.version, &manifest)?;
+    Ok(Rc::new(alloc, manifest)?)
 }
 
 // The answer where there is no manifest to answer, which no caller asks for.
@@ -112,12 +79,14 @@ fn table_manifest<T: Tree>(
     table: &Table,
     ask: &Ask,
 ) -> Result<Result<Rc<Manifest>, Wrong>, Outage>
-    ensures { Learns result (IsRowManifest port.now registry.now table.now (ask_view ask.now))
+    ensures { Learns result
+        (λ f m. Some (manifest_said m) ≡ option_map (λ r. r.manifest)
+        (row_in (map (page_row port.now registry.now f) table.now) (ask_view ask.now)))
         (λ f. map (row_path registry.now) table.now) NothingKnown NothingKnown
         (held files.old (T.state tree.old)) (held files.new (T.state tree.new)) }
 {
     match row_meant(table, ask) {
-        Some(row) => row_manifest(alloc, files, tree, port, registry, row),
+        Some(row) => settle(row_manifest(alloc, files, tree, port, registry, row)),
         None => no_answer(),
     }
 }
@@ -131,7 +100,8 @@ fn home_manifest<T: Tree>(
     home: &Home,
     ask: &Ask,
 ) -> Result<Result<Rc<Manifest>, Wrong>, Outage>
-    ensures { Learns result (IsManifestFor port.now (Ok (home_view home.now)) (ask_view ask.now))
+    ensures { Learns result
+        (λ f. SaysManifestAt port.now (ask_view ask.now) f (Ok (home_view home.now)))
         (λ f. manifest_paths (Ok (home_view home.now))) NothingKnown NothingKnown
         (held files.old (T.state tree.old)) (held files.new (T.state tree.new)) }
 {
@@ -153,7 +123,8 @@ pub fn manifest_for<T: Tree>(
     found: &Result<Home, Wrong>,
     ask: &Ask,
 ) -> Result<Result<Rc<Manifest>, Wrong>, Outage>
-    ensures { Learns result (IsManifestFor port.now (found_home found.now) (ask_view ask.now))
+    ensures { Learns result
+        (λ f. SaysManifestAt port.now (ask_view ask.now) f (found_home found.now))
         (λ f. manifest_paths (found_home found.now)) NothingKnown NothingKnown
         (held files.old (T.state tree.old)) (held files.new (T.state tree.new)) }
 {

@@ -1,40 +1,36 @@
 use Rattle.std.proofs.Common.{◌≡◌, ◌∙◌, [], ◌∷◌, ◌++◌, refl, sym, ap, subst, rules}
-use Rattle.std.specs.Prelude.{Ok, Err, bytes_eq}
+use Rattle.std.specs.Prelude.{bytes_eq}
 use Rattle.std.specs.Map.{lookup}
-use Rattle.std.proofs.lemmas.Result.{err_from_is_err_and}
 use Rattle.std.proofs.lemmas.Slice.Eq.{bytes_eq-Decides}
-use Rattle.vk_base.specs.declared.stops.Outage.TheVariants as outage
-use Rattle.vk_base.specs.Stops.{out_of_memory}
 use Rattle.vk_files.specs.Notes.{AreRight}
-use Rattle.vk_files.specs.Views.{held}
 use Rattle.vk_files.proofs.NoteLemmas.{right_more}
+use Rattle.vk_files.proofs.NotedLemmas.{noted, length_noted, last_note}
 use Rattle.vk_pages.specs.HomeViews.{layout_view}
 use Rattle.vk_pages.specs.BaselineNotes.{AreBaselines}
 use Rattle.vk_pages.specs.NoteViews.{notes_of}
-use Rattle.vk_world.specs.Learning.{SaysNothing}
-use Rattle.vk_world.specs.HomeNotes.{AreHomes, IsHomeOf, homes_in, boxed_home}
-use Rattle.vk_world.proofs.LearnLemmas.{learns_memory, learns_pure, learns_so}
-use Rattle.vk_files.proofs.NotedLemmas.{noted, length_noted, last_note}
+use Rattle.vk_world.specs.HomeNotes.{IsHomeOf, homes_in, boxed_home}
+use Rattle.vk_world.proofs.LearnLemmas.{learns_lacking, learns_so, learns_stopped}
 use Rattle.vk_world.proofs.homes.Homes.ask.Goals as goal
 
 pub returns-in_err-key-clause-learns : goal.returns-in_err-key-clause-learns
-returns-in_err-key-clause-learns g c =
-    let p = err_from_is_err_and c.from_residual.result c.from_residual.ensures.1 in
-    rw (p.1, p.2) (learns_memory SaysNothing (AreHomes (layout_view c.args.layout.now) c.args.self.now) (held c.args.files.now (g.T.Tree.state c.args.tree.now)))
+returns-in_err-key-clause-learns g c = learns_lacking c.from_residual.ensures.1 (λ f right. right)
 
 pub returns-in_err-reserve-clause-learns : goal.returns-in_err-reserve-clause-learns
 returns-in_err-reserve-clause-learns g c =
-    let p = err_from_is_err_and c.from_residual-in_err-reserve.result c.from_residual-in_err-reserve.ensures.1 in
-    rw (p.1, p.2)
-    (learns_pure (Err (outage.Memory out_of_memory)) SaysNothing (AreHomes (layout_view c.args.layout.now) c.args.self.now) (AreHomes (layout_view c.args.layout.now) (record { baselines = c.args.self.now.baselines; found = c.reserve.new.self })) (held c.args.files.now (g.T.Tree.state c.args.tree.now)) refl
-    (λ f right. (record { baselines = right.baselines; found = subst (λ es. AreRight (IsHomeOf (layout_view c.args.layout.now) f) (noted boxed_home es)) (sym c.reserve.ensures.entries) right.found }, tt)))
+    learns_lacking c.from_residual-in_err-reserve.ensures.1
+    (λ f right. record { baselines = right.baselines; found = subst (λ es. AreRight (IsHomeOf (layout_view c.args.layout.now) f) (noted boxed_home es)) (sym c.reserve.ensures.entries) right.found })
+
+pub returns-in_err-found-clause-learns : goal.returns-in_err-found-clause-learns
+returns-in_err-found-clause-learns g c =
+    learns_stopped c.from_residual-in_err-found.ensures.1 (λ f right. right.baselines)
+    (λ f before right. record { baselines = right; found = subst (λ es. AreRight (IsHomeOf (layout_view c.args.layout.now) f) (noted boxed_home es)) (sym c.reserve.ensures.entries) before.found }) c.in_err-found.ensures
 
 pub returns-clause-learns : goal.returns-clause-learns
 returns-clause-learns g c =
     let start = layout_view c.args.layout.now in
     let same : c.in_ok-key.key ≡ c.args.port.now = search rules in
     let kept = c.keep.ensures.homes ∙ ap (λ es. noted boxed_home es ++ (c.in_ok-key.key, boxed_home c.in_ok-found.found) ∷ []) c.reserve.ensures.entries in
-    learns_so (Ok c.len-place.result) SaysNothing (AreHomes start c.args.self.now) (AreHomes start c.keep.new.self) refl (λ f right. right.baselines)
+    learns_so refl (λ f right. (right.baselines, λ p has. has))
     (λ f before right says. (
       record {
         baselines = subst (λ b. AreBaselines (notes_of b) f) (sym c.keep.ensures.baselines) right;
@@ -49,11 +45,3 @@ returns-clause-there g c =
     let notes = noted boxed_home c.reserve.new.self.entries in
     rw (c.keep.ensures.homes, c.len-place.ensures.len ∙ sym (length_noted boxed_home c.reserve.new.self.entries), same)
     (last_note bytes_eq c.args.port.now (boxed_home c.in_ok-found.found) notes ((bytes_eq-Decides c.args.port.now c.args.port.now).1 refl) (ap (λ es. lookup (bytes_eq c.args.port.now) (noted boxed_home es)) c.reserve.ensures.entries ∙ c.requires))
-
-pub returns-in_err-found-clause-learns : goal.returns-in_err-found-clause-learns
-returns-in_err-found-clause-learns g c =
-    let start = layout_view c.args.layout.now in
-    let p = err_from_is_err_and c.from_residual-in_err-found.result c.from_residual-in_err-found.ensures.1 in
-    rw (p.1, p.2)
-    (learns_so (Err c.in_err-found.field-0.0) SaysNothing (AreHomes start c.args.self.now) (AreHomes start (record { baselines = c.boxed_home.new.baselines; found = c.reserve.new.self })) refl (λ f right. right.baselines)
-    (λ f before right says. (record { baselines = right; found = subst (λ es. AreRight (IsHomeOf start f) (noted boxed_home es)) (sym c.reserve.ensures.entries) before.found }, tt)) c.in_err-found.ensures)
