@@ -9,8 +9,8 @@ ghost use Rattle.vk_version.specs.Views.{class_view};
 ghost use Rattle.vk_model.specs.Views.{manifest_view};
 ghost use Rattle.vk_model.specs.WrongViews.{field_view, wrong_view};
 ghost use Rattle.vk_base.specs.Stops.{fault_seen, has_failed};
-ghost use Rattle.vk_registry.specs.Agreement.{class_word, name_text, same_in, named, version_agrees};
-ghost use Rattle.vk_registry.specs.Agreement.{agreeing, stated_version};
+ghost use Rattle.vk_registry.specs.Agreement.{class_word, name_text, named, same_in};
+ghost use Rattle.vk_registry.specs.Agreement.{agreeing, stated_version, version_agrees};
 
 use std::alloc::Global;
 use vk_base::{Memory, PortName, Stop, Text, TreePath};

@@ -89,8 +89,8 @@ impl Library {
         tree: &mut T,
         port: &PortName,
     ) -> Result<Result<Given, Wrong>, Outage>
-        ensures { Serves result (SaysGivenAt port.now) port.now self.old self.new
-            (T.state tree.old) (T.state tree.new) }
+        ensures { Serves result (SaysGivenAt port.now) port.now
+            self.old self.new (T.state tree.old) (T.state tree.new) }
     {
         let place = self.look(alloc, tree, port)?;
         answer_given(self.homes.at(place))
@@ -104,8 +104,8 @@ impl Library {
         port: &PortName,
         ask: &Ask,
     ) -> Result<Option<Version>, Outage>
-        ensures { Serves result (SaysVersionAt port.now (ask_view ask.now)) port.now self.old self.new
-            (T.state tree.old) (T.state tree.new) }
+        ensures { Serves result (SaysVersionAt port.now (ask_view ask.now)) port.now
+            self.old self.new (T.state tree.old) (T.state tree.new) }
     {
         let place = self.look(alloc, tree, port)?;
         answer_version(self.homes.at(place), ask)
@@ -119,8 +119,8 @@ impl Library {
         port: &PortName,
         version: &Version,
     ) -> Result<Option<TreePath>, Outage>
-        ensures { Serves result (SaysFolderAt version.now) port.now self.old self.new
-            (T.state tree.old) (T.state tree.new) }
+        ensures { Serves result (SaysFolderAt version.now) port.now
+            self.old self.new (T.state tree.old) (T.state tree.new) }
     {
         let place = self.look(alloc, tree, port)?;
         answer_folder(alloc, self.homes.at(place), version)
@@ -134,8 +134,8 @@ impl Library {
         port: &PortName,
         ask: &Ask,
     ) -> Result<Result<Rc<Manifest>, Wrong>, Outage>
-        ensures { Serves result (SaysManifestAt port.now (ask_view ask.now)) port.now self.old self.new
-            (T.state tree.old) (T.state tree.new) }
+        ensures { Serves result (SaysManifestAt port.now (ask_view ask.now)) port.now
+            self.old self.new (T.state tree.old) (T.state tree.new) }
     {
         let place = self.look(alloc, tree, port)?;
         let found = self.homes.at(place);
@@ -149,8 +149,8 @@ impl Library {
         tree: &mut T,
         key: PortAsk,
     ) -> Result<Result<Rc<Manifest>, Wrong>, Outage>
-        ensures { Serves result (SaysManifestAt key.port (ask_view key.ask)) key.port self.old self.new
-            (T.state tree.old) (T.state tree.new) }
+        ensures { Serves result (SaysManifestAt key.port (ask_view key.ask)) key.port
+            self.old self.new (T.state tree.old) (T.state tree.new) }
     {
         let found = self.read_manifest(alloc, tree, &key.port, &key.ask)?;
         self.manifests.keep(alloc, key, &found)?;
@@ -166,8 +166,8 @@ impl Library {
         port: &PortName,
         ask: &Ask,
     ) -> Result<Result<Rc<Manifest>, Wrong>, Outage>
-        ensures { Serves result (SaysManifestAt port.now (ask_view ask.now)) port.now self.old self.new
-            (T.state tree.old) (T.state tree.new) }
+        ensures { Serves result (SaysManifestAt port.now (ask_view ask.now)) port.now
+            self.old self.new (T.state tree.old) (T.state tree.new) }
     {
         let key = PortAsk::of(port, ask)?;
         match self.manifests.get(&key) {
