@@ -11,10 +11,6 @@ pub right_more : {K V : Type 0} (P : K → V → Type 0) (es more : List (K × V
 right_more P [] more one two = two
 right_more P (e ∷ es) more one two = (one.0, right_more P es more one.1 two)
 
-pub right_front : {K V : Type 0} (P : K → V → Type 0) (es more : List (K × V)) → AreRight P (es ++ more) → AreRight P es
-right_front P [] more both = tt
-right_front P (e ∷ es) more both = (both.0, right_front P es more both.1)
-
 right_at : {K V : Type 0} (P : K → V → Type 0) (b : Bool) (key : K) (first : V) (k : K) (v : V) (later : Option V) → (b ≡ true → k ≡ key) → P key first → (later ≡ Some v → P k v) → cond b (Some first) later ≡ Some v → P k v
 right_at P true key first k v later same right rest found = subst (λ x. P x v) (sym (same refl)) (subst (P key) (some_inj found) right)
   where

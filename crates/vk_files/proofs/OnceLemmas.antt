@@ -4,7 +4,6 @@ use Rattle.std.proofs.lemmas.Bool.Decides.{nat_tests}
 use Rattle.std.specs.Prelude.{Option, Some, None, IfSome, Err}
 use Rattle.std.proofs.lemmas.List.{append-nil, append_assoc, map-append}
 use Rattle.vk_spec.specs.Paths.{Path}
-use Rattle.vk_spec.specs.Files.{Files}
 use Rattle.vk_spec.specs.Standing.{Disk, disk_of}
 use Rattle.vk_spec.specs.Calls.{Answer, Made, Says, refuses, read_of, is_failed, noted}
 use Rattle.vk_spec.proofs.CallLemmas.{looks_of, says_of}
@@ -78,7 +77,3 @@ once_then {failed = failed} {a = a} {b = b} {c = c} x y = record {
   looks = subst (λ asked. Looks asked failed a.tree c.tree) (sym (map-append (λ e. e.0) x.more y.more)) (looks_then x.looks y.looks);
   right = both_right x.more y.more a.tree.told x.right (told_before (λ f. IsOf f y.more) (record { asked = paths_of x.more; looks = x.looks }) y.right);
 }
-
--- what was kept before is still right, and so is what was kept since
-pub kept_right : {failed : Bool} {a b : Held} (files : Files) (log : List Path) → ReadOnce failed a b → a.tree.told ≡ Some (record { files = files; log = log }) → IsOf files a.kept → IsOf files b.kept
-kept_right {a = a} {b = b} files log r told right = subst (IsOf files) (sym r.kept) (right_more (IsSeen files) a.kept r.more right (subst (λ (o : Option Told). IfSome o (λ t. IsOf t.files r.more)) told r.right))

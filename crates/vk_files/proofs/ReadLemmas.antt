@@ -8,8 +8,7 @@ use Rattle.vk_spec.specs.States.{Told, State}
 use Rattle.vk_spec.proofs.StateLemmas.{told_before}
 use Rattle.vk_spec.proofs.ReadingLemmas.{fails_on, gives_then}
 use Rattle.vk_json.specs.declared.faults.FileFault.{FileFault}
-use Rattle.vk_base.specs.Stops.{stop_fault_in, has_failed}
-use Rattle.vk_base.specs.declared.stops.Stop.TheVariants as stop
+use Rattle.vk_base.specs.Stops.{has_failed}
 use Rattle.vk_files.specs.Kept.{Seen, Kept, seen_at, paths_of, IsOf, IsSeen, Held, ReadOnce}
 use Rattle.vk_base.specs.Stops.{fault_seen}
 use Rattle.vk_files.specs.Views.{kept_at, same_path}
@@ -69,15 +68,6 @@ reads_stopped {refusal = refusal} {s = s} {meaning = meaning} {a = a} next_view 
     all : (told : Option Told) → IfSome told (λ t. IsOf t.files a.kept → Fails (fault_seen refusal s) (meaning t.files)) → IfSome told (λ t. IsOf t.files a.kept → Fails (fault_seen refusal s) (meaning t.files >>= λ y. next y t.files))
     all None fails = tt
     all (Some t) fails = λ old. fails_on (fault_seen refusal s) (meaning t.files) (λ y. next y t.files) (fails old)
-
-no_fault : {F P : Type 0} (refusal : F → P) (s : Stop F) → stop_fault_in s ≡ None → fault_seen refusal s ≡ None
-no_fault refusal (stop.Fault fault) none = (cc)
-no_fault refusal stop.Failed none = refl
-no_fault refusal (stop.Memory m) none = refl
-
--- a path that wasn't looked at tells nothing
-pub not_looked : {X Y F P : Type 0} (refusal : F → P) (view : X → Y) (meaning : Files → Result Y P) (s : Stop F) (a b : Held) → stop_fault_in s ≡ None → ReadOnce (has_failed {A = X} (Err s)) a b → ReadsAs {X = X} refusal view (Err s) meaning a b
-not_looked refusal view meaning s a b none once = record { once = once; content = of_each a.tree.told (λ t _. rw (no_fault refusal s none) tt) }
 
 seen_there : (path : Path) (seen : Seen) (files : Files) (kept : Kept) → IsOf files kept → kept_at path kept ≡ Some seen → seen ≡ seen_at path files
 seen_there path seen files kept right found = right_found (IsSeen files) same_path path_is kept path seen right found

@@ -7,7 +7,7 @@ use Rattle.vk_spec.specs.Files.{Files}
 use Rattle.vk_spec.proofs.OptionLemmas.{of_each, of_both}
 use Rattle.vk_spec.proofs.StateLemmas.{told_before}
 use Rattle.vk_files.specs.Kept.{paths_of, IsOf, Held, ReadOnce}
-use Rattle.vk_files.specs.Readings.{ReadsAs, ReadsNoting}
+use Rattle.vk_files.specs.Readings.{ReadsAs}
 use Rattle.vk_base.specs.declared.stops.Stop.{Stop}
 use Rattle.vk_base.specs.declared.memory.Memory.{Memory}
 use Rattle.vk_base.specs.declared.stops.Stop.TheVariants as stop
@@ -32,13 +32,3 @@ once_lacking {X = X} {refusal = refusal} {view = view} {answer = answer} {meanin
 -- memory ran out before anything was read
 pub reads_wanting : {X Y F P : Type 0} {refusal : F → P} {view : X → Y} {answer : Result X (Stop F)} {meaning : Files → Result Y P} {h : Held} {m : Memory} → IsErrAnd answer (λ e. e ≡ stop.Memory m) → ReadsAs refusal view answer meaning h h
 reads_wanting {h = h} is = once_lacking (nothing_read h) is
-
--- the same of a reader that keeps notes, where they are as right as before
-pub noting_lacking : {X Y F P : Type 0} {refusal : F → P} {view : X → Y} {answer : Result X (Stop F)} {meaning : Files → Result Y P} {Before After : Files → Type 0} {a b : Held} {m : Memory}
-    → ReadOnce false a b → IsErrAnd answer (λ e. e ≡ stop.Memory m) → ((f : Files) → Before f → After f) → ReadsNoting refusal view answer meaning Before After a b
-noting_lacking {X = X} {refusal = refusal} {view = view} {answer = answer} {meaning = meaning} {Before = Before} {After = After} {a = a} {b = b} {m = m} once is still =
-    let p = err_from_is_err_and answer is in
-    rw (p.1, p.2) lacking
-  where
-    lacking : ReadsNoting {X = X} refusal view (Err (stop.Memory m)) meaning Before After a b
-    lacking = record { once = once; content = of_each a.tree.told (λ t old before. (still t.files before, tt)) }

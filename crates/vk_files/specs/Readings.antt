@@ -68,8 +68,3 @@ is_at files path = is_there (standing_at path files)
 pub record ReadsAs {X Y F P : Type 0} (refusal : F → P) (view : X → Y) (answer : Result X (Stop F)) (meaning : Files → Result Y P) (before after : Held) : Type 0 where
   pub once : ReadOnce (has_failed answer) before after
   pub content : IfSome before.tree.told (λ t. IsOf t.files before.kept → Gives view (fault_seen refusal) answer (meaning t.files))
-
--- the same of a reader that keeps notes besides: where the notes were right, they are right after it, and the answer is what the files give
-pub record ReadsNoting {X Y F P : Type 0} (refusal : F → P) (view : X → Y) (answer : Result X (Stop F)) (meaning : Files → Result Y P) (Before After : Files → Type 0) (before after : Held) : Type 0 where
-  pub once : ReadOnce (has_failed answer) before after
-  pub content : IfSome before.tree.told (λ t. IsOf t.files before.kept → Before t.files → After t.files × Gives view (fault_seen refusal) answer (meaning t.files))

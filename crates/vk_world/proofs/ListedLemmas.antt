@@ -30,9 +30,6 @@ own_row : (v : Version) (m : Manifest Condition) (b : Bool) → (if b then Some 
 own_row v m true = refl
 own_row v m false = refl
 
-pub own_on_page : (port : List ℕ) (files : Files) (folder : Path) (v : Version) (m : Manifest Condition) (ask : Ask) → (if same_ask (ask_of v) ask then Some v else None) ≡ version_in (page_at port files (Ok (in_overlay folder v m))) ask
-own_on_page port files folder v m ask = own_row v m (same_ask (ask_of v) ask)
-
 twice : {X Y Z : Type 0} (f : X → Y) (g : Y → Z) (o : Option X) → option_map g (option_map f o) ≡ option_map (λ x. g (f x)) o
 twice f g None = refl
 twice f g (Some x) = refl
