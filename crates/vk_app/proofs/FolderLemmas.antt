@@ -1,6 +1,6 @@
 -- The folders of a plan's items.
 use Rattle.std.proofs.Common.{◌≡◌, ◌<◌, ◌∷◌, ◌++◌, ◌+◌, ℕ, Bool, true, false, not, cond, List, [], length, map, take, get_or, refl, ap, sym, subst, ◌∙◌}
-use Rattle.std.specs.Prelude.{Option, Some, None, IfSome, IsOk, Result, Ok, Err, option_map, nat_lt}
+use Rattle.std.specs.Prelude.{Option, Some, None, IfSome, IsOk, Result, Ok, Err, nat_lt}
 use Rattle.std.specs.List.{Contains, position, prefix_len}
 use Rattle.std.proofs.lemmas.List.{length-map, map-append, take_more}
 use Rattle.std.proofs.lemmas.List.Elements.{Contains-get_or}
@@ -30,7 +30,6 @@ use Rattle.vk_spec.specs.Catalogues.{CatalogueState, OnlyAsked, OnPages, Origin}
 use Rattle.vk_spec.proofs.OptionLemmas.{of_each, of_both}
 use Rattle.vk_resolution.proofs.Members.{map_contains}
 use Rattle.std.proofs.lemmas.Option.{IfSome_then}
-use Rattle.vk_spec.specs.Files.{Files}
 use Rattle.vk_spec.specs.States.{State, Told}
 use Rattle.vk_base.specs.declared.stops.Stop.{Stop}
 use Rattle.vk_model.specs.FaultViews.{item_view}
@@ -40,7 +39,7 @@ use Rattle.vk_model.specs.declared.plans.Outcome.{Outcome}
 use Rattle.vk_model.specs.declared.plans.Outcome.TheVariants as outcome
 use Rattle.vk_opening.specs.Starts.{Start}
 use Rattle.vk_pages.specs.Homes.{home_of}
-use Rattle.vk_pages.specs.Pages.{page_at, page_of}
+use Rattle.vk_pages.specs.Pages.{page_of}
 use Rattle.vk_pages.proofs.PageLaws.{is_page}
 use Rattle.vk_world.specs.Worlds.{WorldView, pages_in, places_in, start_in, state_of}
 use Rattle.vk_world.proofs.ListedLemmas.{version_stands}

@@ -9,7 +9,7 @@ ghost use Rattle.vk_files.specs.Within.{LooksWithin};
 ghost use Rattle.vk_base.specs.Stops.{has_failed};
 ghost use Rattle.vk_base.specs.Stops.{fault_seen};
 ghost use Rattle.vk_files.specs.Readings.{ReadsAs};
-ghost use Rattle.vk_pages.specs.Homes.{given_by, home_with, served_home, registry_home};
+ghost use Rattle.vk_pages.specs.Homes.{given_by, table_in, served_home, registry_home};
 ghost use Rattle.vk_registry.specs.RegistryFiles.{table_path};
 ghost use Rattle.vk_pages.specs.Asked.{given_paths, served_paths, registry_paths};
 ghost use Rattle.vk_pages.specs.Finds.{Finds};
@@ -25,7 +25,7 @@ use std::alloc::Global;
 use vk_base::{PortName, Stop};
 use vk_catalogue::{Given, Wrong};
 use vk_files::FileCache;
-use vk_registry::table_path;
+use vk_registry::{Table, table_path};
 use vk_tree::Tree;
 use vk_version::Ask;
 
@@ -59,29 +59,22 @@ fn given_by<T: Tree>(
     }
 }
 
-// The home in a registry, where this is given.
+// The versions file of a port in a registry.
 #[tactic(auto, using(vk_files::proofs::WithinLemmas::nothing_since))]
-fn home_with<T: Tree>(
+fn table_in<T: Tree>(
     alloc: Global,
-    given: Given,
-    served: Served,
+    served: &Served,
     files: &mut FileCache,
     tree: &mut T,
     port: &PortName,
-) -> Result<Home, Stop<Wrong>>
-    ensures reads { ReadsAs wrong_view home_view result
-        (home_with (given_view given) (served_view served) port.now)
+) -> Result<Table, Stop<Wrong>>
+    ensures reads { ReadsAs wrong_view (λ t. t) result (table_in (served_view served.now) port.now)
         (held files.old (T.state tree.old)) (held files.new (T.state tree.new)) }
-    ensures asked { LooksWithin (table_path port.now served.folder ∷ [])
+    ensures asked { LooksWithin (table_path port.now served.now.folder ∷ [])
         (kept_of files.old) (kept_of files.new) }
 {
     let path = table_path(alloc, &served.folder, port)?;
-    let table = content(alloc, files, tree, &path, &PortTable)?;
-    Ok(Home::Registry {
-        given,
-        folder: served.folder,
-        table,
-    })
+    content(alloc, files, tree, &path, &PortTable)
 }
 
 // A port in a registry, for which something may be set.
@@ -101,7 +94,12 @@ fn served_home<T: Tree>(
         (held files.old (T.state tree.old)) (held files.new (T.state tree.new)) }
 {
     let given = given_by(alloc, set, &served, files, baselines, tree, port)?;
-    home_with(alloc, given, served, files, tree, port)
+    let table = table_in(alloc, &served, files, tree, port)?;
+    Ok(Home::Registry {
+        given,
+        folder: served.folder,
+        table,
+    })
 }
 
 /// The home of a port in the registry that serves it. `Fault` says that none does, that its
