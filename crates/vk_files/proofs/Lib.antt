@@ -3,6 +3,6 @@ pub mod NotedLemmas
 pub mod OnceLemmas
 pub mod CacheLemmas
 pub mod ReadLemmas
-pub mod ReadMore
 pub mod WithinLemmas
+pub mod FindLemmas
 pub mod FirstLemmas

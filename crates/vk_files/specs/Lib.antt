@@ -2,6 +2,7 @@
 pub mod Kept
 pub mod Readings
 pub mod Within
+pub mod Finds
 -- what functions, laws and examples say besides
 pub mod Notes
 pub mod ReadFaults

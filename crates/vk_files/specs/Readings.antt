@@ -1,16 +1,12 @@
--- What files of a tree mean, and what reading them answers and leaves.
-use Rattle.std.specs.Prelude.{◌≡◌, ℕ, Bool, true, false, List, Option, Some, IfSome, Result, Ok, Err}
+-- What files of a tree mean.
+use Rattle.std.specs.Prelude.{◌≡◌, ℕ, Bool, true, false, List, Option, Some, Result, Ok, Err}
 use Rattle.vk_spec.specs.Paths.{Path}
 use Rattle.vk_spec.specs.Files.{Files}
-use Rattle.vk_spec.specs.Reading.{Gives}
 use Rattle.vk_json.specs.declared.faults.FileFault.{FileFault}
-use Rattle.vk_base.specs.Stops.{has_failed}
 use Rattle.vk_json.specs.Places.{here}
 use Rattle.vk_json.specs.declared.faults.Why.{Why}
 use Rattle.vk_json.specs.declared.faults.Why.TheVariants as why
-use Rattle.vk_files.specs.Kept.{Seen, absent, too_large, holds, seen_at, IsOf, Held, ReadOnce}
-use Rattle.vk_base.specs.Stops.{fault_seen}
-use Rattle.vk_base.specs.declared.stops.Stop.{Stop}
+use Rattle.vk_files.specs.Kept.{Seen, absent, too_large, holds, seen_at}
 use Rattle.vk_files.specs.declared.bad_files.BadFile.{BadFile}
 
 -- a file that isn't as it has to be: its path, the place in it, and why
@@ -63,8 +59,3 @@ is_there readable = true
 
 abbrev pub is_at : Files → Path → Bool
 is_at files path = is_there (standing_at path files)
-
--- nothing but reading was done, and what was found is kept; and where the files are told and what was kept is theirs, the answer is what they give
-pub record ReadsAs {X Y F P : Type 0} (refusal : F → P) (view : X → Y) (answer : Result X (Stop F)) (meaning : Files → Result Y P) (before after : Held) : Type 0 where
-  pub once : ReadOnce (has_failed answer) before after
-  pub content : IfSome before.tree.told (λ t. IsOf t.files before.kept → Gives view (fault_seen refusal) answer (meaning t.files))

@@ -1,19 +1,14 @@
 -- Which paths were looked at: they are among those of a list.
-use Rattle.std.specs.Prelude.{◌≡◌, ◌++◌, Bool, List, [], ◌∷◌, IfSome, Result, Ok, Err, if◌then◌else◌}
+use Rattle.std.specs.Prelude.{◌≡◌, ◌++◌, Bool, List, [], ◌∷◌, Result, Ok, Err, if◌then◌else◌}
 use Rattle.vk_spec.specs.Lists.{IsWithin}
 use Rattle.vk_spec.specs.Paths.{Path}
-use Rattle.vk_spec.specs.Files.{Files}
-use Rattle.vk_files.specs.Kept.{Kept, paths_of, IsOf, Held}
+use Rattle.vk_files.specs.Kept.{Kept, paths_of}
 
 -- each path that was looked at since is one of these
 pub record LooksWithin (paths : List Path) (before after : Kept) : Type 0 where
   pub more : Kept
   pub kept : after ≡ before ++ more
   pub within : IsWithin (paths_of more) paths
-
--- the same of the paths that the files give, where they are told and what was kept is theirs
-pub record LooksWhere (paths : Files → List Path) (before after : Held) : Type 0 where
-  pub within : IfSome before.tree.told (λ t. IsOf t.files before.kept → LooksWithin (paths t.files) before.kept after.kept)
 
 -- the paths that are asked for after something was read, and none where it has a fault
 abbrev pub paths_after : {A P : Type 0} → Result A P → (A → List Path) → List Path

@@ -1,13 +1,13 @@
 -- What was read of a project is what is answered.
-use Rattle.std.proofs.Common.{◌≡◌, ℕ, List, [], map, refl, ap, sym, subst, ◌∙◌}
+use Rattle.std.proofs.Common.{◌≡◌, ℕ, List, [], ◌++◌, map, refl, ap, sym, subst, ◌∙◌}
 use Rattle.std.specs.Prelude.{IfSome, IfOk, Option, Result, Ok, Err}
-use Rattle.vk_spec.specs.Files.{Files}
-use Rattle.vk_spec.specs.Lists.{NoRepeats}
+use Rattle.vk_spec.specs.Paths.{Path}
+use Rattle.vk_spec.specs.Lists.{NoRepeats, IsWithin}
 use Rattle.vk_spec.specs.States.{State, OnlyRead}
 use Rattle.vk_files.specs.Kept.{Kept, paths_of, IsOf, Held, ReadOnce}
 use Rattle.vk_files.specs.Views.{kept_of}
-use Rattle.vk_files.specs.Readings.{ReadsAs}
-use Rattle.vk_files.specs.Within.{LooksWhere}
+use Rattle.vk_files.specs.Within.{LooksWithin}
+use Rattle.vk_files.specs.Finds.{ReadsFrom}
 use Rattle.vk_files.specs.declared.caches.FileCache.{FileCache}
 use Rattle.vk_base.specs.declared.stops.Stop.{Stop}
 use Rattle.vk_base.specs.declared.stops.Stop.TheVariants as stop
@@ -17,7 +17,6 @@ use Rattle.vk_model.specs.declared.projects.Store.{Store}
 use Rattle.vk_config.specs.Configs.{Config}
 use Rattle.vk_opening.specs.Asked.{paths_with}
 use Rattle.vk_opening.specs.Openings.{opening_with, opened_with}
-use Rattle.vk_opening.proofs.AskedLemmas.{all_asked}
 use Rattle.vk_model.specs.EarlyViews.{early_view}
 use Rattle.vk_opening.specs.OpeningViews.{opening_found, opening_view, answer_of, AreOffIn}
 use Rattle.vk_base.specs.declared.instances.Instance.{Instance}
@@ -57,19 +56,6 @@ pub found_is : (project : Project) (root : Manifest) (config : Config) (found : 
     ≡ opening_found project (manifest_view root) config found
 found_is project root config found folder overrides features = rw (folder, overrides, features) refl
 
--- a stop is the same under any view
-pub reads_err : {X Y Z F P : Type 0} {refusal : F → P} {view : X → Y} {s : Stop F} {meaning : Files → Result Y P} {a b : Held}
-    (next_view : Z → Y) → ReadsAs {X = X} refusal view (Err s) meaning a b → ReadsAs {X = Z} refusal next_view (Err s) meaning a b
-reads_err next_view one = record { once = one.once; content = one.content }
-
--- the last step of reading, which needs no file
-pub reads_last : {X Y Z F P : Type 0} {refusal : F → P} {view : X → Y} {x : X} {meaning : Files → Result Y P} {a b : Held}
-    (next_view : Z → Y) (z : Z) → next_view z ≡ view x → ReadsAs refusal view (Ok x) meaning a b → ReadsAs refusal next_view (Ok z) meaning a b
-reads_last {meaning = meaning} {a = a} next_view z same one = record {
-  once = one.once;
-  content = of_both a.tree.told one.content one.content (λ t is _ old. is old ∙ ap Ok (sym same));
-}
-
 -- the off list that is made of a setting is its own
 pub lists_own : (setting : Setting) (off : Result (List Instance) Memory)
     → IfOk off (λ l. (o : List plain.Instance) (most : ℕ) → IsListing instance_key (IsOff (setting_of (manifest_view setting.root) (meaning_of setting.target) (meaning_of setting.host) (map feature_view setting.features) setting.defaults o most)) (map instance_view l))
@@ -100,18 +86,23 @@ tells_read (Err (stop.Fault early)) off files given lists gives = gives
 tells_read (Err stop.Failed) off files given lists gives = tt
 tells_read (Err (stop.Memory m)) off files given lists gives = tt
 
+-- all that was kept was looked at since nothing was
+all_within : (paths : List Path) (kept now : Kept) → kept ≡ [] → LooksWithin paths kept now → IsWithin (paths_of now) paths
+all_within paths kept now none looks = subst (λ k. IsWithin (paths_of k) paths) (sym (looks.kept ∙ ap (λ k. k ++ looks.more) none)) looks.within
+
 pub opens_with : (project : Project) (store : Option Store) (read : Result Opening (Stop Early)) (off : Result (List Instance) Memory) (files : FileCache) (before after : State) (kept : Kept) → kept ≡ [] → NoRepeats (paths_of (kept_of files))
     → IfOk off (AreOffIn read)
-    → ReadsAs early_view opening_view read (opened_with project store) (record { kept = kept; tree = before }) (record { kept = kept_of files; tree = after })
-    → LooksWhere (paths_with project store) (record { kept = kept; tree = before }) (record { kept = kept_of files; tree = after }) → Opens project store (answer_of read off files) before after
-opens_with project store read off files before after kept none distinct lists r w = record {
-  read = kept_of files;
-  once = subst (λ f. ReadOnce f (record { kept = []; tree = before }) (record { kept = kept_of files; tree = after })) (fails_as read off files) (rw none at r.once);
-  distinct = distinct;
-  within = all_asked (paths_with project store) before after kept (kept_of files) none w;
-  kept = keeps_files read off files;
-  content = of_both before.told r.content r.content (λ t is _. tells_read read off files (opened_with project store t.files) lists (is (rw none tt)));
-}
+    → ReadsFrom early_view opening_view read (opened_with project store) (paths_with project store) (record { kept = kept; tree = before }) (record { kept = kept_of files; tree = after })
+    → Opens project store (answer_of read off files) before after
+opens_with project store read off files before after kept none distinct lists r =
+    let learned = of_both before.told r.reads.learned r.reads.learned (λ t all _. all (rw none tt) tt) in record {
+      read = kept_of files;
+      once = subst (λ f. ReadOnce f (record { kept = []; tree = before }) (record { kept = kept_of files; tree = after })) (fails_as read off files) (rw none at r.reads.once);
+      distinct = distinct;
+      within = of_both before.told learned learned (λ t all _. all_within (paths_with project store t.files) kept (kept_of files) none all.within);
+      kept = keeps_files read off files;
+      content = of_both before.told learned learned (λ t all _. tells_read read off files (opened_with project store t.files) lists all.holds);
+    }
 
 -- what a caller has of it: nothing but reading was done, no path twice, and what was read is the files'
 pub only_read : {project : Project} {store : Option Store} {answer : Result Opened Outage} {before after : State} → Opens project store answer before after → OnlyRead (was_out answer) before after

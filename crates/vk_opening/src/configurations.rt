@@ -4,12 +4,12 @@ ghost use Rattle.vk_spec.specs.Reading.{Gives};
 ghost use Rattle.vk_config.specs.Configs as plain;
 ghost use Rattle.vk_config.specs.Readings.{config_of};
 ghost use Rattle.vk_config.specs.Views.{config_view, embedded_view};
-ghost use Rattle.vk_files.specs.Views.{held, kept_of};
-ghost use Rattle.vk_files.specs.Within.{LooksWithin};
+ghost use Rattle.vk_files.specs.Views.{held};
+ghost use Rattle.vk_files.specs.Finds.{ReadsFrom};
 ghost use Rattle.vk_base.specs.Stops.{has_failed};
 ghost use Rattle.vk_base.specs.Stops.{fault_seen};
 ghost use Rattle.vk_files.specs.StandingViews.{standing_view};
-ghost use Rattle.vk_files.specs.Readings.{ReadsAs, told_at};
+ghost use Rattle.vk_files.specs.Readings.{told_at};
 ghost use Rattle.vk_model.specs.EarlyViews.{early_view};
 ghost use Rattle.vk_opening.specs.Projects.{manifest_path, config_path};
 ghost use Rattle.vk_opening.specs.Roots.{or_early, early_at};
@@ -101,11 +101,9 @@ fn config_file<T: Tree>(
     tree: &mut T,
     folder: &TreePath,
 ) -> Result<Config, Stop<Early>>
-    ensures reads { ReadsAs early_view config_view result
-        (early_at config_of (config_path folder.now)) (held files.old (T.state tree.old))
+    ensures { ReadsFrom early_view config_view result (early_at config_of (config_path folder.now))
+        (λ f. config_path folder.now ∷ []) (held files.old (T.state tree.old))
         (held files.new (T.state tree.new)) }
-    ensures within { LooksWithin (config_path folder.now ∷ [])
-        (kept_of files.old) (kept_of files.new) }
 {
     let path = config_path(alloc, folder)?;
     read_early(alloc, files, tree, &path, &ConfigFile)
@@ -119,11 +117,9 @@ fn alone_in<T: Tree>(
     folder: &TreePath,
     own: &OwnConfiguration,
 ) -> Result<Config, Stop<Early>>
-    ensures reads { ReadsAs early_view config_view result
-        (alone_in folder.now (configuration_view own.now))
+    ensures { ReadsFrom early_view config_view result
+        (alone_in folder.now (configuration_view own.now)) (λ f. config_path folder.now ∷ [])
         (held files.old (T.state tree.old)) (held files.new (T.state tree.new)) }
-    ensures within { LooksWithin (config_path folder.now ∷ [])
-        (kept_of files.old) (kept_of files.new) }
 {
     if own.is_there {
         return Err(Stop::Fault(Early::TwoConfigurations));
@@ -140,11 +136,10 @@ fn config_by<T: Tree>(
     folder: &TreePath,
     own: OwnConfiguration,
 ) -> Result<Config, Stop<Early>>
-    ensures reads { ReadsAs early_view config_view result
+    ensures { ReadsFrom early_view config_view result
         (config_by (standing_view standing) folder.now (configuration_view own))
-        (held files.old (T.state tree.old)) (held files.new (T.state tree.new)) }
-    ensures within { LooksWithin (config_path folder.now ∷ [])
-        (kept_of files.old) (kept_of files.new) }
+        (λ f. config_path folder.now ∷ []) (held files.old (T.state tree.old))
+        (held files.new (T.state tree.new)) }
 {
     match standing {
         Standing::Missing => embedded_in(alloc, folder, own),
@@ -161,11 +156,9 @@ pub fn read_configuration<T: Tree>(
     folder: &TreePath,
     own: OwnConfiguration,
 ) -> Result<Config, Stop<Early>>
-    ensures reads { ReadsAs early_view config_view result
-        (config_in folder.now (configuration_view own))
+    ensures { ReadsFrom early_view config_view result
+        (config_in folder.now (configuration_view own)) (λ f. config_path folder.now ∷ [])
         (held files.old (T.state tree.old)) (held files.new (T.state tree.new)) }
-    ensures within { LooksWithin (config_path folder.now ∷ [])
-        (kept_of files.old) (kept_of files.new) }
 {
     let path = config_path(alloc, folder)?;
     let standing = standing(files, tree, &path)?;

@@ -1,8 +1,7 @@
 //! Opening a project.
 ghost use Rattle.std.specs.Prelude.{◌≡◌, ◌∷◌, [], IfOk, Some, map, option_map};
-ghost use Rattle.vk_files.specs.Views.{held, kept_of};
-ghost use Rattle.vk_files.specs.Within.{LooksWithin, LooksWhere};
-ghost use Rattle.vk_files.specs.Readings.{ReadsAs};
+ghost use Rattle.vk_files.specs.Views.{held};
+ghost use Rattle.vk_files.specs.Finds.{ReadsFrom};
 ghost use Rattle.vk_config.specs.Views.{config_view};
 ghost use Rattle.vk_model.specs.EarlyViews.{early_view};
 ghost use Rattle.vk_opening.specs.Projects.{manifest_path};
@@ -82,11 +81,9 @@ fn read_root<T: Tree>(
     tree: &mut T,
     folder: &TreePath,
 ) -> Result<Root, Stop<Early>>
-    ensures reads { ReadsAs early_view root_view result
-        (early_at root_in (manifest_path folder.now)) (held files.old (T.state tree.old))
+    ensures { ReadsFrom early_view root_view result (early_at root_in (manifest_path folder.now))
+        (λ f. manifest_path folder.now ∷ []) (held files.old (T.state tree.old))
         (held files.new (T.state tree.new)) }
-    ensures within { LooksWithin (manifest_path folder.now ∷ [])
-        (kept_of files.old) (kept_of files.new) }
 {
     let path = manifest_path(alloc, folder)?;
     read_early(alloc, files, tree, &path, &RootFile)
@@ -100,11 +97,10 @@ fn triplets_of<T: Tree>(
     project: &Project,
     config: &Config,
 ) -> Result<Triplets, Stop<Early>>
-    ensures reads { ReadsAs early_view triplets_view result
+    ensures { ReadsFrom early_view triplets_view result
         (triplets_of project.now (config_view config.now))
-        (held files.old (T.state tree.old)) (held files.new (T.state tree.new)) }
-    ensures within { LooksWhere (triplets_asked project.now (config_view config.now))
-        (held files.old (T.state tree.old)) (held files.new (T.state tree.new)) }
+        (triplets_asked project.now (config_view config.now)) (held files.old (T.state tree.old))
+        (held files.new (T.state tree.new)) }
 {
     let configured = config.overlay_triplets.as_slice();
     let folders = folders(
@@ -131,11 +127,10 @@ fn overlays_of<T: Tree>(
     project: &Project,
     config: &Config,
 ) -> Result<List<Overlay>, Stop<Early>>
-    ensures reads { ReadsAs early_view (λ l. map overlay_view l) result
+    ensures { ReadsFrom early_view (λ l. map overlay_view l) result
         (overlays_of project.now (config_view config.now))
-        (held files.old (T.state tree.old)) (held files.new (T.state tree.new)) }
-    ensures within { LooksWhere (overlays_asked project.now (config_view config.now))
-        (held files.old (T.state tree.old)) (held files.new (T.state tree.new)) }
+        (overlays_asked project.now (config_view config.now)) (held files.old (T.state tree.old))
+        (held files.new (T.state tree.new)) }
 {
     let configured = config.overlay_ports.as_slice();
     let words = project.overlay_ports.as_slice();
@@ -166,12 +161,11 @@ fn read_found<T: Tree>(
     root: &Manifest,
     config: &Config,
 ) -> Result<Found, Stop<Early>>
-    ensures reads { ReadsAs early_view
+    ensures { ReadsFrom early_view
         (opening_found project.now (manifest_view root.now) (config_view config.now)) result
         (after_config project.now (manifest_view root.now) (config_view config.now))
-        (held files.old (T.state tree.old)) (held files.new (T.state tree.new)) }
-    ensures within { LooksWhere (found_paths project.now (config_view config.now))
-        (held files.old (T.state tree.old)) (held files.new (T.state tree.new)) }
+        (found_paths project.now (config_view config.now)) (held files.old (T.state tree.old))
+        (held files.new (T.state tree.new)) }
 {
     let own = own_of(alloc, project, root)?;
     let triplets = triplets_of(alloc, files, tree, project, config)?;
@@ -224,11 +218,9 @@ fn read_rest<T: Tree>(
     project: &Project,
     root: Root,
 ) -> Result<Opening, Stop<Early>>
-    ensures reads { ReadsAs early_view opening_view result
-        (after_root project.now (root_view root))
-        (held files.old (T.state tree.old)) (held files.new (T.state tree.new)) }
-    ensures within { LooksWhere (rest_paths project.now (root_view root))
-        (held files.old (T.state tree.old)) (held files.new (T.state tree.new)) }
+    ensures { ReadsFrom early_view opening_view result (after_root project.now (root_view root))
+        (rest_paths project.now (root_view root)) (held files.old (T.state tree.old))
+        (held files.new (T.state tree.new)) }
 {
     let Root {
         manifest,
@@ -245,10 +237,9 @@ fn read_opening<T: Tree>(
     tree: &mut T,
     project: &Project,
 ) -> Result<Opening, Stop<Early>>
-    ensures reads { ReadsAs early_view opening_view result (opened_of project.now)
-        (held files.old (T.state tree.old)) (held files.new (T.state tree.new)) }
-    ensures within { LooksWhere (opening_paths project.now)
-        (held files.old (T.state tree.old)) (held files.new (T.state tree.new)) }
+    ensures { ReadsFrom early_view opening_view result (opened_of project.now)
+        (opening_paths project.now) (held files.old (T.state tree.old))
+        (held files.new (T.state tree.new)) }
 {
     let root = read_root(alloc, files, tree, &project.folder)?;
     read_rest(alloc, files, tree, project, root)
@@ -263,10 +254,9 @@ fn stored<T: Tree>(
     store: &Store,
     opening: Opening,
 ) -> Result<Opening, Stop<Early>>
-    ensures reads { ReadsAs early_view opening_view result
+    ensures { ReadsFrom early_view opening_view result
         (stored project.now store.now (opening_view opening))
-        (held files.old (T.state tree.old)) (held files.new (T.state tree.new)) }
-    ensures within { LooksWhere (stored_paths project.now store.now (config_view opening.config))
+        (stored_paths project.now store.now (config_view opening.config))
         (held files.old (T.state tree.old)) (held files.new (T.state tree.new)) }
 {
     match check_store(alloc, files, tree, project, store, &opening.config) {
@@ -286,11 +276,9 @@ fn read_stored<T: Tree>(
     project: &Project,
     store: &Store,
 ) -> Result<Opening, Stop<Early>>
-    ensures reads { ReadsAs early_view opening_view result
-        (opened_with project.now (Some store.now)) (held files.old (T.state tree.old))
+    ensures { ReadsFrom early_view opening_view result (opened_with project.now (Some store.now))
+        (paths_with project.now (Some store.now)) (held files.old (T.state tree.old))
         (held files.new (T.state tree.new)) }
-    ensures within { LooksWhere (paths_with project.now (Some store.now))
-        (held files.old (T.state tree.old)) (held files.new (T.state tree.new)) }
 {
     let opening = read_opening(alloc, files, tree, project)?;
     stored(alloc, files, tree, project, store, opening)
@@ -303,10 +291,9 @@ fn read_with<T: Tree>(
     project: &Project,
     store: Option<&Store>,
 ) -> Result<Opening, Stop<Early>>
-    ensures reads { ReadsAs early_view opening_view result
+    ensures { ReadsFrom early_view opening_view result
         (opened_with project.now (option_map (λ s. s.now) store.entry))
-        (held files.old (T.state tree.old)) (held files.new (T.state tree.new)) }
-    ensures within { LooksWhere (paths_with project.now (option_map (λ s. s.now) store.entry))
+        (paths_with project.now (option_map (λ s. s.now) store.entry))
         (held files.old (T.state tree.old)) (held files.new (T.state tree.new)) }
 {
     match store {

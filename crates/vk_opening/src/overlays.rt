@@ -1,9 +1,8 @@
 //! The folders that stand before every registry.
 ghost use Rattle.std.specs.Prelude.{◌∷◌, [], map};
-ghost use Rattle.vk_files.specs.Views.{held, kept_of};
-ghost use Rattle.vk_files.specs.Within.{LooksWithin, LooksWhere};
+ghost use Rattle.vk_files.specs.Views.{held};
+ghost use Rattle.vk_files.specs.Finds.{ReadsFrom};
 ghost use Rattle.vk_files.specs.StandingViews.{standing_view};
-ghost use Rattle.vk_files.specs.Readings.{ReadsAs};
 ghost use Rattle.vk_model.specs.EarlyViews.{early_view};
 ghost use Rattle.vk_model.specs.Views.{manifest_view};
 ghost use Rattle.vk_opening.specs.Overlays.{port_at, overlay_by, overlay_at, overlays_at};
@@ -30,11 +29,9 @@ fn port_manifest<T: Tree>(
     tree: &mut T,
     folder: &TreePath,
 ) -> Result<Rc<Manifest>, Stop<Early>>
-    ensures reads { ReadsAs early_view (λ m. is_port folder.now (manifest_view m.value)) result
-        (port_at folder.now) (held files.old (T.state tree.old))
-        (held files.new (T.state tree.new)) }
-    ensures within { LooksWithin (manifest_path folder.now ∷ [])
-        (kept_of files.old) (kept_of files.new) }
+    ensures { ReadsFrom early_view (λ m. is_port folder.now (manifest_view m.value)) result
+        (port_at folder.now) (λ f. manifest_path folder.now ∷ [])
+        (held files.old (T.state tree.old)) (held files.new (T.state tree.new)) }
 {
     let path = manifest_path(alloc, folder)?;
     let manifest = read_early(alloc, files, tree, &path, &PortFile)?;
@@ -48,10 +45,9 @@ fn port_at<T: Tree>(
     tree: &mut T,
     folder: TreePath,
 ) -> Result<Overlay, Stop<Early>>
-    ensures reads { ReadsAs early_view overlay_view result (port_at folder)
-        (held files.old (T.state tree.old)) (held files.new (T.state tree.new)) }
-    ensures within { LooksWithin (manifest_path folder ∷ [])
-        (kept_of files.old) (kept_of files.new) }
+    ensures { ReadsFrom early_view overlay_view result (port_at folder)
+        (λ f. manifest_path folder ∷ []) (held files.old (T.state tree.old))
+        (held files.new (T.state tree.new)) }
 {
     let manifest = port_manifest(alloc, files, tree, &folder)?;
     Ok(Overlay::Port(folder, manifest))
@@ -65,11 +61,9 @@ fn overlay_by<T: Tree>(
     standing: Standing,
     folder: TreePath,
 ) -> Result<Overlay, Stop<Early>>
-    ensures reads { ReadsAs early_view overlay_view result
-        (overlay_by (standing_view standing) folder) (held files.old (T.state tree.old))
+    ensures { ReadsFrom early_view overlay_view result (overlay_by (standing_view standing) folder)
+        (λ f. manifest_path folder ∷ []) (held files.old (T.state tree.old))
         (held files.new (T.state tree.new)) }
-    ensures within { LooksWithin (manifest_path folder ∷ [])
-        (kept_of files.old) (kept_of files.new) }
 {
     match standing {
         Standing::Missing => Ok(Overlay::Ports(folder)),
@@ -84,10 +78,9 @@ fn overlay_at<T: Tree>(
     tree: &mut T,
     folder: TreePath,
 ) -> Result<Overlay, Stop<Early>>
-    ensures reads { ReadsAs early_view overlay_view result (overlay_at folder)
-        (held files.old (T.state tree.old)) (held files.new (T.state tree.new)) }
-    ensures within { LooksWithin (manifest_path folder ∷ [])
-        (kept_of files.old) (kept_of files.new) }
+    ensures { ReadsFrom early_view overlay_view result (overlay_at folder)
+        (λ f. manifest_path folder ∷ []) (held files.old (T.state tree.old))
+        (held files.new (T.state tree.new)) }
 {
     let path = manifest_path(alloc, &folder)?;
     let standing = standing(files, tree, &path)?;
@@ -101,10 +94,9 @@ pub fn read_overlays<T: Tree>(
     tree: &mut T,
     folders: List<TreePath>,
 ) -> Result<List<Overlay>, Stop<Early>>
-    ensures reads { ReadsAs early_view (λ l. map overlay_view l) result (overlays_at folders)
-        (held files.old (T.state tree.old)) (held files.new (T.state tree.new)) }
-    ensures within { LooksWhere (overlay_paths folders)
-        (held files.old (T.state tree.old)) (held files.new (T.state tree.new)) }
+    ensures { ReadsFrom early_view (λ l. map overlay_view l) result (overlays_at folders)
+        (overlay_paths folders) (held files.old (T.state tree.old))
+        (held files.new (T.state tree.new)) }
 {
     let mut overlays = List::new(alloc);
     for folder in folders.into_vec() {

@@ -1,12 +1,13 @@
 //! A file that is read, and its fault as an early line.
 ghost use Rattle.std.specs.Prelude.{◌≡◌, ◌∷◌, [], false, Ok, option_map};
 ghost use Rattle.std.specs.List.{find};
-ghost use Rattle.vk_files.specs.Views.{held, kept_of};
-ghost use Rattle.vk_files.specs.Within.{LooksWhere, LooksWithin, up_to_first};
+ghost use Rattle.vk_files.specs.Views.{held};
+ghost use Rattle.vk_files.specs.Within.{up_to_first};
+ghost use Rattle.vk_files.specs.Finds.{ReadsFrom};
 ghost use Rattle.vk_base.specs.Stops.{fault_in, is_failure};
 ghost use Rattle.vk_base.specs.Stops.{fault_seen};
 ghost use Rattle.vk_files.specs.StandingViews.{standing_view};
-ghost use Rattle.vk_files.specs.Readings.{ReadsAs, bad_view, is_at, standing_at};
+ghost use Rattle.vk_files.specs.Readings.{bad_view, is_at, standing_at};
 ghost use Rattle.vk_opening.specs.Roots.{line_of, early_at, line_at};
 ghost use Rattle.vk_model.specs.EarlyViews.{early_view};
 
@@ -51,9 +52,9 @@ pub fn read_early<R: FileReader, T: Tree>(
     path: &TreePath,
     reader: &R,
 ) -> Result<R::Out, Stop<Early>>
-    ensures reads { ReadsAs early_view R.plain result (early_at (R.reads reader.now) path.now)
-        (held files.old (T.state tree.old)) (held files.new (T.state tree.new)) }
-    ensures within { LooksWithin (path.now ∷ []) (kept_of files.old) (kept_of files.new) }
+    ensures { ReadsFrom early_view R.plain result (early_at (R.reads reader.now) path.now)
+        (λ f. path.now ∷ []) (held files.old (T.state tree.old))
+        (held files.new (T.state tree.new)) }
 {
     match files::read_file(alloc, files, tree, path, reader) {
         Ok(out) => Ok(out),
@@ -67,10 +68,9 @@ pub fn standing<T: Tree>(
     tree: &mut T,
     path: &TreePath,
 ) -> Result<Standing, Stop<Early>>
-    ensures reads { ReadsAs early_view standing_view result
-        (λ files. Ok (standing_at path.now files)) (held files.old (T.state tree.old))
+    ensures { ReadsFrom early_view standing_view result (λ files. Ok (standing_at path.now files))
+        (λ f. path.now ∷ []) (held files.old (T.state tree.old))
         (held files.new (T.state tree.new)) }
-    ensures within { LooksWithin (path.now ∷ []) (kept_of files.old) (kept_of files.new) }
 {
     match files::file_standing(files, tree, path) {
         Ok(standing) => Ok(standing),
@@ -80,9 +80,9 @@ pub fn standing<T: Tree>(
 
 // Whether a file stands at a path.
 fn is_at<T: Tree>(files: &mut FileCache, tree: &mut T, path: &TreePath) -> Result<bool, Stop<Early>>
-    ensures reads { ReadsAs early_view (λ there. there) result (λ files. Ok (is_at files path.now))
-        (held files.old (T.state tree.old)) (held files.new (T.state tree.new)) }
-    ensures within { LooksWithin (path.now ∷ []) (kept_of files.old) (kept_of files.new) }
+    ensures { ReadsFrom early_view (λ there. there) result (λ files. Ok (is_at files path.now))
+        (λ f. path.now ∷ []) (held files.old (T.state tree.old))
+        (held files.new (T.state tree.new)) }
 {
     let standing = standing(files, tree, path)?;
     Ok(standing.is_there())
@@ -95,10 +95,8 @@ pub fn first_file<'a, T: Tree>(
     tree: &mut T,
     paths: &'a [TreePath],
 ) -> Result<Option<&'a TreePath>, Stop<Early>>
-    ensures reads { ReadsAs early_view (option_map (λ path. path.now)) result
-        (λ files. Ok (find (is_at files) paths.now)) (held files.old (T.state tree.old))
-        (held files.new (T.state tree.new)) }
-    ensures within { LooksWhere (λ files. up_to_first (is_at files) paths.now)
+    ensures { ReadsFrom early_view (option_map (λ path. path.now)) result
+        (λ files. Ok (find (is_at files) paths.now)) (λ files. up_to_first (is_at files) paths.now)
         (held files.old (T.state tree.old)) (held files.new (T.state tree.new)) }
 {
     for path in paths {

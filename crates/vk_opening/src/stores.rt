@@ -7,9 +7,10 @@ ghost use Rattle.vk_spec.specs.Reading.{Gives};
 ghost use Rattle.vk_base.specs.Stops.{fault_seen, has_failed};
 ghost use Rattle.vk_config.specs.Views.{config_view, source_view};
 ghost use Rattle.vk_model.specs.EarlyViews.{early_view};
-ghost use Rattle.vk_files.specs.Readings.{ReadsAs, is_at};
+ghost use Rattle.vk_files.specs.Readings.{is_at};
 ghost use Rattle.vk_files.specs.Views.{held};
-ghost use Rattle.vk_files.specs.Within.{LooksWhere, up_to_first};
+ghost use Rattle.vk_files.specs.Within.{up_to_first};
+ghost use Rattle.vk_files.specs.Finds.{ReadsFrom};
 ghost use Rattle.vk_opening.specs.Asked.{stored_paths};
 ghost use Rattle.vk_opening.specs.Stores.{apart, apart_by, apart_from, refused_if, unblocked};
 ghost use Rattle.vk_opening.specs.Stores.{begins, has_in_it, is_far_up, overlaps};
@@ -242,11 +243,10 @@ fn unblocked<T: Tree>(
     tree: &mut T,
     places: &[TreePath],
 ) -> Result<(), Stop<Early>>
-    ensures reads { ReadsAs early_view (λ done. tt) result
+    ensures { ReadsFrom early_view (λ done. tt) result
         (λ files. unblocked (find (is_at files) places.now))
-        (held files.old (T.state tree.old)) (held files.new (T.state tree.new)) }
-    ensures within { LooksWhere (λ files. up_to_first (is_at files) places.now)
-        (held files.old (T.state tree.old)) (held files.new (T.state tree.new)) }
+        (λ files. up_to_first (is_at files) places.now) (held files.old (T.state tree.old))
+        (held files.new (T.state tree.new)) }
 {
     match first_file(files, tree, places)? {
         Some(path) => Err(Stop::Fault(blocked(path)?)),
@@ -265,10 +265,9 @@ pub fn check_store<T: Tree>(
     store: &Store,
     config: &Config,
 ) -> Result<(), Stop<Early>>
-    ensures reads { ReadsAs early_view (λ done. tt) result
+    ensures { ReadsFrom early_view (λ done. tt) result
         (stored_at project.now store.now (config_view config.now))
-        (held files.old (T.state tree.old)) (held files.new (T.state tree.new)) }
-    ensures within { LooksWhere (stored_paths project.now store.now (config_view config.now))
+        (stored_paths project.now store.now (config_view config.now))
         (held files.old (T.state tree.old)) (held files.new (T.state tree.new)) }
 {
     apart(alloc, project, store, config)?;

@@ -7,9 +7,10 @@ ghost use Rattle.vk_base.specs.Stops.{fault_in, fault_seen, is_failure};
 ghost use Rattle.vk_json.specs.Places.{here};
 ghost use Rattle.vk_triplet.specs.TripletReadings as plain;
 ghost use Rattle.vk_model.specs.EarlyViews.{early_view};
-ghost use Rattle.vk_files.specs.Readings.{ReadsAs, is_at};
+ghost use Rattle.vk_files.specs.Readings.{is_at};
 ghost use Rattle.vk_files.specs.Views.{held};
-ghost use Rattle.vk_files.specs.Within.{LooksWhere, up_to_first};
+ghost use Rattle.vk_files.specs.Within.{up_to_first};
+ghost use Rattle.vk_files.specs.Finds.{ReadsFrom};
 ghost use Rattle.vk_opening.specs.Asked.{both_paths, tried_paths};
 ghost use Rattle.vk_opening.specs.Projects.{triplet_path};
 ghost use Rattle.vk_opening.specs.TripletFiles.{triplet_from, triplet_in, triplet_word};
@@ -98,11 +99,10 @@ fn first_triplet<T: Tree>(
     name: &TripletName,
     paths: &[TreePath],
 ) -> Result<Triplet, Stop<Early>>
-    ensures reads { ReadsAs early_view (λ t. t) result
+    ensures { ReadsFrom early_view (λ t. t) result
         (λ files. triplet_from name.now (find (is_at files) paths.now) files)
-        (held files.old (T.state tree.old)) (held files.new (T.state tree.new)) }
-    ensures within { LooksWhere (λ files. up_to_first (is_at files) paths.now)
-        (held files.old (T.state tree.old)) (held files.new (T.state tree.new)) }
+        (λ files. up_to_first (is_at files) paths.now) (held files.old (T.state tree.old))
+        (held files.new (T.state tree.new)) }
 {
     match first_file(files, tree, paths)? {
         Some(path) => read_early(alloc, files, tree, path, &TripletFile(name)),
@@ -118,10 +118,9 @@ fn read_triplet<T: Tree>(
     name: &TripletName,
     folders: &[TreePath],
 ) -> Result<Triplet, Stop<Early>>
-    ensures reads { ReadsAs early_view (λ t. t) result (triplet_at name.now folders.now)
-        (held files.old (T.state tree.old)) (held files.new (T.state tree.new)) }
-    ensures within { LooksWhere (tried_paths name.now folders.now)
-        (held files.old (T.state tree.old)) (held files.new (T.state tree.new)) }
+    ensures { ReadsFrom early_view (λ t. t) result (triplet_at name.now folders.now)
+        (tried_paths name.now folders.now) (held files.old (T.state tree.old))
+        (held files.new (T.state tree.new)) }
 {
     let paths = triplet_paths(alloc, name, folders)?;
     first_triplet(alloc, files, tree, name, paths.as_slice())
@@ -144,10 +143,8 @@ pub fn read_triplets<T: Tree>(
     host: &TripletName,
     folders: &[TreePath],
 ) -> Result<Triplets, Stop<Early>>
-    ensures reads { ReadsAs early_view triplets_view result
-        (triplets_at target.now host.now folders.now) (held files.old (T.state tree.old))
-        (held files.new (T.state tree.new)) }
-    ensures within { LooksWhere (both_paths target.now host.now folders.now)
+    ensures { ReadsFrom early_view triplets_view result
+        (triplets_at target.now host.now folders.now) (both_paths target.now host.now folders.now)
         (held files.old (T.state tree.old)) (held files.new (T.state tree.new)) }
 {
     let target = read_triplet(alloc, files, tree, target, folders)?;

@@ -1,4 +1,2 @@
-pub mod FindLemmas
-pub mod OverlayLemmas
 pub mod BaselineLemmas
 pub mod PageLaws

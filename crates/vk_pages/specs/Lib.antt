@@ -3,7 +3,6 @@ pub mod Wrongs
 pub mod Homes
 pub mod Pages
 pub mod Asked
-pub mod Finds
 -- what functions, laws and examples say besides
 pub mod BaselineNotes
 pub mod HomeViews

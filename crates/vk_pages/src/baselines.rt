@@ -6,16 +6,15 @@ ghost use Rattle.vk_spec.specs.Reading.{Gives, Fails};
 ghost use Rattle.vk_registry.specs.Baselines.{Entry};
 ghost use Rattle.vk_catalogue.specs.Views.{wrong_view, given_view};
 ghost use Rattle.vk_files.specs.Notes.{IsNoteAt};
-ghost use Rattle.vk_files.specs.Views.{held, kept_of};
-ghost use Rattle.vk_files.specs.Within.{LooksWithin};
+ghost use Rattle.vk_files.specs.Views.{held};
 ghost use Rattle.vk_base.specs.Stops.{is_failure, has_failed};
 ghost use Rattle.vk_base.specs.Stops.{fault_seen};
-ghost use Rattle.vk_files.specs.Readings.{Bad, bad_view, ReadsAs};
+ghost use Rattle.vk_files.specs.Readings.{Bad, bad_view};
 ghost use Rattle.vk_registry.specs.RegistryFiles.{baseline_path};
 ghost use Rattle.vk_pages.specs.Homes.{baseline_file, baseline_given, baseline_for};
 ghost use Rattle.vk_pages.specs.BaselineNotes.{AreBaselines, baseline_noted};
 ghost use Rattle.vk_pages.specs.BaselineNotes.{nothing_said, same_served};
-ghost use Rattle.vk_pages.specs.Finds.{Finds};
+ghost use Rattle.vk_files.specs.Finds.{Finds, ReadsFrom};
 ghost use Rattle.vk_pages.specs.HomeViews.{served_view};
 ghost use Rattle.vk_pages.specs.NoteViews.{read_view, notes_of};
 
@@ -50,18 +49,16 @@ fn or_bad(stop: Stop<BadFile>) -> Result<Result<Baseline, BadFile>, Stop<Wrong>>
 }
 
 // The baseline of a registry, or its bad file.
-#[tactic(auto, using(vk_files::proofs::WithinLemmas::nothing_since))]
 fn read_baseline<T: Tree>(
     alloc: Global,
     files: &mut FileCache,
     tree: &mut T,
     served: &Served,
 ) -> Result<Result<Baseline, BadFile>, Stop<Wrong>>
-    ensures reads { ReadsAs wrong_view read_view result
-        (λ f. Ok (baseline_file (served_view served.now) f)) (held files.old (T.state tree.old))
+    ensures { ReadsFrom wrong_view read_view result
+        (λ f. Ok (baseline_file (served_view served.now) f))
+        (λ f. baseline_path served.now.folder ∷ []) (held files.old (T.state tree.old))
         (held files.new (T.state tree.new)) }
-    ensures asked { LooksWithin (baseline_path served.now.folder ∷ [])
-        (kept_of files.old) (kept_of files.new) }
 {
     let path = baseline_path(alloc, &served.folder)?;
     let reader = NamedBaseline {
@@ -126,7 +123,7 @@ impl Baselines {
         served: &Served,
     ) -> Result<usize, Stop<Wrong>>
         requires { baseline_noted served.now (notes_of self.old) ≡ None }
-        ensures noted { Finds (λ done. tt) result nothing_said
+        ensures noted { Finds wrong_view (λ done. tt) result nothing_said
             (λ f. baseline_path served.now.folder ∷ [])
             (AreBaselines (notes_of self.old)) (AreBaselines (notes_of self.new))
             (held files.old (T.state tree.old)) (held files.new (T.state tree.new)) }
@@ -149,7 +146,7 @@ impl Baselines {
         tree: &mut T,
         served: &Served,
     ) -> Result<usize, Stop<Wrong>>
-        ensures noted { Finds (λ done. tt) result nothing_said
+        ensures noted { Finds wrong_view (λ done. tt) result nothing_said
             (λ f. baseline_path served.now.folder ∷ [])
             (AreBaselines (notes_of self.old)) (AreBaselines (notes_of self.new))
             (held files.old (T.state tree.old)) (held files.new (T.state tree.new)) }
@@ -180,7 +177,8 @@ impl Baselines {
         served: &Served,
         port: &PortName,
     ) -> Result<Given, Stop<Wrong>>
-        ensures { Finds given_view result (baseline_for (served_view served.now) port.now)
+        ensures { Finds wrong_view given_view result
+            (baseline_for (served_view served.now) port.now)
             (λ f. baseline_path served.now.folder ∷ [])
             (AreBaselines (notes_of self.old)) (AreBaselines (notes_of self.new))
             (held files.old (T.state tree.old)) (held files.new (T.state tree.new)) }

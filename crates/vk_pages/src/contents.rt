@@ -5,11 +5,11 @@ ghost use Rattle.vk_registry.specs.Baselines.{baseline_by};
 ghost use Rattle.vk_registry.specs.Tables as plain_table;
 ghost use Rattle.vk_registry.specs.Tables.{table_of};
 ghost use Rattle.vk_catalogue.specs.Views.{wrong_view};
-ghost use Rattle.vk_files.specs.Views.{held, kept_of};
-ghost use Rattle.vk_files.specs.Within.{LooksWithin};
+ghost use Rattle.vk_files.specs.Views.{held};
+ghost use Rattle.vk_files.specs.Finds.{ReadsFrom};
 ghost use Rattle.vk_base.specs.Stops.{is_failure};
 ghost use Rattle.vk_base.specs.Stops.{fault_seen};
-ghost use Rattle.vk_files.specs.Readings.{ReadsAs, bad_view, is_at};
+ghost use Rattle.vk_files.specs.Readings.{bad_view, is_at};
 ghost use Rattle.vk_pages.specs.Wrongs.{wrong_of, file_or_wrong};
 
 use std::alloc::Global;
@@ -100,9 +100,9 @@ pub fn content<T: Tree, R: FileReader>(
     path: &TreePath,
     reader: &R,
 ) -> Result<R::Out, Stop<Wrong>>
-    ensures reads { ReadsAs wrong_view R.plain result (file_or_wrong (R.reads reader.now) path.now)
-        (held files.old (T.state tree.old)) (held files.new (T.state tree.new)) }
-    ensures asked { LooksWithin (path.now ∷ []) (kept_of files.old) (kept_of files.new) }
+    ensures { ReadsFrom wrong_view R.plain result (file_or_wrong (R.reads reader.now) path.now)
+        (λ f. path.now ∷ []) (held files.old (T.state tree.old))
+        (held files.new (T.state tree.new)) }
 {
     match read_file(alloc, files, tree, path, reader) {
         Ok(out) => Ok(out),
@@ -117,9 +117,8 @@ pub fn stands<T: Tree>(
     tree: &mut T,
     path: &TreePath,
 ) -> Result<bool, Stop<Wrong>>
-    ensures reads { ReadsAs wrong_view (λ b. b) result (λ f. Ok (is_at f path.now))
+    ensures { ReadsFrom wrong_view (λ b. b) result (λ f. Ok (is_at f path.now)) (λ f. path.now ∷ [])
         (held files.old (T.state tree.old)) (held files.new (T.state tree.new)) }
-    ensures asked { LooksWithin (path.now ∷ []) (kept_of files.old) (kept_of files.new) }
 {
     match file_standing(files, tree, path) {
         Ok(standing) => Ok(standing.is_there()),

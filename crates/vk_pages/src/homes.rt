@@ -2,7 +2,8 @@
 ghost use Rattle.vk_files.specs.Views.{held};
 ghost use Rattle.vk_pages.specs.Homes.{home_of};
 ghost use Rattle.vk_pages.specs.Asked.{home_paths};
-ghost use Rattle.vk_pages.specs.Finds.{Finds};
+ghost use Rattle.vk_files.specs.Finds.{Finds};
+ghost use Rattle.vk_catalogue.specs.Views.{wrong_view};
 ghost use Rattle.vk_pages.specs.BaselineNotes.{AreBaselines};
 ghost use Rattle.vk_pages.specs.HomeViews.{home_view, layout_view};
 ghost use Rattle.vk_pages.specs.NoteViews.{notes_of};
@@ -71,7 +72,7 @@ pub fn home_of<T: Tree>(
     tree: &mut T,
     port: &PortName,
 ) -> Result<Home, Stop<Wrong>>
-    ensures { Finds home_view result (home_of (layout_view layout.now) port.now)
+    ensures { Finds wrong_view home_view result (home_of (layout_view layout.now) port.now)
         (λ f. home_paths (layout_view layout.now) f port.now)
         (AreBaselines (notes_of baselines.old)) (AreBaselines (notes_of baselines.new))
         (held files.old (T.state tree.old)) (held files.new (T.state tree.new)) }

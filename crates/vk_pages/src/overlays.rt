@@ -3,18 +3,17 @@ ghost use Rattle.std.specs.Prelude.{◌≡◌, ◌∷◌, [], Ok, false, map, op
 ghost use Rattle.vk_spec.specs.Reading.{Gives};
 ghost use Rattle.vk_model.specs.Views.{manifest_view};
 ghost use Rattle.vk_catalogue.specs.Views.{wrong_view};
-ghost use Rattle.vk_files.specs.Views.{held, kept_of};
-ghost use Rattle.vk_files.specs.Within.{LooksWithin};
+ghost use Rattle.vk_files.specs.Views.{held};
 ghost use Rattle.vk_base.specs.Stops.{has_failed};
 ghost use Rattle.vk_base.specs.Stops.{fault_seen};
-ghost use Rattle.vk_files.specs.Readings.{ReadsAs, is_at};
+ghost use Rattle.vk_files.specs.Readings.{is_at};
 ghost use Rattle.vk_opening.specs.Projects.{manifest_path};
 ghost use Rattle.vk_opening.specs.Views.{overlay_view};
 ghost use Rattle.vk_registry.specs.RegistryFiles.{port_folder};
 ghost use Rattle.vk_pages.specs.Homes.{is_named, has_port, overlay_for, in_overlay};
 ghost use Rattle.vk_pages.specs.Homes.{overlay_home, if_named, named_manifest, home_in};
 ghost use Rattle.vk_pages.specs.Asked.{overlay_path, overlay_paths};
-ghost use Rattle.vk_pages.specs.Finds.{Finds, NothingKnown};
+ghost use Rattle.vk_files.specs.Finds.{ReadsFrom};
 ghost use Rattle.vk_pages.specs.HomeViews.{home_view};
 
 use crate::contents::{content, stands};
@@ -40,7 +39,6 @@ fn is_named(manifest: &Manifest, port: &PortName) -> bool
 }
 
 // Whether a folder of ports has this one.
-#[tactic(auto, using(vk_files::proofs::WithinLemmas::nothing_since))]
 fn holds_port<T: Tree>(
     alloc: Global,
     files: &mut FileCache,
@@ -48,11 +46,10 @@ fn holds_port<T: Tree>(
     folder: &TreePath,
     port: &PortName,
 ) -> Result<bool, Stop<Wrong>>
-    ensures reads { ReadsAs wrong_view (λ b. b) result
+    ensures { ReadsFrom wrong_view (λ b. b) result
         (λ f. Ok (is_at f (manifest_path (port_folder folder.now port.now))))
+        (λ f. manifest_path (port_folder folder.now port.now) ∷ [])
         (held files.old (T.state tree.old)) (held files.new (T.state tree.new)) }
-    ensures asked { LooksWithin (manifest_path (port_folder folder.now port.now) ∷ [])
-        (kept_of files.old) (kept_of files.new) }
 {
     let folder = port_folder(alloc, folder, port)?;
     let path = manifest_path(alloc, &folder)?;
@@ -66,11 +63,10 @@ fn has_port<T: Tree>(
     overlay: &Overlay,
     port: &PortName,
 ) -> Result<bool, Stop<Wrong>>
-    ensures reads { ReadsAs wrong_view (λ b. b) result
+    ensures { ReadsFrom wrong_view (λ b. b) result
         (λ f. Ok (has_port port.now f (overlay_view overlay.now)))
-        (held files.old (T.state tree.old)) (held files.new (T.state tree.new)) }
-    ensures asked { LooksWithin (overlay_path port.now (overlay_view overlay.now))
-        (kept_of files.old) (kept_of files.new) }
+        (λ f. overlay_path port.now (overlay_view overlay.now)) (held files.old (T.state tree.old))
+        (held files.new (T.state tree.new)) }
 {
     match overlay {
         Overlay::Port(_, manifest) => Ok(is_named(manifest, port)),
@@ -87,9 +83,9 @@ pub fn overlay_for<'a, T: Tree>(
     tree: &mut T,
     port: &PortName,
 ) -> Result<Option<&'a Overlay>, Stop<Wrong>>
-    ensures { Finds (option_map (λ o. overlay_view o.now)) result
+    ensures { ReadsFrom wrong_view (option_map (λ o. overlay_view o.now)) result
         (λ f. Ok (overlay_for (map overlay_view overlays.now) port.now f))
-        (λ f. overlay_paths (map overlay_view overlays.now) f port.now) NothingKnown NothingKnown
+        (λ f. overlay_paths (map overlay_view overlays.now) f port.now)
         (held files.old (T.state tree.old)) (held files.new (T.state tree.new)) }
 {
     for overlay in overlays {
@@ -145,7 +141,6 @@ fn named_own(
 }
 
 // The manifest in a folder, which has to have the port's name.
-#[tactic(auto, using(vk_files::proofs::WithinLemmas::nothing_since))]
 fn named_manifest<T: Tree>(
     alloc: Global,
     files: &mut FileCache,
@@ -153,11 +148,9 @@ fn named_manifest<T: Tree>(
     folder: &TreePath,
     port: &PortName,
 ) -> Result<Rc<Manifest>, Stop<Wrong>>
-    ensures reads { ReadsAs wrong_view (λ m. manifest_view m.value) result
-        (named_manifest port.now folder.now) (held files.old (T.state tree.old))
-        (held files.new (T.state tree.new)) }
-    ensures asked { LooksWithin (manifest_path folder.now ∷ [])
-        (kept_of files.old) (kept_of files.new) }
+    ensures { ReadsFrom wrong_view (λ m. manifest_view m.value) result
+        (named_manifest port.now folder.now) (λ f. manifest_path folder.now ∷ [])
+        (held files.old (T.state tree.old)) (held files.new (T.state tree.new)) }
 {
     let path = manifest_path(alloc, folder)?;
     let manifest = content(alloc, files, tree, &path, &PortFile)?;
@@ -166,7 +159,6 @@ fn named_manifest<T: Tree>(
 
 /// The home of a port that an overlay has. `Fault` has what is wrong with its manifest, which is
 /// the only file that is looked at.
-#[tactic(auto, using(vk_files::proofs::WithinLemmas::nothing_since))]
 pub fn home_in<T: Tree>(
     alloc: Global,
     files: &mut FileCache,
@@ -174,11 +166,9 @@ pub fn home_in<T: Tree>(
     overlay: &Overlay,
     port: &PortName,
 ) -> Result<Home, Stop<Wrong>>
-    ensures reads { ReadsAs wrong_view home_view result
-        (home_in (overlay_view overlay.now) port.now) (held files.old (T.state tree.old))
+    ensures { ReadsFrom wrong_view home_view result (home_in (overlay_view overlay.now) port.now)
+        (λ f. overlay_path port.now (overlay_view overlay.now)) (held files.old (T.state tree.old))
         (held files.new (T.state tree.new)) }
-    ensures asked { LooksWithin (overlay_path port.now (overlay_view overlay.now))
-        (kept_of files.old) (kept_of files.new) }
 {
     match overlay {
         Overlay::Port(folder, manifest) => port_home(alloc, folder.clone()?, manifest.clone()?),

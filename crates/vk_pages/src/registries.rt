@@ -4,15 +4,13 @@ ghost use Rattle.vk_spec.specs.Reading.{Gives};
 ghost use Rattle.vk_spec.specs.Pages.{override};
 ghost use Rattle.vk_version.specs.AskViews.{ask_view};
 ghost use Rattle.vk_catalogue.specs.Views.{wrong_view, given_view};
-ghost use Rattle.vk_files.specs.Views.{held, kept_of};
-ghost use Rattle.vk_files.specs.Within.{LooksWithin};
+ghost use Rattle.vk_files.specs.Views.{held};
 ghost use Rattle.vk_base.specs.Stops.{has_failed};
 ghost use Rattle.vk_base.specs.Stops.{fault_seen};
-ghost use Rattle.vk_files.specs.Readings.{ReadsAs};
 ghost use Rattle.vk_pages.specs.Homes.{given_by, table_in, served_home, registry_home};
 ghost use Rattle.vk_registry.specs.RegistryFiles.{table_path};
 ghost use Rattle.vk_pages.specs.Asked.{given_paths, served_paths, registry_paths};
-ghost use Rattle.vk_pages.specs.Finds.{Finds};
+ghost use Rattle.vk_files.specs.Finds.{Finds, ReadsFrom};
 ghost use Rattle.vk_pages.specs.BaselineNotes.{AreBaselines};
 ghost use Rattle.vk_pages.specs.HomeViews.{home_view, layout_view, served_view};
 ghost use Rattle.vk_pages.specs.NoteViews.{notes_of};
@@ -47,7 +45,7 @@ fn given_by<T: Tree>(
     tree: &mut T,
     port: &PortName,
 ) -> Result<Given, Stop<Wrong>>
-    ensures { Finds given_view result
+    ensures { Finds wrong_view given_view result
         (given_by (option_map (λ a. ask_view a.now) set.entry) (served_view served.now) port.now)
         (λ f. given_paths (option_map (λ a. ask_view a.now) set.entry) (served_view served.now))
         (AreBaselines (notes_of baselines.old)) (AreBaselines (notes_of baselines.new))
@@ -60,7 +58,6 @@ fn given_by<T: Tree>(
 }
 
 // The versions file of a port in a registry.
-#[tactic(auto, using(vk_files::proofs::WithinLemmas::nothing_since))]
 fn table_in<T: Tree>(
     alloc: Global,
     served: &Served,
@@ -68,10 +65,9 @@ fn table_in<T: Tree>(
     tree: &mut T,
     port: &PortName,
 ) -> Result<Table, Stop<Wrong>>
-    ensures reads { ReadsAs wrong_view (λ t. t) result (table_in (served_view served.now) port.now)
-        (held files.old (T.state tree.old)) (held files.new (T.state tree.new)) }
-    ensures asked { LooksWithin (table_path port.now served.now.folder ∷ [])
-        (kept_of files.old) (kept_of files.new) }
+    ensures { ReadsFrom wrong_view (λ t. t) result (table_in (served_view served.now) port.now)
+        (λ f. table_path port.now served.now.folder ∷ []) (held files.old (T.state tree.old))
+        (held files.new (T.state tree.new)) }
 {
     let path = table_path(alloc, &served.folder, port)?;
     content(alloc, files, tree, &path, &PortTable)
@@ -87,7 +83,7 @@ fn served_home<T: Tree>(
     tree: &mut T,
     port: &PortName,
 ) -> Result<Home, Stop<Wrong>>
-    ensures { Finds home_view result
+    ensures { Finds wrong_view home_view result
         (served_home (option_map (λ a. ask_view a.now) set.entry) (served_view served) port.now)
         (λ f. served_paths (option_map (λ a. ask_view a.now) set.entry) (served_view served)
         f port.now) (AreBaselines (notes_of baselines.old)) (AreBaselines (notes_of baselines.new))
@@ -113,7 +109,7 @@ pub fn registry_home<T: Tree>(
     tree: &mut T,
     port: &PortName,
 ) -> Result<Home, Stop<Wrong>>
-    ensures { Finds home_view result (registry_home (layout_view layout.now) port.now)
+    ensures { Finds wrong_view home_view result (registry_home (layout_view layout.now) port.now)
         (λ f. registry_paths (layout_view layout.now) f port.now)
         (AreBaselines (notes_of baselines.old)) (AreBaselines (notes_of baselines.new))
         (held files.old (T.state tree.old)) (held files.new (T.state tree.new)) }

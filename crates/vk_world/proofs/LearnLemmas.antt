@@ -17,8 +17,8 @@ use Rattle.vk_base.specs.declared.stops.Stop.TheVariants as stop
 use Rattle.vk_catalogue.specs.Views.{or_wrong, wrong_view}
 use Rattle.vk_model.specs.declared.wrongs.Wrong.{Wrong}
 use Rattle.vk_files.specs.Kept.{Held}
-use Rattle.vk_pages.specs.Finds.{Finds}
-use Rattle.vk_pages.proofs.FindLemmas.{learned_here, learned_so, learned_then}
+use Rattle.vk_files.specs.Finds.{Finds}
+use Rattle.vk_files.proofs.FindLemmas.{learned_here, learned_so, learned_then}
 use Rattle.vk_world.specs.Learning.{Learns, Means, settled}
 
 -- what reading gives is what is answered, also where it is refused
@@ -35,7 +35,7 @@ settled_fails (Err stop.Failed) = refl
 settled_fails (Err (stop.Memory m)) = refl
 
 pub learns_settled : {X Y : Type 0} {view : X → Y} {answer : Result X (Stop Wrong)} {meaning : Files → Result Y plain.Wrong} {paths : Files → List Path} {Before After : Files → Type 0} {a b : Held} (result : Result (Result X Wrong) Outage) → result ≡ settled answer
-    → Finds view answer meaning paths Before After a b → Learns result (Means (or_wrong view) meaning) paths Before After a b
+    → Finds wrong_view view answer meaning paths Before After a b → Learns result (Means (or_wrong view) meaning) paths Before After a b
 learns_settled {view = view} {answer = answer} {meaning = meaning} result is one =
     rw is (record { reads = learned_so (settled_fails answer) (λ f before. (before, λ p has. has)) (λ f before after gives. (after, settled_means view answer (meaning f) gives)) one.reads })
 

@@ -20,7 +20,7 @@ use Rattle.vk_files.specs.declared.caches.FileCache.{FileCache}
 use Rattle.vk_files.proofs.NoteLemmas.{right_found}
 use Rattle.vk_opening.specs.Starts.{Start}
 use Rattle.vk_pages.specs.Asked.{home_paths, manifest_paths}
-use Rattle.vk_pages.specs.Finds.{NothingKnown}
+use Rattle.vk_files.specs.Finds.{NothingKnown}
 use Rattle.vk_pages.specs.Homes.{home_of}
 use Rattle.vk_pages.specs.HomeViews.{layout_view}
 use Rattle.vk_world.specs.Learning.{Learns, SaysNothing}

@@ -15,7 +15,7 @@ use Rattle.vk_model.specs.declared.manifests.Manifest.{Manifest}
 use Rattle.std.specs.declared.rc.Rc.{Rc}
 use Rattle.vk_files.specs.Kept.{Held}
 use Rattle.vk_files.proofs.WithinLemmas.{one_in}
-use Rattle.vk_pages.specs.Finds.{NothingKnown}
+use Rattle.vk_files.specs.Finds.{NothingKnown}
 use Rattle.vk_pages.specs.Pages.{row_manifest, page_row}
 use Rattle.vk_pages.specs.Asked.{row_path}
 use Rattle.vk_world.specs.Learning.{Learns, Means}

@@ -26,7 +26,7 @@ use Rattle.vk_files.specs.Within.{LooksWithin}
 use Rattle.vk_files.specs.Views.{kept_of}
 use Rattle.vk_files.proofs.NoteLemmas.{right_more}
 use Rattle.vk_opening.specs.Starts.{Start}
-use Rattle.vk_pages.specs.Finds.{IsLearned}
+use Rattle.vk_files.specs.Finds.{IsLearned}
 use Rattle.vk_pages.specs.Homes.{home_of}
 use Rattle.vk_pages.specs.Pages.{page_of}
 use Rattle.vk_pages.specs.Asked.{page_paths}

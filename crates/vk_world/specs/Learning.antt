@@ -3,7 +3,7 @@ use Rattle.std.specs.Prelude.{◌≡◌, List, Result, Ok, Err, IfOk}
 use Rattle.vk_spec.specs.Paths.{Path}
 use Rattle.vk_spec.specs.Files.{Files}
 use Rattle.vk_files.specs.Kept.{Held}
-use Rattle.vk_pages.specs.Finds.{Reads}
+use Rattle.vk_files.specs.Finds.{Reads}
 use Rattle.vk_base.specs.declared.stops.Stop.{Stop}
 use Rattle.vk_base.specs.declared.stops.Stop.TheVariants as stop
 use Rattle.vk_base.specs.declared.stops.Outage.{Outage}

@@ -7,11 +7,9 @@ ghost use Rattle.vk_base.specs.declared.stops.Outage.TheVariants as outage;
 ghost use Rattle.vk_base.specs.Stops.{out_of_memory};
 ghost use Rattle.vk_model.specs.Views.{manifest_view};
 ghost use Rattle.vk_catalogue.specs.Views.{manifest_said, wrong_view};
-ghost use Rattle.vk_files.specs.Readings.{ReadsAs};
-ghost use Rattle.vk_files.specs.Within.{LooksWithin};
-ghost use Rattle.vk_files.specs.Views.{held, kept_of};
+ghost use Rattle.vk_files.specs.Views.{held};
 ghost use Rattle.vk_opening.specs.Projects.{manifest_path};
-ghost use Rattle.vk_pages.specs.Finds.{NothingKnown};
+ghost use Rattle.vk_files.specs.Finds.{NothingKnown, ReadsFrom};
 ghost use Rattle.vk_pages.specs.Pages.{row_folder, row_manifest, page_row};
 ghost use Rattle.vk_pages.specs.Asked.{row_path, manifest_paths};
 ghost use Rattle.vk_pages.specs.HomeViews.{home_view};
@@ -50,11 +48,10 @@ fn row_manifest<T: Tree>(
     registry: &TreePath,
     row: &Row,
 ) -> Result<Rc<Manifest>, Stop<Wrong>>
-    ensures reads { ReadsAs wrong_view (λ m. manifest_view m.value) result
+    ensures { ReadsFrom wrong_view (λ m. manifest_view m.value) result
         (row_manifest port.now registry.now (row_view row.now))
-        (held files.old (T.state tree.old)) (held files.new (T.state tree.new)) }
-    ensures asked { LooksWithin (row_path registry.now (row_view row.now) ∷ [])
-        (kept_of files.old) (kept_of files.new) }
+        (λ f. row_path registry.now (row_view row.now) ∷ []) (held files.old (T.state tree.old))
+        (held files.new (T.state tree.new)) }
 {
     let path = row_path(alloc, registry, row)?;
     let manifest = content(alloc, files, tree, &path, &PortFile)?;

@@ -1,9 +1,5 @@
-use Rattle.vk_files.proofs.ReadMore.{reads_wanting}
-use Rattle.vk_files.proofs.WithinLemmas.{where_nothing}
+use Rattle.vk_files.proofs.FindLemmas.{finds_lacking}
 use Rattle.vk_opening.proofs.opens.overlays_of.Goals as goal
 
-pub returns-in_err-folders-clause-reads : goal.returns-in_err-folders-clause-reads
-returns-in_err-folders-clause-reads g c = reads_wanting c.from_residual.ensures.1
-
-pub returns-in_err-folders-clause-within : goal.returns-in_err-folders-clause-within
-returns-in_err-folders-clause-within g c = where_nothing _ _
+pub returns-in_err-folders : goal.returns-in_err-folders
+returns-in_err-folders g c = finds_lacking c.from_residual.ensures.1 (λ f known. known)

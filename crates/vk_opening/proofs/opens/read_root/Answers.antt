@@ -1,9 +1,5 @@
-use Rattle.vk_files.proofs.ReadMore.{reads_wanting}
-use Rattle.vk_files.proofs.WithinLemmas.{nothing_since}
+use Rattle.vk_files.proofs.FindLemmas.{finds_lacking}
 use Rattle.vk_opening.proofs.opens.read_root.Goals as goal
 
-pub returns-in_err-path-clause-reads : goal.returns-in_err-path-clause-reads
-returns-in_err-path-clause-reads g c = reads_wanting c.from_residual.ensures.1
-
-pub returns-in_err-path-clause-within : goal.returns-in_err-path-clause-within
-returns-in_err-path-clause-within g c = nothing_since _ _
+pub returns-in_err-path : goal.returns-in_err-path
+returns-in_err-path g c = finds_lacking c.from_residual.ensures.1 (λ f known. known)

@@ -1,26 +1,14 @@
-use Rattle.std.proofs.lemmas.Result.{err_from_is_err_and}
-use Rattle.vk_files.proofs.ReadLemmas.{reads_then, reads_stopped}
-use Rattle.vk_opening.specs.Views.{overlay_view}
+use Rattle.vk_files.proofs.FindLemmas.{finds_both, finds_ended, finds_lacking}
 use Rattle.vk_opening.specs.Overlays.{overlay_by, overlay_at}
-use Rattle.vk_files.proofs.ReadMore.{reads_wanting}
-use Rattle.vk_files.proofs.WithinLemmas.{nothing_since, within_then}
 use Rattle.vk_opening.proofs.overlays.overlay_at.Goals as goal
 
-pub returns-in_err-path-clause-reads : goal.returns-in_err-path-clause-reads
-returns-in_err-path-clause-reads g c = reads_wanting c.from_residual.ensures.1
+pub returns-in_err-path : goal.returns-in_err-path
+returns-in_err-path g c = finds_lacking c.from_residual.ensures.1 (λ f known. known)
 
-pub returns-clause-reads : goal.returns-clause-reads
+pub returns-in_err-standing : goal.returns-in_err-standing
 unfolding overlay_at
-returns-clause-reads g c = reads_then (λ standing f. overlay_by standing c.args.folder f) (rw c.in_ok-path.ensures at c.in_ok-standing.ensures.reads) c.overlay_by.ensures.reads
+returns-in_err-standing g c = finds_ended (λ standing f. overlay_by standing c.args.folder f) (rw c.in_ok-path.ensures at c.in_err-standing.ensures) c.from_residual-in_err-standing.ensures.1
 
-pub returns-in_err-path-clause-within : goal.returns-in_err-path-clause-within
-returns-in_err-path-clause-within g c = nothing_since _ _
-
-pub returns-clause-within : goal.returns-clause-within
-returns-clause-within g c = within_then (rw c.in_ok-path.ensures at c.in_ok-standing.ensures.within) c.overlay_by.ensures.within
-
-pub returns-in_err-standing-clause-reads : goal.returns-in_err-standing-clause-reads
+pub returns : goal.returns
 unfolding overlay_at
-returns-in_err-standing-clause-reads g c =
-    let p = err_from_is_err_and c.from_residual-in_err-standing.result c.from_residual-in_err-standing.ensures.1 in
-    rw (p.1, p.2) (reads_stopped overlay_view (λ standing f. overlay_by standing c.args.folder f) (rw c.in_ok-path.ensures at c.in_err-standing.ensures.reads))
+returns g c = finds_both (λ standing f. overlay_by standing c.args.folder f) (rw c.in_ok-path.ensures at c.in_ok-standing.ensures) c.overlay_by.ensures

@@ -3,8 +3,8 @@ use Rattle.vk_opening.specs.Views.{overlay_view}
 use Rattle.vk_pages.specs.Asked.{overlay_path, registry_paths, elsewhere}
 use Rattle.vk_pages.specs.Homes.{has_port, home_by}
 use Rattle.vk_pages.specs.HomeViews.{layout_view}
-use Rattle.vk_pages.proofs.FindLemmas.{finds_known, finds_file, finds_then, finds_again, finds_stopped}
-use Rattle.vk_pages.proofs.OverlayLemmas.{found_within}
+use Rattle.vk_files.proofs.FindLemmas.{finds_known, finds_then, finds_again, finds_stopped}
+use Rattle.vk_files.proofs.FirstLemmas.{found_within}
 use Rattle.vk_pages.proofs.homes.home_of.Goals as goal
 
 pub returns-in_err-overlay : goal.returns-in_err-overlay
@@ -18,7 +18,7 @@ returns-in-Some g c =
     let start = layout_view c.args.layout.now in
     let port = c.args.port.now in
     finds_again (λ found f. home_by found start port f) (λ found f. elsewhere found (registry_paths start f port)) (finds_known (rw (c.as_slice.ensures, c.in-Some.is) at c.in_ok-overlay.ensures))
-    (finds_file c.home_in.ensures.reads c.home_in.ensures.asked) (λ f. found_within (overlay_path port) (has_port port f) start.overlays (overlay_view c.in-Some.overlay.now) refl)
+    (finds_known c.home_in.ensures) (λ f. found_within (overlay_path port) (has_port port f) start.overlays (overlay_view c.in-Some.overlay.now) refl)
 
 pub returns-in-None : goal.returns-in-None
 returns-in-None g c =

@@ -3,7 +3,7 @@ use Rattle.vk_files.specs.Views.{held}
 use Rattle.vk_opening.specs.Views.{overlay_view}
 use Rattle.vk_pages.specs.Homes.{has_port}
 use Rattle.vk_pages.specs.Asked.{overlay_path}
-use Rattle.vk_pages.proofs.OverlayLemmas.{NoneSoFar}
+use Rattle.vk_files.proofs.FirstLemmas.{NoneSoFar}
 use Rattle.vk_pages.proofs.overlays.overlay_for.Given as goal
 
 abbrev pub invariant-loop-overlay : goal.invariant-loop-overlay

@@ -1,4 +1,4 @@
-use Rattle.vk_pages.proofs.FindLemmas.{finds_here}
+use Rattle.vk_files.proofs.FindLemmas.{finds_here}
 use Rattle.vk_pages.proofs.registries.given_by.Goals as goal
 
 pub returns-in-Some : goal.returns-in-Some

@@ -5,7 +5,7 @@ use Rattle.vk_spec.proofs.ReadingLemmas.{fails_on}
 use Rattle.vk_opening.specs.Overrides.{override_for}
 use Rattle.vk_pages.specs.Homes.{served_home, registry_home}
 use Rattle.vk_pages.specs.HomeViews.{layout_view}
-use Rattle.vk_pages.proofs.FindLemmas.{finds_here, finds_after}
+use Rattle.vk_files.proofs.FindLemmas.{finds_here, finds_after}
 use Rattle.vk_pages.proofs.registries.registry_home.Goals as goal
 
 pub returns-in_err-served : goal.returns-in_err-served

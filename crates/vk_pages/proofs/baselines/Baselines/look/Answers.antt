@@ -3,7 +3,7 @@ use Rattle.std.specs.Option.{is_some}
 use Rattle.vk_files.proofs.NotedLemmas.{none_noted, placed_note}
 use Rattle.vk_pages.specs.BaselineNotes.{same_served}
 use Rattle.vk_pages.specs.NoteViews.{read_view}
-use Rattle.vk_pages.proofs.FindLemmas.{finds_here}
+use Rattle.vk_files.proofs.FindLemmas.{finds_here}
 use Rattle.vk_pages.proofs.baselines.Baselines.look.Goals as goal
 
 pub returns-in-Some-clause-there : goal.returns-in-Some-clause-there

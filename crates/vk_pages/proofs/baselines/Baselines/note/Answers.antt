@@ -2,7 +2,7 @@ use Rattle.std.proofs.Common.{◌≡◌, ◌∙◌, sym, ap, subst, rules}
 use Rattle.vk_files.proofs.NotedLemmas.{noted, length_noted, last_note}
 use Rattle.vk_pages.specs.BaselineNotes.{AreBaselines, baseline_noted, same_served}
 use Rattle.vk_pages.specs.NoteViews.{read_view}
-use Rattle.vk_pages.proofs.FindLemmas.{finds_lacking}
+use Rattle.vk_files.proofs.FindLemmas.{finds_lacking}
 use Rattle.vk_pages.proofs.BaselineLemmas.{noted_one, noted_none, served_itself}
 use Rattle.vk_pages.proofs.baselines.Baselines.note.Goals as goal
 
@@ -14,12 +14,12 @@ returns-in_err-reserve-clause-noted g c =
     finds_lacking c.from_residual-in_err-reserve.ensures.1 (λ f known. subst (λ es. AreBaselines (noted read_view es) f) (sym c.reserve.ensures.entries) known)
 
 pub returns-in_err-read-clause-noted : goal.returns-in_err-read-clause-noted
-returns-in_err-read-clause-noted g c = rw c.reserve.ensures.entries (noted_none c.args.served.now c.in_err-read.ensures.reads c.in_err-read.ensures.asked c.from_residual-in_err-read.ensures.1)
+returns-in_err-read-clause-noted g c = rw c.reserve.ensures.entries (noted_none c.args.served.now c.in_err-read.ensures c.from_residual-in_err-read.ensures.1)
 
 pub returns-clause-noted : goal.returns-clause-noted
 returns-clause-noted g c =
     let same : c.in_ok-key.key ≡ c.args.served.now = search rules in
-    noted_one c.args.served.now _ (rw (c.reserve.ensures.entries, same) at c.keep.ensures) c.in_ok-read.ensures.reads c.in_ok-read.ensures.asked
+    noted_one c.args.served.now _ (rw (c.reserve.ensures.entries, same) at c.keep.ensures) c.in_ok-read.ensures
 
 pub returns-clause-there : goal.returns-clause-there
 returns-clause-there g c =

@@ -1,13 +1,10 @@
--- What a call leaves that reads files and keeps notes of them, and what it answers.
+-- What a call leaves that reads files, and may keep notes of them, and what it answers.
 use Rattle.std.specs.Prelude.{Bool, List, IfSome, Result}
 use Rattle.vk_spec.specs.Paths.{Path}
 use Rattle.vk_spec.specs.Files.{Files}
 use Rattle.vk_spec.specs.Reading.{Gives}
-use Rattle.vk_spec.specs.Pages as plain
 use Rattle.vk_base.specs.Stops.{fault_seen, has_failed}
 use Rattle.vk_base.specs.declared.stops.Stop.{Stop}
-use Rattle.vk_catalogue.specs.Views.{wrong_view}
-use Rattle.vk_model.specs.declared.wrongs.Wrong.{Wrong}
 use Rattle.vk_files.specs.Kept.{Kept, IsOf, Held, ReadOnce}
 use Rattle.vk_files.specs.Within.{LooksWithin}
 
@@ -23,9 +20,13 @@ pub record Reads (failed : Bool) (Holds : Files → Type 0) (paths : Files → L
   pub learned : IfSome before.tree.told (λ t. IsOf t.files before.kept → Before t.files → IsLearned (After t.files) (Holds t.files) (paths t.files) before.kept after.kept)
 
 -- the same, and what is learned is that the answer is what the files give
-pub record Finds {X Y : Type 0} (view : X → Y) (answer : Result X (Stop Wrong)) (meaning : Files → Result Y plain.Wrong) (paths : Files → List Path) (Before After : Files → Type 0) (before after : Held) : Type 0 where
-  pub reads : Reads (has_failed answer) (λ f. Gives view (fault_seen wrong_view) answer (meaning f)) paths Before After before after
+pub record Finds {X Y F P : Type 0} (refusal : F → P) (view : X → Y) (answer : Result X (Stop F)) (meaning : Files → Result Y P) (paths : Files → List Path) (Before After : Files → Type 0) (before after : Held) : Type 0 where
+  pub reads : Reads (has_failed answer) (λ f. Gives view (fault_seen refusal) answer (meaning f)) paths Before After before after
 
 -- nothing is known of files
 abbrev pub NothingKnown : Files → Type 0
 NothingKnown files = Unit {0}
+
+-- nothing but reading was done, no path but these was looked at, and the answer is what the files give
+abbrev pub ReadsFrom : {X Y F P : Type 0} → (F → P) → (X → Y) → Result X (Stop F) → (Files → Result Y P) → (Files → List Path) → Held → Held → Type 0
+ReadsFrom refusal view answer meaning paths before after = Finds refusal view answer meaning paths NothingKnown NothingKnown before after
