@@ -1,6 +1,6 @@
 -- What is learned from files: nothing more, in other words, and one thing after the other.
 use Rattle.std.proofs.Common.{◌≡◌, Bool, false, List, [], ◌∷◌, ◌++◌, refl, ap, sym, subst, ◌∙◌}
-use Rattle.std.specs.Prelude.{Option, Some, None, IfSome, option_map, Result, Ok, Err}
+use Rattle.std.specs.Prelude.{Some, None, Result, Ok, Err}
 use Rattle.std.specs.Result.{IsErrAnd}
 use Rattle.std.proofs.lemmas.Result.{err_from_is_err_and}
 use Rattle.std.proofs.lemmas.List.Elements.{Contains-append_left, Contains-append_right}
@@ -15,7 +15,7 @@ use Rattle.vk_base.specs.Stops.{fault_seen, has_failed, is_failure, stop_fault_i
 use Rattle.vk_base.specs.declared.memory.Memory.{Memory}
 use Rattle.vk_base.specs.declared.stops.Stop.{Stop}
 use Rattle.vk_base.specs.declared.stops.Stop.TheVariants as stop
-use Rattle.vk_files.specs.Kept.{Seen, Kept, seen_at, IsOf, Held, ReadOnce}
+use Rattle.vk_files.specs.Kept.{Seen, Kept, seen_at, Held, ReadOnce}
 use Rattle.vk_files.specs.Views.{kept_at}
 use Rattle.vk_files.specs.Within.{LooksWithin, paths_after}
 use Rattle.vk_files.specs.Finds.{IsLearned, Reads, Finds, NothingKnown, ReadsFrom}

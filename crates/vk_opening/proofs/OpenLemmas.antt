@@ -4,7 +4,7 @@ use Rattle.std.specs.Prelude.{IfSome, IfOk, Option, Result, Ok, Err}
 use Rattle.vk_spec.specs.Paths.{Path}
 use Rattle.vk_spec.specs.Lists.{NoRepeats, IsWithin}
 use Rattle.vk_spec.specs.States.{State, OnlyRead}
-use Rattle.vk_files.specs.Kept.{Kept, paths_of, IsOf, Held, ReadOnce}
+use Rattle.vk_files.specs.Kept.{Kept, paths_of, IsOf, ReadOnce}
 use Rattle.vk_files.specs.Views.{kept_of}
 use Rattle.vk_files.specs.Within.{LooksWithin}
 use Rattle.vk_files.specs.Finds.{ReadsFrom}
