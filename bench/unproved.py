@@ -15,7 +15,7 @@ import sys
 import tempfile
 import time
 
-FLAGS = ["-march=x86-64", "-O3", "-mllvm", "-inline-threshold=3000", "-fPIE",
+FLAGS = ["-march=x86-64", "-O3", "-fPIE",
          "-ffunction-sections", "-fdata-sections", "--no-default-config", "-c", "-x", "ir"]
 
 
@@ -77,12 +77,16 @@ def main():
     words = argparse.ArgumentParser(description=__doc__.split("\n")[0])
     words.add_argument("crate", help="a program's folder, as crates/vk_main")
     words.add_argument("output", help="the program to write")
+    words.add_argument("--apart", action="store_true",
+                       help="keep functions apart: slower, and counts are by function")
     words = words.parse_args()
     with tempfile.TemporaryDirectory() as folder:
         module, made = pathlib.Path(folder, "module.bc"), pathlib.Path(folder, "module.o")
         toolchain, archives = take_module(words.crate, module)
+        inlining = ["-mllvm", f"-inline-threshold={-5000 if words.apart else 3000}"]
         subprocess.run([f"{toolchain}/bin/clang", "--target=x86_64-unknown-linux-gnu",
-                        f"--sysroot={toolchain}", *FLAGS, module, "-o", made], check=True)
+                        f"--sysroot={toolchain}", *FLAGS, *inlining, module, "-o", made],
+                       check=True)
         subprocess.run(["gcc", "-pie", made, *archives, "-lm", "-o", words.output], check=True)
 
 
