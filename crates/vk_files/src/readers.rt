@@ -6,6 +6,7 @@ ghost use Rattle.vk_base.specs.Stops.{fault_in, has_failed, is_failure};
 ghost use Rattle.vk_json.specs.declared.faults.FileFault as faults;
 ghost use Rattle.vk_files.specs.Views.{held, kept_of, seen_view};
 ghost use Rattle.vk_files.specs.Finds.{ReadsFrom};
+ghost use Rattle.vk_files.specs.Within.{LooksWithin};
 ghost use Rattle.vk_base.specs.Stops.{fault_seen};
 ghost use Rattle.vk_files.specs.Readings.{IsFaultOf, told_at, bad_view, file_at};
 ghost use Rattle.vk_files.specs.Readings.{seen_file, standing_at, standing_by, is_there};
@@ -138,9 +139,10 @@ pub fn read_file<T: Tree, R: FileReader>(
     path: &TreePath,
     reader: &R,
 ) -> Result<R::Out, Stop<BadFile>>
-    ensures { ReadsFrom bad_view R.plain result (file_at (R.reads reader.now) path.now)
+    ensures reads { ReadsFrom bad_view R.plain result (file_at (R.reads reader.now) path.now)
         (λ f. path.now ∷ []) (held files.old (T.state tree.old))
         (held files.new (T.state tree.new)) }
+    ensures within { LooksWithin (path.now ∷ []) (kept_of files.old) (kept_of files.new) }
 {
     let place = files.look::<T, BadFile>(tree, path)?;
     told::<R>(path, files.read_at(alloc, place, reader))
@@ -162,9 +164,10 @@ pub fn file_standing<T: Tree>(
     tree: &mut T,
     path: &TreePath,
 ) -> Result<Standing, Stop<BadFile>>
-    ensures { ReadsFrom bad_view standing_view result (λ f. Ok (standing_at path.now f))
+    ensures reads { ReadsFrom bad_view standing_view result (λ f. Ok (standing_at path.now f))
         (λ f. path.now ∷ []) (held files.old (T.state tree.old))
         (held files.new (T.state tree.new)) }
+    ensures within { LooksWithin (path.now ∷ []) (kept_of files.old) (kept_of files.new) }
 {
     let place = files.look::<T, BadFile>(tree, path)?;
     Ok(standing_of(files.at(place)))

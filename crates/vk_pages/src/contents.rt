@@ -5,8 +5,9 @@ ghost use Rattle.vk_registry.specs.Baselines.{baseline_by};
 ghost use Rattle.vk_registry.specs.Tables as plain_table;
 ghost use Rattle.vk_registry.specs.Tables.{table_of};
 ghost use Rattle.vk_catalogue.specs.Views.{wrong_view};
-ghost use Rattle.vk_files.specs.Views.{held};
+ghost use Rattle.vk_files.specs.Views.{held, kept_of};
 ghost use Rattle.vk_files.specs.Finds.{ReadsFrom};
+ghost use Rattle.vk_files.specs.Within.{LooksWithin};
 ghost use Rattle.vk_base.specs.Stops.{is_failure};
 ghost use Rattle.vk_base.specs.Stops.{fault_seen};
 ghost use Rattle.vk_files.specs.Readings.{bad_view, is_at};
@@ -100,9 +101,10 @@ pub fn content<T: Tree, R: FileReader>(
     path: &TreePath,
     reader: &R,
 ) -> Result<R::Out, Stop<Wrong>>
-    ensures { ReadsFrom wrong_view R.plain result (file_or_wrong (R.reads reader.now) path.now)
-        (λ f. path.now ∷ []) (held files.old (T.state tree.old))
-        (held files.new (T.state tree.new)) }
+    ensures reads { ReadsFrom wrong_view R.plain result
+        (file_or_wrong (R.reads reader.now) path.now) (λ f. path.now ∷ [])
+        (held files.old (T.state tree.old)) (held files.new (T.state tree.new)) }
+    ensures within { LooksWithin (path.now ∷ []) (kept_of files.old) (kept_of files.new) }
 {
     match read_file(alloc, files, tree, path, reader) {
         Ok(out) => Ok(out),

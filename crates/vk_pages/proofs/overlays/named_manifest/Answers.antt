@@ -5,7 +5,7 @@ pub returns-in_err-path : goal.returns-in_err-path
 returns-in_err-path g c = finds_lacking c.from_residual.ensures.1 (λ f known. known)
 
 pub returns-in_err-manifest : goal.returns-in_err-manifest
-returns-in_err-manifest g c = finds_ended _ (rw c.in_ok-path.ensures at c.in_err-manifest.ensures) c.from_residual-in_err-manifest.ensures.1
+returns-in_err-manifest g c = finds_ended _ (rw c.in_ok-path.ensures at c.in_err-manifest.ensures.reads) c.from_residual-in_err-manifest.ensures.1
 
 pub returns : goal.returns
-returns g c = finds_both _ (rw c.in_ok-path.ensures at c.in_ok-manifest.ensures) (finds_here c.named_own.ensures.calm (λ f. rw c.in_ok-path.ensures at c.named_own.ensures.told))
+returns g c = finds_both _ (rw c.in_ok-path.ensures at c.in_ok-manifest.ensures.reads) (finds_here c.named_own.ensures.calm (λ f. rw c.in_ok-path.ensures at c.named_own.ensures.told))

@@ -14,7 +14,7 @@ returns-in_err-path g c = finds_lacking c.from_residual.ensures.1 (λ f known. k
 
 pub returns-in_err-manifest : goal.returns-in_err-manifest
 unfolding row_manifest
-returns-in_err-manifest g c = finds_ended _ (rw c.in_ok-path.ensures at c.in_err-manifest.ensures) c.from_residual-in_err-manifest.ensures.1
+returns-in_err-manifest g c = finds_ended _ (rw c.in_ok-path.ensures at c.in_err-manifest.ensures.reads) c.from_residual-in_err-manifest.ensures.1
 
 pub returns-in_err-agree : goal.returns-in_err-agree
 unfolding row_manifest
@@ -23,14 +23,14 @@ returns-in_err-agree g c =
     let stop = c.in_err-agree.field-0.0 in
     let told = rw c.in_ok-path.ensures at c.in_err-agree.ensures.told in
     rw (p.1, p.2)
-    (finds_both _ (rw c.in_ok-path.ensures at c.in_ok-manifest.ensures)
+    (finds_both _ (rw c.in_ok-path.ensures at c.in_ok-manifest.ensures.reads)
     (finds_here c.in_err-agree.ensures.calm (λ f. fails_on (fault_seen wrong_view stop) _ (λ same. Ok (manifest_view c.in_ok-manifest.manifest)) told)))
 
 pub returns-in_err-new : goal.returns-in_err-new
-returns-in_err-new g c = let read = rw c.in_ok-path.ensures at c.in_ok-manifest.ensures in finds_lacked read.reads c.from_residual-in_err-new.ensures.1
+returns-in_err-new g c = let read = rw c.in_ok-path.ensures at c.in_ok-manifest.ensures.reads in finds_lacked read.reads c.from_residual-in_err-new.ensures.1
 
 pub returns : goal.returns
 unfolding row_manifest
 returns g c =
     let told = rw c.in_ok-path.ensures at c.in_ok-agree.ensures.told in
-    finds_both _ (rw c.in_ok-path.ensures at c.in_ok-manifest.ensures) (finds_here refl (λ f. rw told (ap (λ m. Ok (manifest_view m)) (sym c.in_ok-new.ensures.ok))))
+    finds_both _ (rw c.in_ok-path.ensures at c.in_ok-manifest.ensures.reads) (finds_here refl (λ f. rw told (ap (λ m. Ok (manifest_view m)) (sym c.in_ok-new.ensures.ok))))
