@@ -2,12 +2,12 @@
 ghost use Rattle.std.specs.Prelude.{◌≡◌, ◌<◌, ◌++◌, ◌∷◌, [], List, Result, Ok, Some, None, IfOk};
 ghost use Rattle.std.specs.Prelude.{false, length, option_map, slice_get};
 ghost use Rattle.indexmap.specs.IndexMap.{spare};
-ghost use Rattle.vk_spec.specs.Reading.{Gives, Fails};
+ghost use Rattle.vk_spec.specs.Reading.{Gives};
 ghost use Rattle.vk_registry.specs.Baselines.{Entry};
 ghost use Rattle.vk_catalogue.specs.Views.{wrong_view, given_view};
 ghost use Rattle.vk_files.specs.Notes.{IsNoteAt};
 ghost use Rattle.vk_files.specs.Views.{held};
-ghost use Rattle.vk_base.specs.Stops.{is_failure, has_failed};
+ghost use Rattle.vk_base.specs.Stops.{has_failed};
 ghost use Rattle.vk_base.specs.Stops.{fault_seen};
 ghost use Rattle.vk_files.specs.Readings.{Bad, bad_view};
 ghost use Rattle.vk_registry.specs.RegistryFiles.{baseline_path};
@@ -35,16 +35,18 @@ pub struct Baselines {
     read: IndexMap<Served, Result<Baseline, BadFile>>,
 }
 
-// A stop, which at a bad file is none.
-fn or_bad(stop: Stop<BadFile>) -> Result<Result<Baseline, BadFile>, Stop<Wrong>>
-    ensures told { (meaning : Result (List Entry) Bad) → Fails (fault_seen bad_view stop) meaning →
+// What was read, where a bad file is an answer too.
+fn or_bad(read: Result<Baseline, Stop<BadFile>>) -> Result<Result<Baseline, BadFile>, Stop<Wrong>>
+    ensures told { (meaning : Result (List Entry) Bad) →
+        Gives (λ baseline. baseline) (fault_seen bad_view) read meaning →
         Gives read_view (fault_seen wrong_view) result (Ok meaning) }
-    ensures failed { has_failed result ≡ is_failure stop }
+    ensures failed { has_failed result ≡ has_failed read }
 {
-    match stop {
-        Stop::Fault(bad) => Ok(Err(bad)),
-        Stop::Failed => Err(Stop::Failed),
-        Stop::Memory(memory) => Err(Stop::Memory(memory)),
+    match read {
+        Ok(baseline) => Ok(Ok(baseline)),
+        Err(Stop::Fault(bad)) => Ok(Err(bad)),
+        Err(Stop::Failed) => Err(Stop::Failed),
+        Err(Stop::Memory(memory)) => Err(Stop::Memory(memory)),
     }
 }
 
@@ -64,10 +66,7 @@ fn read_baseline<T: Tree>(
     let reader = NamedBaseline {
         name: &served.baseline,
     };
-    match read_file(alloc, files, tree, &path, &reader) {
-        Ok(baseline) => Ok(Ok(baseline)),
-        Err(stop) => or_bad(stop),
-    }
+    or_bad(read_file(alloc, files, tree, &path, &reader))
 }
 
 // What a baseline has for a port.
