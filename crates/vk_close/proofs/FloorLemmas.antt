@@ -14,7 +14,6 @@ use Rattle.vk_resolution.specs.Faults.{floor_troubles}
 use Rattle.vk_resolution.specs.Planner.{inputs_of}
 use Rattle.vk_resolution.proofs.ServiceLemmas.{pages_have_rows}
 use Rattle.vk_model.specs.WrongViews.{given_view}
-use Rattle.vk_model.specs.Views.{override_view}
 use Rattle.vk_close.specs.declared.known.Known.{Known}
 use Rattle.vk_close.specs.declared.page_askers.PageAsker.{PageAsker}
 use Rattle.vk_close.specs.Known.{given_in, base_by, IsKnown}
@@ -97,7 +96,7 @@ module _ (a : PageAsker) (s : Setting) (port : List ℕ) (ask : Ask) (k : Known)
       → IfSome o (λ pages. found ≡ found_by (option_map given_view k.given) (version_in (pages port) ask)) → IfSome o (λ pages. b ≡ is_visited (inputs_of s pages) port ask)
   visited_here None b is kept told = tt
   visited_here (Some pages) b is kept told =
-      let known : IsKnown (map override_view a.overrides) pages port k = here (map override_view a.overrides) a.ports.entries port k e pages kept.known in
+      let known : IsKnown a.overrides pages port k = here a.overrides a.ports.entries port k e pages kept.known in
       is ∙ ap (visited_by (option_map given_view k.given) k.base ask) told
       ∙ ap (λ g. visited_by g k.base ask (found_by g (version_in (pages port) ask))) known.given
       ∙ ap (λ v. visited_by (given_in (pages port).given) v ask (found_by (given_in (pages port).given) (version_in (pages port) ask))) known.base
@@ -107,7 +106,7 @@ module _ (a : PageAsker) (s : Setting) (port : List ℕ) (ask : Ask) (k : Known)
       → IfSome o (λ pages. found ≡ found_by (option_map given_view k.given) (version_in (pages port) ask)) → IfSome o (λ pages. Tells b (floor_troubles port ask (row_in (pages port).rows ask) (pages port).given ≡ []))
   clear_here None b is kept told = tt
   clear_here (Some pages) b is kept told =
-      let known : IsKnown (map override_view a.overrides) pages port k = here (map override_view a.overrides) a.ports.entries port k e pages kept.known in
+      let known : IsKnown a.overrides pages port k = here a.overrides a.ports.entries port k e pages kept.known in
       let same = is ∙ ap (is_clear (option_map given_view k.given)) told ∙ ap (λ g. is_clear g (found_by g (version_in (pages port) ask))) known.given in
       ((λ clear. clear_page port (pages port) ask (pages port).given (sym same ∙ clear)), (λ none. same ∙ clear_where port (pages port) ask (pages port).given none))
 
@@ -122,7 +121,7 @@ pub base_here : (a : PageAsker) (port : List ℕ) (ask : Ask) (k : Known) (b : B
     → IfSome o (λ pages. k.base ≡ found_by (option_map given_view k.given) (version_in (pages port) ask))
 base_here a port ask k b e is yes_base None kept = tt
 base_here a port ask k b e is yes_base (Some pages) kept =
-    let known : IsKnown (map override_view a.overrides) pages port k = here (map override_view a.overrides) a.ports.entries port k e pages kept.known in
+    let known : IsKnown a.overrides pages port k = here a.overrides a.ports.entries port k e pages kept.known in
     known.base
     ∙ base_page (pages port) ask (pages port).given (sym (is ∙ ap (λ g. is_base g ask) known.given) ∙ yes_base)
     ∙ ap (λ g. found_by g (version_in (pages port) ask)) (sym known.given)

@@ -14,7 +14,6 @@ use Rattle.vk_resolution.specs.Reasons.{Reason}
 use Rattle.vk_base.specs.declared.stops.Outage.{Outage}
 use Rattle.vk_model.specs.WrongViews.{given_view}
 use Rattle.vk_worklist.specs.Places.{IsPlace, KeepsSeats}
-use Rattle.vk_model.specs.Views.{override_view}
 use Rattle.vk_close.specs.declared.known.Known.{Known}
 use Rattle.vk_close.specs.declared.page_askers.PageAsker.{PageAsker}
 use Rattle.vk_close.specs.Known.{given_in, base_by, IsKnown, AreKnown}
@@ -112,7 +111,7 @@ module _ (overrides : List Override) (ports : List (List ℕ × Known)) (port : 
 -- and so it is by what an asker keeps
 pub given_kept : (a : PageAsker) (port : List ℕ) (k : Known) → lookup (bytes_eq port) a.ports.entries ≡ Some k → (o : Option Pages) → IfSome o (IsKept a) → IfSome o (λ pages. option_map given_view k.given ≡ given_in (pages port).given)
 given_kept a port k e None kept = tt
-given_kept a port k e (Some pages) kept = given_here (map override_view a.overrides) a.ports.entries port k e (Some pages) kept.known
+given_kept a port k e (Some pages) kept = given_here a.overrides a.ports.entries port k e (Some pages) kept.known
 
 -- the floor of a given version is the one that the page gives
 pub given_brought : (o : Option Pages) (line : ℕ) (port : List ℕ) (given : Option Given) (old new : List Reason) → new ≡ old ++ given_on line port given → IfSome o (λ pages. given ≡ given_in (pages port).given) → IfSome o (λ pages. new ≡ old ++ given_on line port (given_in (pages port).given))
@@ -136,7 +135,7 @@ mapped_some f (Some x) = refl
 
 kept_sound : (a : PageAsker) → (a.ports.entries ≡ [] → ⊥) → (o : Option Pages) → IfSome o (IsKept a) → IfSome o ArePages
 kept_sound a some None kept = tt
-kept_sound a some (Some pages) kept = pages_sound (Some pages) (map override_view a.overrides) a.ports.entries some kept.known
+kept_sound a some (Some pages) kept = pages_sound (Some pages) a.overrides a.ports.entries some kept.known
 
 pub placed_sound : (a : PageAsker) (port : List ℕ) (place : ℕ) → IsPlace a.ports.entries port place → (o : Option Pages) → IfSome o (IsKept a) → IfSome o ArePages
 placed_sound a port place is = kept_sound a (λ none. no_place a.ports.entries none is)

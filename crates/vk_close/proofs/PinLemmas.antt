@@ -1,21 +1,13 @@
--- Overrides by their names, and the manifests of overlays by the ends of their paths.
-use Rattle.std.proofs.Common.{◌≡◌, ◌+◌, ◌<◌, ◌-◌, ℕ, zero, suc, Bool, true, false, cond, ◌&&◌, ◌||◌, List, [], ◌∷◌, ◌++◌, length, drop, map, take, get_or, refl, sym, ap, subst, ◌∙◌, arith, true≢false}
+-- The manifests of overlays, by the ends of their paths.
+use Rattle.std.proofs.Common.{◌≡◌, ◌+◌, ◌<◌, ◌-◌, ℕ, zero, suc, Bool, true, false, ◌&&◌, List, [], ◌∷◌, ◌++◌, length, drop, get_or, refl, sym, ap, ◌∙◌, arith, true≢false}
 use Rattle.std.specs.Prelude.{bytes_eq, None}
-use Rattle.std.specs.List.{list_any}
 use Rattle.std.specs.Cmp.Lexicographic.{pointwise}
 use Rattle.std.proofs.Math.Bool.{and-false}
 use Rattle.std.proofs.lemmas.Slice.Eq.{bytes_eq-Decides}
-use Rattle.std.proofs.lemmas.List.{take_more, map-append}
 use Rattle.std.proofs.lemmas.List.Elements.{All-head}
-use Rattle.vk_model.specs.declared.manifests.Override as code
-use Rattle.vk_model.specs.Views.{override_view}
-use Rattle.vk_spec.specs.Manifests.{Override}
-use Rattle.vk_close.specs.Pins.{AreNames}
 use Rattle.vk_spec.specs.Paths.{Path, anchor, steps_up}
 use Rattle.vk_base.specs.Names.{port_rule, name_fault, is_name_byte, IsName}
 use Rattle.vk_base.proofs.NameLemmas.{rule_from_no_fault}
-
--- ---- the ends of paths
 
 one_fewer : (n : ℕ) → suc (suc (suc n) - 2) ≡ suc (suc (suc n)) - 2
 one_fewer n = omega arith
@@ -52,31 +44,3 @@ pub by_its_parts : (rooted : Bool) (ups : ℕ) (parts path : Path) (port file : 
 by_its_parts rooted ups parts path port file is name =
     end_of_parts (anchor rooted ups) parts port file (no_anchor rooted ups port (rule_from_no_fault port_rule port name))
     ∙ ap (λ p. pointwise bytes_eq (drop (length p - 2) p) (port ∷ file ∷ [])) is
-
--- ---- overrides
-
-any_push : {X : Type 0} (test : X → Bool) (xs : List X) (x : X) → list_any test (xs ++ x ∷ []) ≡ cond (test x) true (list_any test xs)
-any_push test [] x = by (test x)
-  where
-    by : (b : Bool) → (b || false) ≡ cond b true false
-    by true = refl
-    by false = refl
-any_push test (y ∷ ys) x = ap (λ b. test y || b) (any_push test ys x) ∙ by (test y) (test x) (list_any test ys)
-  where
-    by : (a b rest : Bool) → (a || cond b true rest) ≡ cond b true (a || rest)
-    by true true rest = refl
-    by true false rest = refl
-    by false true rest = refl
-    by false false rest = refl
-
--- one override more
-pub named_more : (overrides : List Override) (o : Override) (old new : List (List ℕ)) → AreNames overrides old
-    → ((p : List ℕ) → list_any (bytes_eq p) new ≡ cond (bytes_eq o.name p) true (list_any (bytes_eq p) old)) → AreNames (overrides ++ o ∷ []) new
-named_more overrides o old new so_far more = λ p. more p ∙ ap (cond (bytes_eq o.name p) true) (so_far p) ∙ sym (any_push (λ q. bytes_eq q.name p) overrides o)
-
--- the next override
-pub named_next : (overrides : List code.Override) (i : ℕ) (o : code.Override) (name : List ℕ) (old new : List (List ℕ)) → i < length overrides → o ≡ get_or overrides i o → name ≡ o.name
-    → AreNames (map override_view (take i overrides)) old → ((p : List ℕ) → list_any (bytes_eq p) new ≡ cond (bytes_eq name p) true (list_any (bytes_eq p) old)) → AreNames (map override_view (take (i + 1) overrides)) new
-named_next overrides i o name old new within is named so_far more =
-    subst (λ l. AreNames l new) (sym (ap (map override_view) (take_more overrides i o within ∙ ap (λ x. take i overrides ++ x ∷ []) (sym is)) ∙ map-append override_view (take i overrides) (o ∷ [])))
-    (named_more (map override_view (take i overrides)) (override_view o) old new so_far (λ p. more p ∙ ap (λ k. cond (bytes_eq k p) true (list_any (bytes_eq p) old)) named))

@@ -14,8 +14,8 @@ use Rattle.vk_close.specs.declared.page_askers.PageAsker.{PageAsker}
 -- the rules and the overrides are those of the setting, and what is known of ports is what their pages say
 pub record IsKept (a : PageAsker) (pages : Pages) : Type 0 where
   pub rules : a.rules ≡ a.setting.now
-  pub overrides : a.overrides ≡ a.setting.now.root.overrides
-  pub known : AreKnown (map override_view a.overrides) pages a.ports.entries
+  pub overrides : a.overrides ≡ map override_view a.setting.now.root.overrides
+  pub known : AreKnown a.overrides pages a.ports.entries
 
 -- nothing is wrong with any of the facts
 abbrev pub HasNoTrouble : Inputs → List Fact → Type 0

@@ -2,7 +2,6 @@
 pub mod Known
 pub mod Kept
 -- what functions, laws and examples say besides
-pub mod Pins
 pub mod Floors
 pub mod Steps
 pub mod Roots

@@ -4,16 +4,16 @@ ghost use Rattle.vk_spec.specs.Manifests as plain;
 ghost use Rattle.vk_spec.specs.Pages.{is_pinned_by};
 ghost use Rattle.vk_spec.specs.Catalogues.{OnlyAsked, OnPage, OnPages, ArePages, CanAskVersion};
 ghost use Rattle.vk_base.specs.Stops.{was_out};
-ghost use Rattle.vk_model.specs.Views.{override_view};
 ghost use Rattle.vk_model.specs.WrongViews.{given_view, wrong_view};
 ghost use Rattle.vk_close.specs.Known.{base_by, given_in};
 
-use crate::pins::{Overrides, is_pinned_given, is_pinned_wrong};
+use crate::pins::{is_pinned_given, is_pinned_wrong};
 use std::alloc::Global;
 use std::marker::Model;
 use vk_base::{Memory, Outage, PortName};
 use vk_catalogue::Catalogue;
 use vk_model::{Given, Wrong};
+use vk_rules::Overrides;
 use vk_version::Version;
 
 /// What is known of a port.
@@ -96,11 +96,11 @@ fn known_given<C: Catalogue>(cat: &mut C, port: &PortName, given: Given) -> Resu
 }
 
 // What is known of a port without one.
-fn known_wrong(overrides: &Overrides<'_>, port: &PortName, wrong: &Wrong) -> Known
+fn known_wrong(overrides: &Overrides, port: &PortName, wrong: &Wrong) -> Known
     ensures given { result.given ≡ None }
     ensures base { result.base ≡ None }
     ensures pinned { result.pinned
-        ≡ is_pinned_by (map override_view overrides.now) port.now (Err (wrong_view wrong.now)) }
+        ≡ is_pinned_by overrides.now port.now (Err (wrong_view wrong.now)) }
 {
     Known {
         given: None,
@@ -111,7 +111,7 @@ fn known_wrong(overrides: &Overrides<'_>, port: &PortName, wrong: &Wrong) -> Kno
 
 /// What a catalogue knows of a port.
 pub(crate) fn ask_port<C: Catalogue>(
-    overrides: &Overrides<'_>,
+    overrides: &Overrides,
     cat: &mut C,
     port: &PortName,
 ) -> Result<Known, Outage>
@@ -121,7 +121,7 @@ pub(crate) fn ask_port<C: Catalogue>(
     ensures base { IfOk result (λ known. OnPages (λ pages.
         known.base ≡ base_by (pages port.now) (pages port.now).given) (C.state cat.old)) }
     ensures pinned { IfOk result (λ known. OnPages (λ pages. known.pinned
-        ≡ is_pinned_by (map override_view overrides.now) port.now (pages port.now).given)
+        ≡ is_pinned_by overrides.now port.now (pages port.now).given)
         (C.state cat.old)) }
     ensures sound { IfOk result (λ known. OnPages ArePages (C.state cat.old)) }
 {

@@ -15,7 +15,7 @@ ghost use Rattle.vk_resolution.specs.Faults.{floor_troubles, given_troubles};
 ghost use Rattle.vk_resolution.specs.Faults.{manifest_troubles, troubles_of};
 ghost use Rattle.vk_resolution.specs.Planner.{inputs_of};
 ghost use Rattle.vk_spec.specs.Pages.{row_in};
-ghost use Rattle.vk_model.specs.Views.{override_view, manifest_view};
+ghost use Rattle.vk_model.specs.Views.{manifest_view};
 ghost use Rattle.vk_model.specs.SettingViews.{setting_view, instance_view};
 ghost use Rattle.vk_model.specs.FactViews.{fact_view, who_view};
 ghost use Rattle.vk_model.specs.WrongViews.{given_view};
@@ -30,7 +30,6 @@ ghost use Rattle.vk_worklist.specs.Ticks.{tick_of};
 
 use crate::floors::{find, is_base, is_clear, is_visited};
 use crate::known::{Known, KnownPort};
-use crate::pins::Overrides;
 use crate::ports::{known_at, see_to_port};
 use crate::steps::{push_all, push_given};
 use indexmap::IndexMap;
@@ -39,7 +38,7 @@ use std::sync::ledger::Ledger;
 use vk_base::{FeatureName, Instance, Memory, Outage, PortName, Steps};
 use vk_catalogue::Catalogue;
 use vk_model::{Cause, Fact, Manifest, Setting, Who};
-use vk_rules::Rules;
+use vk_rules::{Overrides, Rules};
 use vk_version::{Ask, Version};
 use vk_worklist::Asker;
 
@@ -50,7 +49,7 @@ pub struct PageAsker<'a> {
     alloc: Global,
     setting: &'a Setting,
     rules: Rules<'a>,
-    overrides: Overrides<'a>,
+    overrides: Overrides,
     ports: IndexMap<PortName, KnownPort>,
     clean: bool,
 }
@@ -94,7 +93,7 @@ impl<'a> PageAsker<'a> {
         ensures tracks { IfOk result (λ a. (pages : Pages) → Tracks a pages []) }
     {
         let rules = Rules::new(alloc, setting)?;
-        let overrides = Overrides::new(alloc, setting.root.overrides.as_slice())?;
+        let overrides = Overrides::of(alloc, &setting.root.overrides)?;
         Ok(PageAsker {
             alloc,
             setting,

@@ -4,16 +4,15 @@ ghost use Rattle.std.specs.Prelude.{length, if◌then◌else◌};
 ghost use Rattle.std.specs.Map.{keys_of, lookup};
 ghost use Rattle.vk_spec.specs.Catalogues.{OnlyAsked, OnPages};
 ghost use Rattle.vk_base.specs.Stops.{was_out};
-ghost use Rattle.vk_model.specs.Views.{override_view};
 ghost use Rattle.vk_worklist.specs.Places.{IsPlace, IsSeat, KeepsSeats};
 ghost use Rattle.vk_close.specs.Known.{AreKnown};
 
 use crate::known::{Known, KnownPort, ask_port};
 use crate::names::copy_of;
-use crate::pins::Overrides;
 use indexmap::IndexMap;
 use vk_base::{Memory, Outage, PortName};
 use vk_catalogue::Catalogue;
+use vk_rules::Overrides;
 use vk_worklist::{place_of, value_at};
 
 /// What is known of the port at a place.
@@ -58,18 +57,18 @@ fn keep(
 
 // Asks about a port of which nothing is known yet.
 fn ask_new<C: Catalogue>(
-    overrides: &Overrides<'_>,
+    overrides: &Overrides,
     ports: &mut IndexMap<PortName, KnownPort>,
     cat: &mut C,
     port: &PortName,
 ) -> Result<(), Outage>
     requires known { OnPages
-        (λ pages. AreKnown (map override_view overrides.now) pages ports.old.entries)
+        (λ pages. AreKnown overrides.now pages ports.old.entries)
         (C.state cat.old) }
     ensures asked { OnlyAsked (was_out result) (C.state cat.old) (C.state cat.new) }
     ensures there { OnOk result (IsSome (lookup (bytes_eq port.now) ports.new.entries)) }
     ensures known { OnOk result (OnPages
-        (λ pages. AreKnown (map override_view overrides.now) pages ports.new.entries)
+        (λ pages. AreKnown overrides.now pages ports.new.entries)
         (C.state cat.old)) }
     ensures seats { OnOk result
         (KeepsSeats (keys_of ports.old.entries) (keys_of ports.new.entries)) }
@@ -81,20 +80,20 @@ fn ask_new<C: Catalogue>(
 
 /// Sees to it that a port is known, and tells its place among those that are.
 pub(crate) fn see_to_port<C: Catalogue>(
-    overrides: &Overrides<'_>,
+    overrides: &Overrides,
     ports: &mut IndexMap<PortName, KnownPort>,
     cat: &mut C,
     port: &PortName,
 ) -> Result<usize, Outage>
     requires known { OnPages
-        (λ pages. AreKnown (map override_view overrides.now) pages ports.old.entries)
+        (λ pages. AreKnown overrides.now pages ports.old.entries)
         (C.state cat.old) }
     ensures asked { OnlyAsked (was_out result) (C.state cat.old) (C.state cat.new) }
     ensures there { IfOk result (IsPlace ports.new.entries port.now) }
     ensures within { IfOk result (λ place. place < length ports.new.entries) }
     ensures seat { IfOk result (IsSeat (keys_of ports.new.entries) port.now) }
     ensures known { OnOk result (OnPages
-        (λ pages. AreKnown (map override_view overrides.now) pages ports.new.entries)
+        (λ pages. AreKnown overrides.now pages ports.new.entries)
         (C.state cat.old)) }
     ensures seats { OnOk result
         (KeepsSeats (keys_of ports.old.entries) (keys_of ports.new.entries)) }

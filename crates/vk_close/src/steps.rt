@@ -5,7 +5,6 @@ ghost use Rattle.std.specs.Map.{keys_of};
 ghost use Rattle.vk_spec.specs.Catalogues.{OnlyAsked, OnPages};
 ghost use Rattle.vk_spec.specs.Pages.{is_pinned_by};
 ghost use Rattle.vk_base.specs.Stops.{was_out};
-ghost use Rattle.vk_model.specs.Views.{override_view};
 ghost use Rattle.vk_model.specs.WrongViews.{given_view};
 ghost use Rattle.vk_model.specs.FactViews.{fact_view};
 ghost use Rattle.vk_close.specs.Known.{AreKnown};
@@ -15,31 +14,31 @@ ghost use Rattle.vk_worklist.specs.Places.{KeepsSeats};
 
 use crate::known::KnownPort;
 use crate::names::copy_of;
-use crate::pins::Overrides;
 use crate::ports::{known_at, see_to_port};
 use indexmap::IndexMap;
 use vk_base::{List, Memory, Outage, PortName};
 use vk_catalogue::Catalogue;
 use vk_model::{Cause, Fact, Given};
+use vk_rules::Overrides;
 
 // Whether a port is pinned.
 fn is_pinned<C: Catalogue>(
-    overrides: &Overrides<'_>,
+    overrides: &Overrides,
     ports: &mut IndexMap<PortName, KnownPort>,
     cat: &mut C,
     port: &PortName,
 ) -> Result<bool, Outage>
     requires known { OnPages
-        (λ pages. AreKnown (map override_view overrides.now) pages ports.old.entries)
+        (λ pages. AreKnown overrides.now pages ports.old.entries)
         (C.state cat.old) }
     ensures asked { OnlyAsked (was_out result) (C.state cat.old) (C.state cat.new) }
     ensures known { OnOk result (OnPages
-        (λ pages. AreKnown (map override_view overrides.now) pages ports.new.entries)
+        (λ pages. AreKnown overrides.now pages ports.new.entries)
         (C.state cat.old)) }
     ensures seats { OnOk result
         (KeepsSeats (keys_of ports.old.entries) (keys_of ports.new.entries)) }
     ensures pinned { IfOk result (λ pinned. OnPages (λ pages. pinned
-        ≡ is_pinned_by (map override_view overrides.now) port.now (pages port.now).given)
+        ≡ is_pinned_by overrides.now port.now (pages port.now).given)
         (C.state cat.old)) }
 {
     let place = see_to_port(overrides, ports, cat, port)?;
@@ -48,22 +47,22 @@ fn is_pinned<C: Catalogue>(
 
 // Whether what a manifest asks for falls away: the floor of a pinned port does.
 fn falls_away<C: Catalogue>(
-    overrides: &Overrides<'_>,
+    overrides: &Overrides,
     ports: &mut IndexMap<PortName, KnownPort>,
     cat: &mut C,
     fact: &Fact,
 ) -> Result<bool, Outage>
     requires known { OnPages
-        (λ pages. AreKnown (map override_view overrides.now) pages ports.old.entries)
+        (λ pages. AreKnown overrides.now pages ports.old.entries)
         (C.state cat.old) }
     ensures asked { OnlyAsked (was_out result) (C.state cat.old) (C.state cat.new) }
     ensures known { OnOk result (OnPages
-        (λ pages. AreKnown (map override_view overrides.now) pages ports.new.entries)
+        (λ pages. AreKnown overrides.now pages ports.new.entries)
         (C.state cat.old)) }
     ensures seats { OnOk result
         (KeepsSeats (keys_of ports.old.entries) (keys_of ports.new.entries)) }
     ensures falls { IfOk result (λ falls. OnPages (λ pages.
-        falls ≡ falls_away (map override_view overrides.now) pages (fact_view fact.now))
+        falls ≡ falls_away overrides.now pages (fact_view fact.now))
         (C.state cat.old)) }
 {
     match fact {
@@ -109,7 +108,7 @@ fn push_unless(
 
 // Adds what a manifest asks for, unless it falls away.
 fn push_asked<C: Catalogue>(
-    overrides: &Overrides<'_>,
+    overrides: &Overrides,
     ports: &mut IndexMap<PortName, KnownPort>,
     cat: &mut C,
     fact: Fact,
@@ -117,17 +116,17 @@ fn push_asked<C: Catalogue>(
     brought: &mut Vec<(Fact, Cause)>,
 ) -> Result<(), Outage>
     requires known { OnPages
-        (λ pages. AreKnown (map override_view overrides.now) pages ports.old.entries)
+        (λ pages. AreKnown overrides.now pages ports.old.entries)
         (C.state cat.old) }
     ensures asked { OnlyAsked (was_out result) (C.state cat.old) (C.state cat.new) }
     ensures known { OnOk result (OnPages
-        (λ pages. AreKnown (map override_view overrides.now) pages ports.new.entries)
+        (λ pages. AreKnown overrides.now pages ports.new.entries)
         (C.state cat.old)) }
     ensures seats { OnOk result
         (KeepsSeats (keys_of ports.old.entries) (keys_of ports.new.entries)) }
     ensures brought { OnOk result (OnPages (λ pages.
         reasons_in brought.new.items ≡ reasons_in brought.old.items
-        ++ asked_on (map override_view overrides.now) pages line (fact_view fact))
+        ++ asked_on overrides.now pages line (fact_view fact))
         (C.state cat.old)) }
 {
     match falls_away(overrides, ports, cat, &fact) {
@@ -141,7 +140,7 @@ fn push_asked<C: Catalogue>(
 
 /// Adds all that a manifest asks for, but for what falls away.
 pub(crate) fn push_all<C: Catalogue>(
-    overrides: &Overrides<'_>,
+    overrides: &Overrides,
     ports: &mut IndexMap<PortName, KnownPort>,
     cat: &mut C,
     facts: List<Fact>,
@@ -149,17 +148,17 @@ pub(crate) fn push_all<C: Catalogue>(
     brought: &mut Vec<(Fact, Cause)>,
 ) -> Result<(), Outage>
     requires known { OnPages
-        (λ pages. AreKnown (map override_view overrides.now) pages ports.old.entries)
+        (λ pages. AreKnown overrides.now pages ports.old.entries)
         (C.state cat.old) }
     ensures asked { OnlyAsked (was_out result) (C.state cat.old) (C.state cat.new) }
     ensures known { OnOk result (OnPages
-        (λ pages. AreKnown (map override_view overrides.now) pages ports.new.entries)
+        (λ pages. AreKnown overrides.now pages ports.new.entries)
         (C.state cat.old)) }
     ensures seats { OnOk result
         (KeepsSeats (keys_of ports.old.entries) (keys_of ports.new.entries)) }
     ensures brought { OnOk result (OnPages (λ pages.
         reasons_in brought.new.items ≡ reasons_in brought.old.items
-        ++ flat_map (asked_on (map override_view overrides.now) pages line)
+        ++ flat_map (asked_on overrides.now pages line)
         (map fact_view facts))
         (C.state cat.old)) }
 {

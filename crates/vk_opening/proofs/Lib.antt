@@ -1,6 +1,5 @@
 pub mod LoopLemmas
 pub mod ReadLemmas
-pub mod PlaceLemmas
 pub mod StoreLemmas
 pub mod OpenLemmas
 pub mod LawLemmas

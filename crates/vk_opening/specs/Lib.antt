@@ -1,6 +1,5 @@
 -- what is promised
 pub mod Projects
-pub mod Overrides
 pub mod Starts
 pub mod Roots
 pub mod Configurations

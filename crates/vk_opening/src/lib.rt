@@ -7,7 +7,6 @@ mod configurations;
 mod laws;
 mod opens;
 mod overlays;
-mod overrides;
 mod projects;
 mod readings;
 mod roots;
@@ -17,7 +16,6 @@ mod triplet_files;
 
 pub use laws::{early_files, first_triplet, kept_apart, two_places};
 pub use opens::{Opened, open};
-pub use overrides::Overrides;
 pub use projects::{from_folder, manifest_path};
 pub use roots::PortFile;
 pub use starts::{Overlay, Start};

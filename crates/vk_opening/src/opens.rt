@@ -25,7 +25,6 @@ ghost use Rattle.vk_model.specs.SettingViews.{setting_view, instance_view};
 
 use crate::configurations::read_configuration;
 use crate::overlays::read_overlays;
-use crate::overrides::Overrides;
 use crate::projects::{folders, manifest_path};
 use crate::readings::read_early;
 use crate::roots::{Root, RootFile};
@@ -37,7 +36,7 @@ use vk_base::{FeatureName, Instance, List, Memory, Outage, Stop, TreePath};
 use vk_config::Config;
 use vk_files::FileCache;
 use vk_model::{Early, Manifest, Project, Setting, Store};
-use vk_rules::off_list;
+use vk_rules::{Overrides, off_list};
 use vk_tree::Tree;
 
 /// What the early files of a project give.

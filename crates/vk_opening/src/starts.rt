@@ -1,9 +1,9 @@
-use crate::overrides::Overrides;
 use std::rc::Rc;
 use vk_base::{List, TreePath};
 use vk_config::Config;
 use vk_files::FileCache;
 use vk_model::Manifest;
+use vk_rules::Overrides;
 
 /// A folder that stands before every registry.
 #[derive(Drop)]

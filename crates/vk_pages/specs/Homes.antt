@@ -15,7 +15,7 @@ use Rattle.vk_registry.specs.Baselines.{Entry, ask_for, baseline_by}
 use Rattle.vk_registry.specs.Tables.{Row, table_of}
 use Rattle.vk_files.specs.Readings.{Bad, is_at, file_at}
 use Rattle.vk_opening.specs.Projects.{manifest_path}
-use Rattle.vk_opening.specs.Overrides.{override_for}
+use Rattle.vk_rules.specs.Overrides.{override_for}
 use Rattle.vk_opening.specs.Starts.{Overlay, is_port, has_ports, Start}
 use Rattle.vk_registry.specs.RegistryFiles.{baseline_path, table_path, port_folder}
 use Rattle.vk_pages.specs.Wrongs.{or_wrong, file_or_wrong, manifest_file}

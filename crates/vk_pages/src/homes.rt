@@ -18,8 +18,9 @@ use vk_catalogue::{Given, Wrong};
 use vk_config::Config;
 use vk_files::FileCache;
 use vk_model::Manifest;
-use vk_opening::{Overlay, Overrides};
+use vk_opening::Overlay;
 use vk_registry::Table;
+use vk_rules::Overrides;
 use vk_tree::Tree;
 use vk_version::Version;
 

@@ -5,3 +5,4 @@ pub mod GrowthLemmas
 pub mod AskedNameLemmas
 pub mod NamedLemmas
 pub mod InstanceOrderLemmas
+pub mod OverrideLemmas

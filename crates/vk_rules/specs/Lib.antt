@@ -1,6 +1,7 @@
 -- what is promised
 pub mod RootSettings
 pub mod Flaws
+pub mod Overrides
 -- what functions, laws and examples say besides
 pub mod Requirers
 pub mod Roots

@@ -9,10 +9,12 @@ mod flaws;
 mod instance_sets;
 mod manifests;
 mod off_lists;
+mod overrides;
 mod requirers;
 mod roots;
 mod setting_rules;
 
 pub use flaws::Flaw;
 pub use off_lists::off_list;
+pub use overrides::Overrides;
 pub use setting_rules::{Rules, consequences};

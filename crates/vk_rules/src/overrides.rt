@@ -2,9 +2,10 @@
 ghost use Rattle.std.specs.Prelude.{◌≡◌, ◌++◌, ◌∷◌, [], ℕ, List, IfOk, OnOk, length, map};
 ghost use Rattle.std.specs.Prelude.{option_map};
 ghost use Rattle.vk_spec.specs.Manifests as plain;
+ghost use Rattle.vk_spec.specs.Pages.{has_override};
 ghost use Rattle.vk_version.specs.AskViews.{ask_view};
 ghost use Rattle.vk_model.specs.Views.{override_view};
-ghost use Rattle.vk_opening.specs.Overrides.{override_for, ArePlaces};
+ghost use Rattle.vk_rules.specs.Overrides.{override_for, ArePlaces};
 
 use indexmap::IndexMap;
 use std::alloc::Global;
@@ -25,7 +26,7 @@ impl Model for Overrides {
     ghost use Rattle.std.specs.Prelude.{List, map};
     ghost use Rattle.vk_spec.specs.Manifests.{Override};
     ghost use Rattle.vk_model.specs.Views.{override_view};
-    ghost use Rattle.vk_opening.specs.Overrides.{ArePlaces};
+    ghost use Rattle.vk_rules.specs.Overrides.{ArePlaces};
 
     ghost Value = { List Override };
 
@@ -82,5 +83,12 @@ impl Overrides {
     {
         let place = self.places.get(port)?;
         Some(&self.list.get(*place)?.ask)
+    }
+
+    /// Whether a version is set for a port. Takes no memory.
+    pub fn has(&self, port: &PortName) -> bool
+        ensures { result ≡ has_override self.now port.now }
+    {
+        self.ask_for(port).is_some()
     }
 }

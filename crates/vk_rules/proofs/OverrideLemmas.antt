@@ -1,6 +1,7 @@
 -- The place of the first override for a port: one more, and what stands there.
 use Rattle.std.proofs.Common.{◌≡◌, ◌+◌, ◌<◌, ◌≤◌, ℕ, Bool, true, false, not, cond, List, [], ◌∷◌, ◌++◌, length, take, get_or, map, refl, ap, sym, ◌∙◌, arith}
-use Rattle.std.specs.Prelude.{Option, Some, None, unwrap_or, option_map, slice_get, bytes_eq, nat_lt, nat_eq}
+use Rattle.std.specs.Prelude.{Option, Some, None, unwrap_or, option_map, slice_get, bytes_eq, nat_lt, nat_eq, ◌||◌, if◌then◌else◌}
+use Rattle.std.specs.Option.{is_some}
 use Rattle.std.specs.List.{find, position, position_or_len}
 use Rattle.std.specs.Map.{lookup}
 use Rattle.std.proofs.lemmas.List.{length-append, length-map, length-take-le, map-append, take_more}
@@ -9,11 +10,13 @@ use Rattle.std.proofs.lemmas.List.Sums.{prefix_len-le-length}
 use Rattle.std.proofs.lemmas.Option.{slice_get-map, slice_get_past}
 use Rattle.std.proofs.lemmas.Bool.Decides.{nat_tests}
 use Rattle.std.proofs.lemmas.Slice.Eq.{bytes_eq-Decides}
+use Rattle.vk_spec.specs.Versions.{Ask}
 use Rattle.vk_spec.specs.Manifests.{Override}
+use Rattle.vk_spec.specs.Pages.{has_override}
 use Rattle.vk_version.specs.AskViews.{ask_view}
 use Rattle.vk_model.specs.Views.{override_view}
 use Rattle.vk_model.specs.declared.manifests.Override as declared
-use Rattle.vk_opening.specs.Overrides.{is_for, override_for, ArePlaces}
+use Rattle.vk_rules.specs.Overrides.{is_for, override_for, ArePlaces}
 
 -- ---- one more
 
@@ -76,3 +79,20 @@ set_at list places port noted are is = sym (ap (option_map (λ o. o.ask)) (found
     twice : (o : Option declared.Override) → option_map (λ o. o.ask) (option_map override_view o) ≡ option_map (λ o. ask_view o.ask) o
     twice None = refl
     twice (Some o) = refl
+
+-- a version is set for a port where an override is for it
+set_first : (o : Override) (overrides : List Override) (port : List ℕ) (same : Bool) → is_some (option_map (λ o. o.ask) (find (is_for port) overrides)) ≡ has_override overrides port
+    → is_some (option_map (λ o. o.ask) (if same then Some o else find (is_for port) overrides)) ≡ (same || has_override overrides port)
+set_first o overrides port true later = refl
+set_first o overrides port false later = later
+
+set_where : (overrides : List Override) (port : List ℕ) → is_some (override_for overrides port) ≡ has_override overrides port
+set_where [] port = refl
+set_where (o ∷ overrides) port = set_first o overrides port (bytes_eq o.name port) (set_where overrides port)
+
+still_there : {X Y : Type 0} (f : X → Y) (found : Option X) → is_some (option_map f found) ≡ is_some found
+still_there f None = refl
+still_there f (Some x) = refl
+
+pub has_where : {X : Type 0} (f : X → Ask) (found : Option X) (overrides : List Override) (port : List ℕ) → option_map f found ≡ override_for overrides port → is_some found ≡ has_override overrides port
+has_where f found overrides port is = sym (still_there f found) ∙ ap is_some is ∙ set_where overrides port

@@ -1,8 +1,8 @@
 use Rattle.std.proofs.Common.{◌∙◌, ap}
 use Rattle.std.specs.Prelude.{Some, None, option_map}
 use Rattle.vk_version.specs.AskViews.{ask_view}
-use Rattle.vk_opening.proofs.PlaceLemmas.{set_at}
-use Rattle.vk_opening.proofs.overrides.Overrides.ask_for.Goals as goal
+use Rattle.vk_rules.proofs.OverrideLemmas.{set_at}
+use Rattle.vk_rules.proofs.overrides.Overrides.ask_for.Goals as goal
 
 pub returns-in_err-place : goal.returns-in_err-place
 returns-in_err-place c = rw (c.from_residual.ensures, ← c.self.view_is) (set_at c.self.inside.list c.self.inside.places.entries c.args.port.now None c.self.invariant c.in_err-place.ensures.value)

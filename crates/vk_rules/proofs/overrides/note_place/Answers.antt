@@ -1,8 +1,8 @@
 use Rattle.std.proofs.Common.{◌∙◌, ap, arith}
 use Rattle.std.specs.Prelude.{unwrap_or}
 use Rattle.indexmap.specs.Entry.{map_with_value}
-use Rattle.vk_opening.proofs.PlaceLemmas.{more_places}
-use Rattle.vk_opening.proofs.overrides.note_place.Goals as goal
+use Rattle.vk_rules.proofs.OverrideLemmas.{more_places}
+use Rattle.vk_rules.proofs.overrides.note_place.Goals as goal
 
 pub returns : goal.returns
 returns c = λ before one many named are port.

@@ -1,8 +1,8 @@
 use Rattle.std.proofs.Common.{refl, sym, subst, map, take}
 use Rattle.vk_model.specs.Views.{override_view}
-use Rattle.vk_opening.specs.Overrides.{ArePlaces}
-use Rattle.vk_opening.proofs.PlaceLemmas.{one_more, so_many}
-use Rattle.vk_opening.proofs.overrides.places_of.Goals as goal
+use Rattle.vk_rules.specs.Overrides.{ArePlaces}
+use Rattle.vk_rules.proofs.OverrideLemmas.{one_more, so_many}
+use Rattle.vk_rules.proofs.overrides.places_of.Goals as goal
 
 pub loop-place-preserved : goal.loop-place-preserved
 loop-place-preserved c =
