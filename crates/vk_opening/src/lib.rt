@@ -9,7 +9,6 @@ mod opens;
 mod overlays;
 mod overrides;
 mod projects;
-mod readings;
 mod roots;
 mod starts;
 mod stores;
