@@ -1,8 +1,8 @@
 -- The first of a list that passes a test of files, as a loop finds it, and which paths are looked at.
-use Rattle.std.proofs.Common.{◌≡◌, ◌<◌, ◌≤◌, ◌+◌, ℕ, Bool, true, false, cond, List, [], ◌∷◌, ◌++◌, length, get_or, drop, refl, ap, sym, subst, ◌∙◌}
+use Rattle.std.proofs.Common.{◌≡◌, ◌<◌, ◌≤◌, ◌+◌, ℕ, Bool, true, false, cond, List, [], ◌∷◌, ◌++◌, flat_map, length, get_or, drop, refl, ap, sym, subst, ◌∙◌}
 use Rattle.std.specs.Prelude.{Option, Some, None, IfSome, option_map, Result, Ok, Err}
 use Rattle.std.specs.Result.{IsErrAnd}
-use Rattle.std.specs.List.{find, flat_map}
+use Rattle.std.specs.List.{find}
 use Rattle.std.proofs.lemmas.Result.{err_from_is_err_and}
 use Rattle.std.proofs.lemmas.List.{drop_more}
 use Rattle.std.proofs.Math.ListN.{drop_of_length-le}
@@ -16,8 +16,8 @@ use Rattle.vk_base.specs.Stops.{fault_seen, has_failed}
 use Rattle.vk_base.specs.declared.stops.Stop.{Stop}
 use Rattle.vk_files.specs.Kept.{Held}
 use Rattle.vk_files.specs.Within.{up_to_first}
-use Rattle.vk_files.specs.Finds.{Reads, Finds, NothingKnown}
-use Rattle.vk_files.proofs.FindLemmas.{learned_here, learned_so, learned_then}
+use Rattle.vk_files.specs.Finds.{Reads, Finds, NothingKnown, ReadsFrom}
+use Rattle.vk_files.proofs.FindLemmas.{learned_here, learned_so, learned_then, finds_wider}
 
 -- what is told without a fault doesn't fail
 pub never : {Y W P : Type 0} (told : Option P) (y : Y) (w : W) → Fails told (Ok y) → Fails told (Ok w)
@@ -102,3 +102,19 @@ module _ {A F P : Type 0} {refusal : F → P} {paths : A → List Path} {test : 
     pub none_found : {now : List A} → now ≡ [] → NoneSoFar paths test now all a b
         → Finds {X = Option R} refusal (option_map seen) (Ok None) (λ f. Ok (find (test f) all)) (λ f. flat_map paths (up_to_first (test f) all)) NothingKnown NothingKnown a b
     none_found is so_far = record { reads = learned_so refl (λ f known. (known, λ p has. has)) (λ f before known on. (known, ap Ok (sym on.found))) (subst (λ l. NoneSoFar paths test l all a b) is so_far).reads }
+
+-- ---- where a member is its own path
+
+-- each path of a list by itself
+each_alone : (xs : List Path) → flat_map (λ p. p ∷ []) xs ≡ xs
+each_alone [] = refl
+each_alone (x ∷ xs) = ap (λ l. x ∷ l) (each_alone xs)
+
+-- the first of the paths at which there is a file
+pub of_files : {X F P : Type 0} {refusal : F → P} {view : X → Option Path} {answer : Result X (Stop F)} {meaning : Files → Result (Option Path) P} {a b : Held} (test : Files → Path → Bool) (paths : List Path)
+    → ReadsFrom refusal view answer meaning (λ f. flat_map (λ p. p ∷ []) (up_to_first (test f) paths)) a b → ReadsFrom refusal view answer meaning (λ f. up_to_first (test f) paths) a b
+of_files test paths one = finds_wider (λ f. subst (λ l. IsWithin (flat_map (λ p. p ∷ []) (up_to_first (test f) paths)) l) (each_alone (up_to_first (test f) paths)) (λ p has. has)) one
+
+-- it is one of those that were looked at
+pub found_again : {P : Type 0} (test : Files → Path → Bool) (paths : List Path) {path : Path} (f : Files) {read : Result (Option Path) P} → read ≡ Ok (find (test f) paths) → read ≡ Ok (Some path) → IsWithin (path ∷ []) (up_to_first (test f) paths)
+found_again test paths {path = path} f told is = subst (λ l. IsWithin (path ∷ []) l) (each_alone (up_to_first (test f) paths)) (found_within (λ p. p ∷ []) (test f) paths path told is)

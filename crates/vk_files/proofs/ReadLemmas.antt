@@ -1,6 +1,6 @@
 -- What was read is right, and a fault is told with its file.
-use Rattle.std.proofs.Common.{◌≡◌, Bool, refl, ap, sym, subst}
-use Rattle.std.specs.Prelude.{Option, Some, None, IfSome, Result, Err}
+use Rattle.std.proofs.Common.{◌≡◌, Bool, refl, sym, subst}
+use Rattle.std.specs.Prelude.{Option, Some, None, IfSome, Result, Ok, Err}
 use Rattle.vk_spec.specs.Paths.{Path}
 use Rattle.vk_spec.specs.Files.{Files}
 use Rattle.vk_spec.specs.Reading.{Fails}
@@ -10,18 +10,20 @@ use Rattle.vk_spec.proofs.StateLemmas.{told_before}
 use Rattle.vk_json.specs.declared.faults.FileFault.{FileFault}
 use Rattle.vk_files.specs.Kept.{Seen, Kept, seen_at, paths_of, IsOf, IsSeen, Held, ReadOnce}
 use Rattle.vk_files.specs.Views.{kept_at, same_path}
-use Rattle.vk_files.specs.Readings.{Bad, IsFaultOf, told_at}
+use Rattle.vk_files.specs.Readings.{Bad, IsFaultOf, told_at, or_told}
 use Rattle.vk_files.proofs.NoteLemmas.{right_more, right_found}
 use Rattle.vk_files.proofs.CacheLemmas.{path_is}
 
-bad_is : (path : Path) (f : FileFault) (bad : Bad) → bad.path ≡ path → f ≡ record { place = bad.place; why = bad.why } → record { path = path; place = f.place; why = f.why } ≡ bad
-bad_is path f bad one two = rw two (rw (← one) refl)
-
 -- a fault that is told is told with its file
-pub told_fails : {A : Type 0} (path : Path) (read : Result A FileFault) (fault : Option FileFault) (bad : Option Bad) → IfSome bad (IsFaultOf path fault) → Fails fault read → Fails bad (told_at path read)
-told_fails path read fault None is fails = tt
-told_fails path read None (Some bad) is fails = (cc)
-told_fails path read (Some f) (Some bad) is fails = rw fails (ap Err (bad_is path f bad is.0 (cc)))
+pub told_fails : {A P : Type 0} (told : Bad → P) (path : Path) (read : Result A FileFault) (fault : Option FileFault) (seen : Option P) → IfSome seen (IsFaultOf told path fault) → Fails fault read → Fails seen (or_told told (told_at path read))
+told_fails told path read fault None is fails = tt
+told_fails told path read None (Some p) is fails = (cc)
+told_fails told path read (Some f) (Some p) is fails = rw fails (cc)
+
+-- a bad file that is told as it is
+pub told_itself : {A : Type 0} (read : Result A Bad) → or_told (λ bad. bad) read ≡ read
+told_itself (Ok x) = refl
+told_itself (Err bad) = refl
 
 -- what was kept, and what was kept since, is right
 pub still_right : {failed : Bool} {a b : Held} → ReadOnce failed a b → IfSome a.tree.told (λ t. IsOf t.files a.kept → IsOf t.files b.kept)

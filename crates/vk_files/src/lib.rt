@@ -7,7 +7,7 @@ mod caches;
 mod found;
 mod readers;
 
-pub use bad_files::BadFile;
+pub use bad_files::{BadFile, TellsBadFile};
 pub use caches::{FileCache, MOST_BYTES};
 pub use found::{FileBytes, Found};
-pub use readers::{FileReader, Standing, file_standing, read_file};
+pub use readers::{FileReader, Standing, file_is_at, file_standing, first_file, read_file};

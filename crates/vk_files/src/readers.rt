@@ -1,18 +1,19 @@
-//! Readers of files, and how a file stands.
+//! Readers of files, how a file stands, and the first that is there.
 ghost use Rattle.std.specs.Prelude.{◌≡◌, ◌<◌, ◌^◌, ◌∷◌, [], List, ℕ, Ok, Result, IfSome};
-ghost use Rattle.std.specs.Prelude.{length, false, slice_get};
+ghost use Rattle.std.specs.Prelude.{length, false, option_map, slice_get};
+ghost use Rattle.std.specs.List.{find};
 ghost use Rattle.vk_spec.specs.Reading.{Gives};
 ghost use Rattle.vk_base.specs.Stops.{fault_in, has_failed, is_failure};
 ghost use Rattle.vk_json.specs.declared.faults.FileFault as faults;
 ghost use Rattle.vk_files.specs.Views.{held, kept_of, seen_view};
 ghost use Rattle.vk_files.specs.Finds.{ReadsFrom};
-ghost use Rattle.vk_files.specs.Within.{LooksWithin};
+ghost use Rattle.vk_files.specs.Within.{LooksWithin, up_to_first};
 ghost use Rattle.vk_base.specs.Stops.{fault_seen};
-ghost use Rattle.vk_files.specs.Readings.{IsFaultOf, told_at, bad_view, file_at};
-ghost use Rattle.vk_files.specs.Readings.{seen_file, standing_at, standing_by, is_there};
+ghost use Rattle.vk_files.specs.Readings.{IsFaultOf, told_at, or_told, file_as, seen_file};
+ghost use Rattle.vk_files.specs.Readings.{standing_at, standing_by, is_there, is_at};
 ghost use Rattle.vk_files.specs.StandingViews.{standing_view};
 
-use crate::bad_files::BadFile;
+use crate::bad_files::{BadFile, TellsBadFile};
 use crate::caches::FileCache;
 use crate::found::Found;
 use std::alloc::Global;
@@ -65,9 +66,10 @@ impl Standing {
     }
 }
 
-// The fault of a file, with the file.
-fn bad_file(path: &TreePath, fault: Unread<FileFault>) -> Stop<BadFile>
-    ensures told { IfSome (fault_seen bad_view result) (IsFaultOf path.now (fault_in fault)) }
+// The fault of a file, told with the file.
+fn bad_file<F: TellsBadFile>(path: &TreePath, fault: Unread<FileFault>) -> Stop<F>
+    ensures told { IfSome (fault_seen F.plain result)
+        (IsFaultOf F.told path.now (fault_in fault)) }
     ensures tree_ok { is_failure result ≡ false }
 {
     let FileFault { place, why } = match fault {
@@ -75,7 +77,7 @@ fn bad_file(path: &TreePath, fault: Unread<FileFault>) -> Stop<BadFile>
         Unread::Memory(memory) => return Stop::Memory(memory),
     };
     match path.clone() {
-        Ok(path) => Stop::Fault(BadFile { path, place, why }),
+        Ok(path) => Stop::Fault(F::of(BadFile { path, place, why })),
         Err(lack) => Stop::from(lack),
     }
 }
@@ -98,12 +100,12 @@ fn read_found<R: FileReader>(
 
 // What is told of a file, with the file.
 #[tactic(auto, using(crate::proofs::ReadLemmas::told_fails))]
-fn told<R: FileReader>(
+fn told<R: FileReader, F: TellsBadFile>(
     path: &TreePath,
     answer: Result<R::Out, Unread<FileFault>>,
-) -> Result<R::Out, Stop<BadFile>>
+) -> Result<R::Out, Stop<F>>
     ensures told { (read : Result R.Plain faults.FileFault) → Gives R.plain fault_in answer read →
-        Gives R.plain (fault_seen bad_view) result (told_at path.now read) }
+        Gives R.plain (fault_seen F.plain) result (or_told F.told (told_at path.now read)) }
     ensures tree_ok { has_failed result ≡ false }
 {
     match answer {
@@ -130,22 +132,22 @@ impl FileCache {
     }
 }
 
-/// What the file at a path means to a reader. `Fault` has the place and the word of the first
+/// What the file at a path means to a reader. `Fault` tells the place and the word of the first
 /// fault: the file is absent or too long, or what the reader says of its bytes.
-pub fn read_file<T: Tree, R: FileReader>(
+pub fn read_file<T: Tree, R: FileReader, F: TellsBadFile>(
     alloc: Global,
     files: &mut FileCache,
     tree: &mut T,
     path: &TreePath,
     reader: &R,
-) -> Result<R::Out, Stop<BadFile>>
-    ensures reads { ReadsFrom bad_view R.plain result (file_at (R.reads reader.now) path.now)
-        (λ f. path.now ∷ []) (held files.old (T.state tree.old))
-        (held files.new (T.state tree.new)) }
+) -> Result<R::Out, Stop<F>>
+    ensures reads { ReadsFrom F.plain R.plain result
+        (file_as F.told (R.reads reader.now) path.now) (λ f. path.now ∷ [])
+        (held files.old (T.state tree.old)) (held files.new (T.state tree.new)) }
     ensures within { LooksWithin (path.now ∷ []) (kept_of files.old) (kept_of files.new) }
 {
-    let place = files.look::<T, BadFile>(tree, path)?;
-    told::<R>(path, files.read_at(alloc, place, reader))
+    let place = files.look::<T, F>(tree, path)?;
+    told::<R, F>(path, files.read_at(alloc, place, reader))
 }
 
 fn standing_of(found: &Found) -> Standing
@@ -159,16 +161,49 @@ fn standing_of(found: &Found) -> Standing
 }
 
 /// How the file at a path stands. It finds no fault.
-pub fn file_standing<T: Tree>(
+pub fn file_standing<T: Tree, F: TellsBadFile>(
     files: &mut FileCache,
     tree: &mut T,
     path: &TreePath,
-) -> Result<Standing, Stop<BadFile>>
-    ensures reads { ReadsFrom bad_view standing_view result (λ f. Ok (standing_at path.now f))
+) -> Result<Standing, Stop<F>>
+    ensures reads { ReadsFrom F.plain standing_view result (λ f. Ok (standing_at path.now f))
         (λ f. path.now ∷ []) (held files.old (T.state tree.old))
         (held files.new (T.state tree.new)) }
     ensures within { LooksWithin (path.now ∷ []) (kept_of files.old) (kept_of files.new) }
 {
-    let place = files.look::<T, BadFile>(tree, path)?;
+    let place = files.look::<T, F>(tree, path)?;
     Ok(standing_of(files.at(place)))
+}
+
+/// Whether a file stands at a path, be it too long or not. It finds no fault.
+pub fn file_is_at<T: Tree, F: TellsBadFile>(
+    files: &mut FileCache,
+    tree: &mut T,
+    path: &TreePath,
+) -> Result<bool, Stop<F>>
+    ensures { ReadsFrom F.plain (λ there. there) result (λ files. Ok (is_at files path.now))
+        (λ f. path.now ∷ []) (held files.old (T.state tree.old))
+        (held files.new (T.state tree.new)) }
+{
+    let standing = file_standing::<T, F>(files, tree, path)?;
+    Ok(standing.is_there())
+}
+
+/// The first of the paths at which a file stands; `None` exactly where none stands at any. No path
+/// after the first is looked at. It finds no fault.
+pub fn first_file<'a, T: Tree, F: TellsBadFile>(
+    files: &mut FileCache,
+    tree: &mut T,
+    paths: &'a [TreePath],
+) -> Result<Option<&'a TreePath>, Stop<F>>
+    ensures { ReadsFrom F.plain (option_map (λ path. path.now)) result
+        (λ files. Ok (find (is_at files) paths.now)) (λ files. up_to_first (is_at files) paths.now)
+        (held files.old (T.state tree.old)) (held files.new (T.state tree.new)) }
+{
+    for path in paths {
+        if file_is_at::<T, F>(files, tree, path)? {
+            return Ok(Some(path));
+        }
+    }
+    Ok(None)
 }

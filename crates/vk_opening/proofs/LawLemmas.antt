@@ -17,7 +17,7 @@ use Rattle.vk_config.specs.Configs.{Config}
 use Rattle.vk_config.specs.Readings.{config_of}
 use Rattle.vk_config.specs.Embedding.{has_both, embedded_at}
 use Rattle.vk_files.specs.Kept.{Seen, seen_in, seen_at, absent, too_large, holds}
-use Rattle.vk_files.specs.Readings.{Standing, missing, too_long, readable, standing_by, standing_at, is_at, seen_file, told_at}
+use Rattle.vk_files.specs.Readings.{Standing, missing, too_long, readable, standing_by, standing_at, is_at, seen_file, early_of, or_told, told_at}
 use Rattle.vk_model.specs.declared.projects.Project.{Project}
 use Rattle.vk_spec.specs.Earlies.{Early, bad_file, two_configurations, no_triplet}
 use Rattle.vk_opening.specs.Starts.{Overlay}
@@ -26,7 +26,7 @@ use Rattle.vk_opening.specs.Laws.{AgreeAt, LacksTriplet, NoneHas, triplet_paths,
 use Rattle.vk_opening.specs.Projects.{manifest_path, config_path, triplet_path, folders_of}
 use Rattle.vk_spec.specs.Manifests.{Manifest}
 use Rattle.vk_spec.specs.Conditions.{Condition}
-use Rattle.vk_opening.specs.Roots.{Root, OwnConfiguration, has_configuration, own_configuration, root_in, or_early, early_at, port_in}
+use Rattle.vk_opening.specs.Roots.{Root, OwnConfiguration, has_configuration, own_configuration, root_in, early_at, port_in}
 use Rattle.vk_opening.specs.Configurations.{config_by, config_in}
 use Rattle.vk_opening.specs.TripletFiles.{Triplets, triplet_in, triplet_at, triplets_at}
 use Rattle.vk_opening.specs.Overlays.{overlay_by, overlay_at, overlays_at}
@@ -47,7 +47,7 @@ pub under_both_keys : (project : Project) (root : Root) (document : Data) (files
 unfolding config_in embedded_at
 under_both_keys project root document files is own has stands = given_root project root files two_configurations is (rw (own, stands, has) refl)
 
-long_is : (path : Path) (seen : Seen) → standing_by seen ≡ too_long → or_early (told_at path (seen_file config_of seen)) ≡ Err (bad_file path [] (codes "large"))
+long_is : (path : Path) (seen : Seen) → standing_by seen ≡ too_long → or_told early_of (told_at path (seen_file config_of seen)) ≡ Err (bad_file path [] (codes "large"))
 long_is path absent stands = (cc)
 long_is path too_large stands = refl
 long_is path (holds bytes) stands = (cc)
@@ -88,7 +88,7 @@ agree_rest (path ∷ front) more one other agree = agree_rest front more one oth
 
 module _ (one other : Files) where
   early_same : {A : Type 0} (reading : List ℕ → Result A FileFault) (path : Path) → files_map.get other path ≡ files_map.get one path → early_at reading path other ≡ early_at reading path one
-  early_same reading path same = ap (λ o. or_early (told_at path (seen_file reading (seen_in o)))) same
+  early_same reading path same = ap (λ o. or_told early_of (told_at path (seen_file reading (seen_in o)))) same
 
   standing_same : (path : Path) → files_map.get other path ≡ files_map.get one path → standing_at path other ≡ standing_at path one
   standing_same path same = ap (λ o. standing_by (seen_in o)) same

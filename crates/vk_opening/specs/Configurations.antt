@@ -5,9 +5,9 @@ use Rattle.vk_spec.specs.Paths.{Path}
 use Rattle.vk_spec.specs.Files.{Files}
 use Rattle.vk_config.specs.Configs.{Config, no_config, Embedded, nothing, one, two}
 use Rattle.vk_config.specs.Readings.{config_of}
-use Rattle.vk_files.specs.Readings.{Standing, missing, too_long, readable, standing_at, told_at}
+use Rattle.vk_files.specs.Readings.{Standing, missing, too_long, readable, standing_at, early_of, or_told, told_at}
 use Rattle.vk_spec.specs.Earlies.{Early, two_configurations}
-use Rattle.vk_opening.specs.Roots.{OwnConfiguration, or_early, early_at}
+use Rattle.vk_opening.specs.Roots.{OwnConfiguration, early_at}
 use Rattle.vk_opening.specs.Projects.{manifest_path, config_path}
 
 -- the configuration that counts, by what the root manifest has of it
@@ -18,7 +18,7 @@ only_of two = Err two_configurations
 
 -- the configuration in the root manifest, whose faults are told at its file
 abbrev pub embedded_in : Path → OwnConfiguration → Result Config Early
-embedded_in folder own = or_early (told_at (manifest_path folder) own.embedded) >>= only_of
+embedded_in folder own = or_told early_of (told_at (manifest_path folder) own.embedded) >>= only_of
 
 -- the file's configuration, unless the root manifest has one too
 abbrev pub alone_in : Path → OwnConfiguration → Files → Result Config Early

@@ -1,5 +1,5 @@
 -- The early files one by one: a file as a root manifest, and a fault as an early line.
-use Rattle.std.specs.Prelude.{ℕ, Bool, true, false, ◌||◌, List, Result, Ok, Err}
+use Rattle.std.specs.Prelude.{ℕ, Bool, true, false, ◌||◌, List, Result, Ok}
 use Rattle.std.specs.Option.{is_some}
 use Rattle.serde_json.specs.Data.{Data}
 use Rattle.serde_json.specs.Find.{get}
@@ -10,28 +10,15 @@ use Rattle.vk_spec.specs.Manifests.{Manifest}
 use Rattle.vk_spec.specs.Conditions.{Condition}
 use Rattle.vk_json.specs.Documents.{json_of}
 use Rattle.vk_json.specs.declared.faults.FileFault.{FileFault}
-use Rattle.vk_json.specs.Words.{word_of}
 use Rattle.vk_manifest.specs.Manifests.{manifest_at, manifest_of}
 use Rattle.vk_config.specs.Configs.{Embedded}
 use Rattle.vk_config.specs.Embedding.{first_key, second_key, embedded_at}
-use Rattle.vk_files.specs.Readings.{Bad, file_at}
-use Rattle.vk_spec.specs.Earlies.{Early, bad_file}
-
--- a bad file as an early line
-abbrev pub line_of : Bad → Early
-line_of bad = bad_file bad.path bad.place (word_of bad.why)
-
--- a fault in the file at a path as an early line
-abbrev pub line_at : Path → FileFault → Early
-line_at path fault = bad_file path fault.place (word_of fault.why)
-
-abbrev pub or_early : {A : Type 0} → Result A Bad → Result A Early
-or_early (Ok x) = Ok x
-or_early (Err bad) = Err (line_of bad)
+use Rattle.vk_files.specs.Readings.{early_of, file_as}
+use Rattle.vk_spec.specs.Earlies.{Early}
 
 -- what the file at a path means, or the early line of its fault
 abbrev pub early_at : {A : Type 0} → (List ℕ → Result A FileFault) → Path → Files → Result A Early
-early_at reading path files = or_early (file_at reading path files)
+early_at reading path files = file_as early_of reading path files
 
 -- a root manifest has a configuration where one of the two keys is there, whatever its value is
 abbrev pub has_configuration : Data → Bool

@@ -9,21 +9,20 @@ ghost use Rattle.vk_files.specs.Finds.{ReadsFrom};
 ghost use Rattle.vk_base.specs.Stops.{has_failed};
 ghost use Rattle.vk_base.specs.Stops.{fault_seen};
 ghost use Rattle.vk_files.specs.StandingViews.{standing_view};
-ghost use Rattle.vk_files.specs.Readings.{told_at};
+ghost use Rattle.vk_files.specs.Readings.{early_of, or_told, told_at};
 ghost use Rattle.vk_model.specs.EarlyViews.{early_view};
 ghost use Rattle.vk_opening.specs.Projects.{manifest_path, config_path};
-ghost use Rattle.vk_opening.specs.Roots.{or_early, early_at};
+ghost use Rattle.vk_opening.specs.Roots.{early_at};
 ghost use Rattle.vk_opening.specs.Configurations.{only_of, embedded_in};
 ghost use Rattle.vk_opening.specs.Views.{configuration_view, embedded_seen};
 ghost use Rattle.vk_opening.specs.Configurations.{alone_in, config_by, config_in};
 
 use crate::projects::{config_path, manifest_path};
-use crate::readings::{bad_file, read_early, standing};
 use crate::roots::OwnConfiguration;
 use std::alloc::Global;
 use vk_base::{Stop, TreePath, Unread};
 use vk_config::{Config, Embedded, read_config};
-use vk_files::{FileCache, FileReader, Standing};
+use vk_files::{FileCache, FileReader, Standing, file_standing, read_file};
 use vk_json::{FileFault, Scratch};
 use vk_model::Early;
 use vk_tree::Tree;
@@ -71,13 +70,13 @@ fn embedded_of(
     embedded: Result<Embedded, FileFault>,
 ) -> Result<Embedded, Stop<Early>>
     ensures given { Gives embedded_view (fault_seen early_view) result
-        (or_early (told_at (manifest_path folder.now) (embedded_seen embedded))) }
+        (or_told early_of (told_at (manifest_path folder.now) (embedded_seen embedded))) }
     ensures calm { has_failed result ≡ false }
 {
     let path = manifest_path(alloc, folder)?;
     match embedded {
         Ok(embedded) => Ok(embedded),
-        Err(fault) => Err(bad_file(path, Unread::Fault(fault))),
+        Err(FileFault { place, why }) => Err(Stop::Fault(Early::BadFile { path, place, why })),
     }
 }
 
@@ -106,7 +105,7 @@ fn config_file<T: Tree>(
         (held files.new (T.state tree.new)) }
 {
     let path = config_path(alloc, folder)?;
-    read_early(alloc, files, tree, &path, &ConfigFile)
+    read_file(alloc, files, tree, &path, &ConfigFile)
 }
 
 // The configuration file's configuration, unless the root manifest has one too.
@@ -161,6 +160,6 @@ pub fn read_configuration<T: Tree>(
         (held files.old (T.state tree.old)) (held files.new (T.state tree.new)) }
 {
     let path = config_path(alloc, folder)?;
-    let standing = standing(files, tree, &path)?;
+    let standing = file_standing::<T, Early>(files, tree, &path)?;
     config_by(alloc, files, tree, standing, folder, own)
 }

@@ -8,7 +8,6 @@ mod laws;
 mod opens;
 mod overlays;
 mod projects;
-mod readings;
 mod roots;
 mod starts;
 mod stores;

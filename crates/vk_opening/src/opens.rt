@@ -26,7 +26,6 @@ ghost use Rattle.vk_model.specs.SettingViews.{setting_view, instance_view};
 use crate::configurations::read_configuration;
 use crate::overlays::read_overlays;
 use crate::projects::{folders, manifest_path};
-use crate::readings::read_early;
 use crate::roots::{Root, RootFile};
 use crate::starts::{Overlay, Start};
 use crate::stores::check_store;
@@ -34,7 +33,7 @@ use crate::triplet_files::{Triplets, read_triplets};
 use std::alloc::Global;
 use vk_base::{FeatureName, Instance, List, Memory, Outage, Stop, TreePath};
 use vk_config::Config;
-use vk_files::FileCache;
+use vk_files::{FileCache, read_file};
 use vk_model::{Early, Manifest, Project, Setting, Store};
 use vk_rules::{Overrides, off_list};
 use vk_tree::Tree;
@@ -85,7 +84,7 @@ fn read_root<T: Tree>(
         (held files.new (T.state tree.new)) }
 {
     let path = manifest_path(alloc, folder)?;
-    read_early(alloc, files, tree, &path, &RootFile)
+    read_file(alloc, files, tree, &path, &RootFile)
 }
 
 // The two triplets, in the folders of the words and of the configuration.

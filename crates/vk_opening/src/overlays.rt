@@ -12,13 +12,12 @@ ghost use Rattle.vk_opening.specs.Starts.{is_port};
 ghost use Rattle.vk_opening.specs.Views.{overlay_view};
 
 use crate::projects::manifest_path;
-use crate::readings::{read_early, standing};
 use crate::roots::PortFile;
 use crate::starts::Overlay;
 use std::alloc::Global;
 use std::rc::Rc;
 use vk_base::{List, Stop, TreePath};
-use vk_files::{FileCache, Standing};
+use vk_files::{FileCache, Standing, file_standing, read_file};
 use vk_model::{Early, Manifest};
 use vk_tree::Tree;
 
@@ -34,7 +33,7 @@ fn port_manifest<T: Tree>(
         (held files.old (T.state tree.old)) (held files.new (T.state tree.new)) }
 {
     let path = manifest_path(alloc, folder)?;
-    let manifest = read_early(alloc, files, tree, &path, &PortFile)?;
+    let manifest = read_file::<T, PortFile, Early>(alloc, files, tree, &path, &PortFile)?;
     Ok(Rc::new(alloc, manifest)?)
 }
 
@@ -83,7 +82,7 @@ fn overlay_at<T: Tree>(
         (held files.new (T.state tree.new)) }
 {
     let path = manifest_path(alloc, &folder)?;
-    let standing = standing(files, tree, &path)?;
+    let standing = file_standing::<T, Early>(files, tree, &path)?;
     overlay_by(alloc, files, tree, standing, folder)
 }
 

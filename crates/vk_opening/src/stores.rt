@@ -18,11 +18,10 @@ ghost use Rattle.vk_opening.specs.Stores.{outer_folders, prefixes, source_folder
 ghost use Rattle.vk_opening.specs.Stores.{stored_at};
 
 use crate::projects::{from_folder, push_folders};
-use crate::readings::first_file;
 use std::alloc::Global;
 use vk_base::{List, Memory, Stop, TreePath};
 use vk_config::{Config, Registry, Source};
-use vk_files::FileCache;
+use vk_files::{FileCache, first_file};
 use vk_model::{Early, Project, Store};
 use vk_tree::Tree;
 
@@ -248,7 +247,7 @@ fn unblocked<T: Tree>(
         (λ files. up_to_first (is_at files) places.now) (held files.old (T.state tree.old))
         (held files.new (T.state tree.new)) }
 {
-    match first_file(files, tree, places)? {
+    match first_file::<T, Early>(files, tree, places)? {
         Some(path) => Err(Stop::Fault(blocked(path)?)),
         None => Ok(()),
     }

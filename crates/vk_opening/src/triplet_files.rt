@@ -18,10 +18,9 @@ ghost use Rattle.vk_opening.specs.TripletFiles.{triplet_at, triplets_at};
 ghost use Rattle.vk_opening.specs.Views.{triplets_view};
 
 use crate::projects::triplet_path;
-use crate::readings::{first_file, read_early};
 use std::alloc::Global;
 use vk_base::{List, Memory, Stop, TreePath, TripletName, Unread};
-use vk_files::{FileCache, FileReader};
+use vk_files::{FileCache, FileReader, first_file, read_file};
 use vk_json::{FileFault, Scratch, Why, wrong};
 use vk_model::Early;
 use vk_tree::Tree;
@@ -104,8 +103,8 @@ fn first_triplet<T: Tree>(
         (λ files. up_to_first (is_at files) paths.now) (held files.old (T.state tree.old))
         (held files.new (T.state tree.new)) }
 {
-    match first_file(files, tree, paths)? {
-        Some(path) => read_early(alloc, files, tree, path, &TripletFile(name)),
+    match first_file::<T, Early>(files, tree, paths)? {
+        Some(path) => read_file(alloc, files, tree, path, &TripletFile(name)),
         None => Err(no_triplet(name)),
     }
 }

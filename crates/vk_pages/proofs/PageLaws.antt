@@ -21,7 +21,6 @@ use Rattle.vk_spec.specs.Catalogues.{CanBeOfGiven, CanBeOfRow, HasOwnAlone, IsPa
 use Rattle.vk_spec.specs.Conditions.{Condition}
 use Rattle.vk_spec.proofs.ListLemmas.{contains_nothing}
 use Rattle.vk_json.specs.declared.faults.FileFault.{FileFault}
-use Rattle.vk_json.specs.Words.{word_of}
 use Rattle.vk_manifest.proofs.DocumentLemmas.{is_read}
 use Rattle.vk_config.specs.Closeness.{place_of}
 use Rattle.vk_config.specs.Configs.{Source, filesystem, git, builtin, artifact}
@@ -32,15 +31,14 @@ use Rattle.vk_registry.specs.RegistryFiles.{baseline_path, table_path, port_fold
 use Rattle.vk_registry.specs.Tables.{Row, table_of, asks_of, IsTable}
 use Rattle.vk_registry.proofs.TableLemmas.{table_read}
 use Rattle.vk_files.specs.Kept.{Seen, absent, too_large, holds, seen_at}
-use Rattle.vk_files.specs.Readings.{Standing, missing, too_long, readable, seen_file, standing_at, told_at}
+use Rattle.vk_files.specs.Readings.{Standing, missing, too_long, readable, Bad, early_of, wrong_of, bad_at, told_at, or_told, seen_file, file_as, standing_at}
 use Rattle.vk_opening.specs.Configurations.{config_in}
 use Rattle.vk_opening.specs.Openings.{Opening, triplets_of, opened_of}
 use Rattle.vk_opening.specs.Overlays.{port_at, overlay_by, overlay_at, overlays_at}
 use Rattle.vk_rules.specs.Overrides.{override_for}
 use Rattle.vk_opening.specs.Projects.{manifest_path, folders_of}
-use Rattle.vk_opening.specs.Roots.{root_in, port_in, or_early, early_at}
+use Rattle.vk_opening.specs.Roots.{root_in, port_in, early_at}
 use Rattle.vk_opening.specs.Starts.{Overlay, is_port, has_ports, Start}
-use Rattle.vk_pages.specs.Wrongs.{or_wrong, file_or_wrong}
 use Rattle.vk_pages.specs.Homes.{Home, in_overlay, in_registry, Served, served_by, source_in, served_for, given_by, overlay_home, home_in, home_with, served_home, registry_home, overlay_for, has_port, home_by, home_of, IsPinned}
 use Rattle.vk_pages.specs.Pages.{row_folder, row_manifest, page_row, page_at, page_of}
 
@@ -75,13 +73,13 @@ of_bytes P reading each absent x e = (cc)
 of_bytes P reading each too_large x e = (cc)
 of_bytes P reading each (holds bytes) x e = each bytes x e
 
-content : {A : Type 0} {W : Wrong → Type 0} {P : A → Type 0} (reading : List ℕ → Result A FileFault) (path : Path) (files : Files) → ((place word : List ℕ) → W (bad_file path place word))
-    → ((bytes : List ℕ) (x : A) → reading bytes ≡ Ok x → P x) → Each W P (file_or_wrong reading path files)
-content {A = A} {W = W} {P = P} reading path files wrong each = by (seen_file reading (seen_at path files)) (of_bytes P reading each (seen_at path files))
+content : {A F : Type 0} {W : F → Type 0} {P : A → Type 0} (told : Bad → F) (reading : List ℕ → Result A FileFault) (path : Path) (files : Files) → ((fault : FileFault) → W (told (bad_at path fault)))
+    → ((bytes : List ℕ) (x : A) → reading bytes ≡ Ok x → P x) → Each W P (file_as told reading path files)
+content {A = A} {W = W} {P = P} told reading path files wrong each = by (seen_file reading (seen_at path files)) (of_bytes P reading each (seen_at path files))
   where
-    by : (r : Result A FileFault) → ((x : A) → r ≡ Ok x → P x) → Each W P (or_wrong (told_at path r))
+    by : (r : Result A FileFault) → ((x : A) → r ≡ Ok x → P x) → Each W P (or_told told (told_at path r))
     by (Ok x) each = record { is = each x refl }
-    by (Err fault) each = record { is = wrong fault.place (word_of fault.why) }
+    by (Err fault) each = record { is = wrong fault }
 
 -- ---- what an opening has
 
@@ -99,14 +97,8 @@ record IsOpened (opening : Opening) : Type 0 where
 versioned : (bytes : List ℕ) (m : Manifest Condition) → port_in bytes ≡ Ok m → IsSome m.version
 versioned bytes m e = (is_read bytes false m e).1.versioned
 
-early_content : (path : Path) (r : Result (Manifest Condition) FileFault) → ((m : Manifest Condition) → r ≡ Ok m → IsSome m.version) → Each (λ e. Unit {0}) (λ m. IsSome m.version) (or_early (told_at path r))
-early_content path (Ok m) each = record { is = each m refl }
-early_content path (Err fault) each = record { is = tt }
-
 port_has : (folder : Path) (files : Files) → Each (λ e. Unit {0}) HasVersion (port_at folder files)
-port_has folder files =
-    let seen = seen_at (manifest_path folder) files in
-    then_each (early_content (manifest_path folder) (seen_file port_in seen) (of_bytes (λ m. IsSome m.version) port_in versioned seen)) (λ m is. record { is = is })
+port_has folder files = then_each (content early_of port_in (manifest_path folder) files (λ fault. tt) versioned) (λ m is. record { is = is })
 
 overlay_has : (standing : Standing) (folder : Path) (files : Files) → Each (λ e. Unit {0}) HasVersion (overlay_by standing folder files)
 overlay_has missing folder files = record { is = tt }
@@ -210,7 +202,7 @@ module _ (start : Start) (port : List ℕ) (files : Files) (Known : Type 0) wher
   in_is (has_ports folder) has =
       let own = port_folder folder port in
       let path = manifest_path own in
-      then_each (then_each (content port_in path files (λ place word. (tt, λ known. or_left (is_overlay_file port path) (has_override start.overrides port) (overlay_file port folder))) versioned)
+      then_each (then_each (content wrong_of port_in path files (λ fault. (tt, λ known. or_left (is_overlay_file port path) (has_override start.overrides port) (overlay_file port folder))) versioned)
       (λ m is. then_each (same path the.name port (name_text m.name) (refl, λ known. refl)) (λ _ _. record { is = is }))) (λ m is. own_is own m (λ known. is))
 
   served_is : {pinned : Bool} (source : Option Source) → has_override start.overrides port ≡ pinned → Each (IsWrong start port Known pinned) (λ s. Unit {0}) (served_by start.folder source)
@@ -225,13 +217,13 @@ module _ (start : Start) (port : List ℕ) (files : Files) (Known : Type 0) wher
   entry_is (Some ask) is = record { is = refl }
 
   -- a file of the registry that is wrong
-  file_wrong : {pinned : Bool} (path : Path) → is_overlay_file port path ≡ false → has_override start.overrides port ≡ pinned → (place word : List ℕ) → IsWrong start port Known pinned (bad_file path place word)
-  file_wrong path other is place word = (tt, λ known. ap (λ b. b || has_override start.overrides port) other ∙ is)
+  file_wrong : {pinned : Bool} (path : Path) → is_overlay_file port path ≡ false → has_override start.overrides port ≡ pinned → (fault : FileFault) → IsWrong start port Known pinned (wrong_of (bad_at path fault))
+  file_wrong path other is fault = (tt, λ known. ap (λ b. b || has_override start.overrides port) other ∙ is)
 
   given_is : (set : Option Ask) (served : Served) → has_override start.overrides port ≡ is_some set → Each (IsWrong start port Known (is_some set)) (IsSet (is_some set)) (given_by set served port files)
   given_is (Some ask) served is = record { is = refl }
   given_is None served is =
-      then_each (content (baseline_by served.baseline) (baseline_path served.folder) files (file_wrong (baseline_path served.folder) (no_baseline_file port served.folder) is) (λ bytes entries e. tt {0})) (λ entries _. entry_is (ask_for port entries) is)
+      then_each (content wrong_of (baseline_by served.baseline) (baseline_path served.folder) files (file_wrong (baseline_path served.folder) (no_baseline_file port served.folder) is) (λ bytes entries e. tt {0})) (λ entries _. entry_is (ask_for port entries) is)
 
   registry_is : Each (IsWrong start port Known (is_some (override_for start.overrides port))) (IsHome (is_some (override_for start.overrides port))) (registry_home start port files)
   unfolding registry_home served_home
@@ -239,7 +231,7 @@ module _ (start : Start) (port : List ℕ) (files : Files) (Known : Type 0) wher
       let is = set_is start.overrides port in
       then_each (served_is (source_in start.config (place_of start.config port)) is)
       (λ served _. then_each (given_is (override_for start.overrides port) served is)
-      (λ given set. then_each (content table_of (table_path port served.folder) files (file_wrong (table_path port served.folder) (no_table_file port served.folder) is) table_read) (λ rows table. record { is = (set, table) })))
+      (λ given set. then_each (content wrong_of table_of (table_path port served.folder) files (file_wrong (table_path port served.folder) (no_table_file port served.folder) is) table_read) (λ rows table. record { is = (set, table) })))
 
   -- whether the port is pinned
   abbrev pinned_at : Option Overlay → Bool
@@ -256,7 +248,7 @@ unfolding row_manifest agreeing version_agrees
 row_is port registry files row =
     let path = manifest_path (row_folder registry row) in
     let v = row.version in
-    then_each (content port_in path files (λ place word. tt) (λ bytes m e. tt {0}))
+    then_each (content wrong_of port_in path files (λ fault. tt) (λ bytes m e. tt {0}))
     (λ m _. then_each (then_each (same path the.name port (name_text m.name) tt) (λ _ _. then_each (there _ m.version (λ none. tt))
     (λ w _. then_each (same path the.class (class_word v.class) (class_word w.class) tt)
     (λ _ _. then_each (same path the.text v.text w.text tt) (λ _ _. same path the.port (decimal v.port) (decimal w.port) tt))))) (λ _ _. record { is = tt }))

@@ -13,18 +13,22 @@ use Rattle.vk_config.specs.Configs.{Source, filesystem, git, builtin, artifact, 
 use Rattle.vk_config.specs.Closeness.{place_of}
 use Rattle.vk_registry.specs.Baselines.{Entry, ask_for, baseline_by}
 use Rattle.vk_registry.specs.Tables.{Row, table_of}
-use Rattle.vk_files.specs.Readings.{Bad, is_at, file_at}
+use Rattle.vk_files.specs.Readings.{Bad, wrong_of, or_told, is_at, file_at, file_as}
 use Rattle.vk_opening.specs.Projects.{manifest_path}
 use Rattle.vk_rules.specs.Overrides.{override_for}
+use Rattle.vk_opening.specs.Roots.{port_in}
 use Rattle.vk_opening.specs.Starts.{Overlay, is_port, has_ports, Start}
 use Rattle.vk_registry.specs.RegistryFiles.{baseline_path, table_path, port_folder}
-use Rattle.vk_pages.specs.Wrongs.{or_wrong, file_or_wrong, manifest_file}
 use Rattle.vk_registry.specs.Agreement.{named, stated_version}
 
 -- an overlay has the port, in this folder, at its one version; or a registry does: what is given, the registry's folder, and its table
 pub data Home : Type 0 where
   in_overlay : Path → Version → Manifest Condition → Home
   in_registry : Given → Path → List Row → Home
+
+-- a port's manifest
+abbrev pub manifest_file : Path → Files → Result (Manifest Condition) Wrong
+manifest_file path files = file_as wrong_of port_in path files
 
 -- ---- overlays
 
@@ -94,7 +98,7 @@ baseline_file served files = file_at (baseline_by served.baseline) (baseline_pat
 
 -- what a baseline has for a port
 abbrev pub baseline_given : List ℕ → Result (List Entry) Bad → Result Given Wrong
-baseline_given port read = or_wrong read >>= λ entries. or_fault no_baseline (option_map baseline (ask_for port entries))
+baseline_given port read = or_told wrong_of read >>= λ entries. or_fault no_baseline (option_map baseline (ask_for port entries))
 
 -- what the registry's baseline has for the port
 abbrev pub baseline_for : Served → List ℕ → Files → Result Given Wrong
@@ -107,7 +111,7 @@ given_by None served port files = baseline_for served port files
 
 -- the port's table in a registry
 abbrev pub table_in : Served → List ℕ → Files → Result (List Row) Wrong
-table_in served port files = file_or_wrong table_of (table_path port served.folder) files
+table_in served port files = file_as wrong_of table_of (table_path port served.folder) files
 
 -- the home in a registry, where this is given
 abbrev pub home_with : Given → Served → List ℕ → Files → Result Home Wrong

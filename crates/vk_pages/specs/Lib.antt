@@ -1,5 +1,4 @@
 -- what is promised
-pub mod Wrongs
 pub mod Homes
 pub mod Pages
 pub mod Asked

@@ -10,9 +10,8 @@ use Rattle.vk_spec.specs.Conditions.{Condition}
 use Rattle.vk_registry.specs.Tables.{Row}
 use Rattle.vk_opening.specs.Projects.{manifest_path}
 use Rattle.vk_opening.specs.Starts.{Start}
-use Rattle.vk_pages.specs.Wrongs.{manifest_file}
 use Rattle.vk_registry.specs.Agreement.{agreeing}
-use Rattle.vk_pages.specs.Homes.{Home, in_overlay, in_registry, home_of}
+use Rattle.vk_pages.specs.Homes.{manifest_file, Home, in_overlay, in_registry, home_of}
 
 -- the folder of a row of a registry's table
 abbrev pub row_folder : Path → Row → Path

@@ -18,13 +18,13 @@ ghost use Rattle.vk_files.specs.Finds.{Finds, ReadsFrom};
 ghost use Rattle.vk_pages.specs.HomeViews.{served_view};
 ghost use Rattle.vk_pages.specs.NoteViews.{read_view, notes_of};
 
-use crate::contents::{NamedBaseline, wrong_of};
+use crate::contents::NamedBaseline;
 use crate::served::Served;
 use indexmap::IndexMap;
 use std::alloc::Global;
 use vk_base::{PortName, Stop};
 use vk_catalogue::{Given, Wrong};
-use vk_files::{BadFile, FileCache, read_file};
+use vk_files::{BadFile, FileCache, TellsBadFile, read_file};
 use vk_registry::{Baseline, baseline_of, baseline_path};
 use vk_tree::Tree;
 
@@ -89,7 +89,7 @@ fn given_in(read: &Result<Baseline, BadFile>, port: &PortName) -> Result<Given, 
 {
     match read {
         Ok(baseline) => given_by_baseline(baseline, port),
-        Err(bad) => Err(Stop::Fault(wrong_of(bad.clone()?))),
+        Err(bad) => Err(Stop::Fault(Wrong::of(bad.clone()?))),
     }
 }
 

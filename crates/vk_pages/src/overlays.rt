@@ -16,13 +16,12 @@ ghost use Rattle.vk_pages.specs.Asked.{overlay_path, overlay_paths};
 ghost use Rattle.vk_files.specs.Finds.{ReadsFrom};
 ghost use Rattle.vk_pages.specs.HomeViews.{home_view};
 
-use crate::contents::{content, stands};
 use crate::homes::Home;
 use std::alloc::Global;
 use std::rc::Rc;
 use vk_base::{PortName, Stop, TreePath};
 use vk_catalogue::Wrong;
-use vk_files::FileCache;
+use vk_files::{FileCache, file_is_at, read_file};
 use vk_model::Manifest;
 use vk_opening::{Overlay, PortFile, manifest_path};
 use vk_registry::{named, port_folder, stated_version};
@@ -53,7 +52,7 @@ fn holds_port<T: Tree>(
 {
     let folder = port_folder(alloc, folder, port)?;
     let path = manifest_path(alloc, &folder)?;
-    stands(files, tree, &path)
+    file_is_at(files, tree, &path)
 }
 
 fn has_port<T: Tree>(
@@ -153,7 +152,7 @@ fn named_manifest<T: Tree>(
         (held files.old (T.state tree.old)) (held files.new (T.state tree.new)) }
 {
     let path = manifest_path(alloc, folder)?;
-    let manifest = content(alloc, files, tree, &path, &PortFile)?;
+    let manifest = read_file::<T, PortFile, Wrong>(alloc, files, tree, &path, &PortFile)?;
     named_own(alloc, &path, port, manifest)
 }
 

@@ -16,13 +16,13 @@ ghost use Rattle.vk_pages.specs.HomeViews.{home_view, layout_view, served_view};
 ghost use Rattle.vk_pages.specs.NoteViews.{notes_of};
 
 use crate::baselines::Baselines;
-use crate::contents::{PortTable, content};
+use crate::contents::PortTable;
 use crate::homes::{Home, Layout};
 use crate::served::{Served, served_for};
 use std::alloc::Global;
 use vk_base::{PortName, Stop};
 use vk_catalogue::{Given, Wrong};
-use vk_files::FileCache;
+use vk_files::{FileCache, read_file};
 use vk_registry::{Table, table_path};
 use vk_tree::Tree;
 use vk_version::Ask;
@@ -70,7 +70,7 @@ fn table_in<T: Tree>(
         (held files.new (T.state tree.new)) }
 {
     let path = table_path(alloc, &served.folder, port)?;
-    content(alloc, files, tree, &path, &PortTable)
+    read_file(alloc, files, tree, &path, &PortTable)
 }
 
 // A port in a registry, for which something may be set.

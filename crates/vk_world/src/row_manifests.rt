@@ -23,10 +23,10 @@ use std::alloc::Global;
 use std::rc::Rc;
 use vk_base::{Memory, Outage, PortName, Stop, TreePath};
 use vk_catalogue::Wrong;
-use vk_files::FileCache;
+use vk_files::{FileCache, read_file};
 use vk_model::Manifest;
 use vk_opening::{PortFile, manifest_path};
-use vk_pages::{Home, content, row_folder};
+use vk_pages::{Home, row_folder};
 use vk_registry::{Row, Table, agree};
 use vk_tree::Tree;
 use vk_version::Ask;
@@ -54,7 +54,7 @@ fn row_manifest<T: Tree>(
         (held files.new (T.state tree.new)) }
 {
     let path = row_path(alloc, registry, row)?;
-    let manifest = content(alloc, files, tree, &path, &PortFile)?;
+    let manifest = read_file::<T, PortFile, Wrong>(alloc, files, tree, &path, &PortFile)?;
     agree(alloc, &path, port, &row.version, &manifest)?;
     Ok(Rc::new(alloc, manifest)?)
 }

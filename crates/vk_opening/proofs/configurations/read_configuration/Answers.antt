@@ -9,8 +9,8 @@ returns-in_err-path g c = finds_lacking c.from_residual.ensures.1 (λ f known. k
 pub returns-in_err-standing : goal.returns-in_err-standing
 unfolding config_in
 returns-in_err-standing g c =
-    finds_ended (λ standing f. config_by standing c.args.folder.now (configuration_view c.args.own) f) (rw c.in_ok-path.ensures at c.in_err-standing.ensures) c.from_residual-in_err-standing.ensures.1
+    finds_ended (λ standing f. config_by standing c.args.folder.now (configuration_view c.args.own) f) (rw c.in_ok-path.ensures at c.in_err-standing.ensures.reads) c.from_residual-in_err-standing.ensures.1
 
 pub returns : goal.returns
 unfolding config_in
-returns g c = finds_both (λ standing f. config_by standing c.args.folder.now (configuration_view c.args.own) f) (rw c.in_ok-path.ensures at c.in_ok-standing.ensures) c.config_by.ensures
+returns g c = finds_both (λ standing f. config_by standing c.args.folder.now (configuration_view c.args.own) f) (rw c.in_ok-path.ensures at c.in_ok-standing.ensures.reads) c.config_by.ensures

@@ -7,8 +7,8 @@ returns-in_err-path g c = finds_lacking c.from_residual.ensures.1 (λ f known. k
 
 pub returns-in_err-standing : goal.returns-in_err-standing
 unfolding overlay_at
-returns-in_err-standing g c = finds_ended (λ standing f. overlay_by standing c.args.folder f) (rw c.in_ok-path.ensures at c.in_err-standing.ensures) c.from_residual-in_err-standing.ensures.1
+returns-in_err-standing g c = finds_ended (λ standing f. overlay_by standing c.args.folder f) (rw c.in_ok-path.ensures at c.in_err-standing.ensures.reads) c.from_residual-in_err-standing.ensures.1
 
 pub returns : goal.returns
 unfolding overlay_at
-returns g c = finds_both (λ standing f. overlay_by standing c.args.folder f) (rw c.in_ok-path.ensures at c.in_ok-standing.ensures) c.overlay_by.ensures
+returns g c = finds_both (λ standing f. overlay_by standing c.args.folder f) (rw c.in_ok-path.ensures at c.in_ok-standing.ensures.reads) c.overlay_by.ensures
