@@ -1,7 +1,7 @@
 -- what is promised
 pub mod Projects
 pub mod Overrides
-pub mod Starts
+pub mod Layouts
 pub mod Roots
 pub mod Configurations
 pub mod TripletFiles

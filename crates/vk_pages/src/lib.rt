@@ -15,6 +15,6 @@ mod served;
 
 pub use baselines::Baselines;
 pub use contents::content;
-pub use homes::{Home, Layout, home_of};
+pub use homes::{Home, home_of};
 pub use laws::{overlay_rule, override_rule, page_rule, pinned_rule};
 pub use served::row_folder;
