@@ -17,7 +17,7 @@ use Rattle.vk_resolution.proofs.RootNameLemmas.{off_list_is_one}
 use Rattle.vk_resolution.proofs.PlannerLemmas.{outcome_is_not_too_many, one_outcome_one_report}
 use Rattle.vk_model.specs.SettingViews.{instance_view}
 use Rattle.vk_model.specs.declared.projects.Project.{Project}
-use Rattle.vk_opening.specs.Starts.{Start}
+use Rattle.vk_opening.specs.Layouts.{Layout}
 use Rattle.vk_opening.specs.Projects.{manifest_path}
 use Rattle.vk_opening.specs.Roots.{root_in, early_at}
 use Rattle.vk_opening.specs.Configurations.{config_in}
@@ -100,18 +100,18 @@ some_one (x ∷ xs) (y ∷ ys) e =
     (cc)
 
 -- an instance at its place in a plan
-same_placed : (shared : Shared) (start : Start) (files : Files) (items : List Item) (i : Instance) (place : Option ℕ) (one other : Shown) → ShowsPlaced shared start files items i place one → ShowsPlaced shared start files items i place other → one ≡ other
-same_placed shared start files items i None one other a b = a ∙ sym b
-same_placed shared start files items i (Some k) one other a b =
+same_placed : (shared : Shared) (layout : Layout) (files : Files) (items : List Item) (i : Instance) (place : Option ℕ) (one other : Shown) → ShowsPlaced shared layout files items i place one → ShowsPlaced shared layout files items i place other → one ≡ other
+same_placed shared layout files items i None one other a b = a ∙ sym b
+same_placed shared layout files items i (Some k) one other a b =
     let folders : a.1.folders ≡ b.1.folders = some_one a.1.folders b.1.folders (sym a.1.stand ∙ b.1.stand) in
     let texts : a.0 ≡ b.0 = texts_are_one shared (zip items b.1.folders) a.0 b.0 (disk_of files) (subst (λ fs. TextsAre shared (zip items fs) a.0 (disk_of files)) folders a.1.are) b.1.are in
     a.2 ∙ ap (shown_at k) texts ∙ sym b.2
 
-same_text : (shared : Shared) (start : Start) (files : Files) (i : Instance) (r : Resolution) (one other : Shown) → ShowsText shared start files i r one → ShowsText shared start files i r other → one ≡ other
-same_text shared start files i (early e) one other a b = a ∙ sym b
-same_text shared start files i (resolved (planned items reasons)) one other a b = same_placed shared start files items i (place_of i items) one other a b
-same_text shared start files i (resolved (refused lines reasons)) one other a b = a ∙ sym b
-same_text shared start files i (too_many n) one other a b = a ∙ sym b
+same_text : (shared : Shared) (layout : Layout) (files : Files) (i : Instance) (r : Resolution) (one other : Shown) → ShowsText shared layout files i r one → ShowsText shared layout files i r other → one ≡ other
+same_text shared layout files i (early e) one other a b = a ∙ sym b
+same_text shared layout files i (resolved (planned items reasons)) one other a b = same_placed shared layout files items i (place_of i items) one other a b
+same_text shared layout files i (resolved (refused lines reasons)) one other a b = a ∙ sym b
+same_text shared layout files i (too_many n) one other a b = a ∙ sym b
 
 -- a report that is checked
 same_verdict : (bytes : List ℕ) (wanted : Result Outcome Early) (one other : Shown) → ShowsVerdict bytes wanted one → ShowsVerdict bytes wanted other → one ≡ other
@@ -127,11 +127,11 @@ same_seen path absent r one other a b = a ∙ sym b
 same_seen path too_large r one other a b = a ∙ sym b
 same_seen path (holds bytes) r one other a b = same_against bytes r one other a b
 
-same_shows : (t : Task) (setting : Setting) (start : Start) (files : Files) (r : Resolution) (one other : Shown) → ShowsTask t setting start files r one → ShowsTask t setting start files r other → one ≡ other
-same_shows (task.Plan project) setting start files r one other a b = a ∙ sym b
-same_shows (task.Abi project i) setting start files r one other a b = same_text (shared_of project setting) start files (instance_view i) r one other a b
-same_shows (task.Check project report) setting start files r one other a b = same_seen report (report_at report files) r one other a b
-same_shows (task.SelfLoad size project) setting start files r one other a b = a ∙ sym b
+same_shows : (t : Task) (setting : Setting) (layout : Layout) (files : Files) (r : Resolution) (one other : Shown) → ShowsTask t setting layout files r one → ShowsTask t setting layout files r other → one ≡ other
+same_shows (task.Plan project) setting layout files r one other a b = a ∙ sym b
+same_shows (task.Abi project i) setting layout files r one other a b = same_text (shared_of project setting) layout files (instance_view i) r one other a b
+same_shows (task.Check project report) setting layout files r one other a b = same_seen report (report_at report files) r one other a b
+same_shows (task.SelfLoad size project) setting layout files r one other a b = a ∙ sym b
 
 same_early : (t : Task) (e : Early) (files : Files) (one other : Shown) → ShowsEarly t e files one → ShowsEarly t e files other → one ≡ other
 same_early (task.Plan project) e files one other a b = a ∙ sym b
@@ -140,16 +140,16 @@ same_early (task.Check project report) e files one other a b = same_seen report 
 same_early (task.SelfLoad size project) e files one other a b = a ∙ sym b
 
 -- under one setting
-one_settled : (t : Task) (setting : Setting) (start : Start) (files : Files) (one other : Shown) → ShowsSettled t setting start files one → ShowsSettled t setting start files other → one ≡ other
-one_settled t setting start files one other a b =
-    let same = same_settled setting (page_of start files) a.0 b.0 a.1 b.1 in
-    same_shows t setting start files b.0 one other (subst (λ r. ShowsTask t setting start files r one) same a.2) b.2
+one_settled : (t : Task) (setting : Setting) (layout : Layout) (files : Files) (one other : Shown) → ShowsSettled t setting layout files one → ShowsSettled t setting layout files other → one ≡ other
+one_settled t setting layout files one other a b =
+    let same = same_settled setting (page_of layout files) a.0 b.0 a.1 b.1 in
+    same_shows t setting layout files b.0 one other (subst (λ r. ShowsTask t setting layout files r one) same a.2) b.2
 
 one_read : (t : Task) (files : Files) (read : Result Opening Early) → opened_of (project_of t) files ≡ read → (one other : Shown) → ShowsRead t read files one → ShowsRead t read files other → one ≡ other
 one_read t files (Err e) is one other a b = same_early t e files one other a b
 one_read t files (Ok opening) is one other a b =
     let same = same_setting (project_of t) opening a.setting b.setting (opening_form (project_of t) files opening is) a.is_setting b.is_setting in
-    one_settled t b.setting opening.start files one other (subst (λ s. ShowsSettled t s opening.start files one) same a.shows) b.shows
+    one_settled t b.setting opening.layout files one other (subst (λ s. ShowsSettled t s opening.layout files one) same a.shows) b.shows
 
 pub one_answer : (request : Request) (files : Files) (one other : Shown) → IsAnswerTo request files one → IsAnswerTo request files other → one ≡ other
 one_answer (Err fault) files one other a b = a ∙ sym b

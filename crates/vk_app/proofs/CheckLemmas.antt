@@ -29,9 +29,9 @@ use Rattle.vk_files.specs.Kept.{too_large, holds}
 use Rattle.vk_model.specs.declared.projects.Project.{Project}
 use Rattle.vk_model.specs.SettingViews.{setting_view}
 use Rattle.vk_model.specs.declared.settings.Setting as made_setting
-use Rattle.vk_opening.specs.Starts.{Start}
-use Rattle.vk_opening.specs.Views.{start_view}
-use Rattle.vk_opening.specs.declared.starts.Start as made_start
+use Rattle.vk_opening.specs.Layouts.{Layout}
+use Rattle.vk_opening.specs.Views.{layout_view}
+use Rattle.vk_opening.specs.declared.layouts.Start as made_start
 use Rattle.vk_pages.specs.Pages.{page_of}
 use Rattle.vk_pages.proofs.PageLaws.{is_page}
 use Rattle.vk_worklist.specs.Faults.{OnFault}
@@ -130,9 +130,9 @@ ends_unread project report e Answers May earlier shown a b answers distinct is r
     (own_alone (Ok (task.Check project report)) May earlier r.own distinct r.looks r.once) ends
 
 -- under a setting, the project comes to something
-pub settles_unread : (project : Project) (report : Path) (setting : Setting) (start : Start) (files : Files) (first : Shown) → ((r : Resolution) → ShowsCheck report files r first) → ShowsSettled (task.Check project report) setting start files first
-settles_unread project report setting start files first shows =
-    let r = settles_some setting (page_of start files) (is_page start files) in (r.0, r.1, shows r.0)
+pub settles_unread : (project : Project) (report : Path) (setting : Setting) (layout : Layout) (files : Files) (first : Shown) → ((r : Resolution) → ShowsCheck report files r first) → ShowsSettled (task.Check project report) setting layout files first
+settles_unread project report setting layout files first shows =
+    let r = settles_some setting (page_of layout files) (is_page layout files) in (r.0, r.1, shows r.0)
 
 -- ---- a report against an early line
 
@@ -186,32 +186,32 @@ judged_calm project (Err (stop.Fault fault)) four = refl
 judged_calm project (Err stop.Failed) four = absurd (four refl)
 judged_calm project (Err (stop.Memory m)) four = refl
 
-shows_judged : (project : Project) (bytes : List ℕ) (setting : Setting) (start : Start) (files : Files) (answer : Result Verdict (Stop CloseFault)) → setting.max_facts ≡ project.max_facts → Judges setting (page_of start files) bytes answer
-    → (shown_judged project answer).status ≢ 3 → (shown_judged project answer).status ≢ 4 → ShowsJudged bytes setting start files (shown_judged project answer)
-shows_judged project bytes setting start files (Ok v) most h three four = (the.resolved h.outcome, (h.is_outcome, h.few), (v, h.compared, refl))
-shows_judged project bytes setting start files (Err (stop.Fault (Facts n))) most h three four = (the.too_many n, h, ap (λ k. told 6 (limit_line (limit.Facts k))) (sym (h.1 ∙ most)))
-shows_judged project bytes setting start files (Err stop.Failed) most h three four = absurd (four refl)
-shows_judged project bytes setting start files (Err (stop.Memory m)) most h three four = absurd (three refl)
+shows_judged : (project : Project) (bytes : List ℕ) (setting : Setting) (layout : Layout) (files : Files) (answer : Result Verdict (Stop CloseFault)) → setting.max_facts ≡ project.max_facts → Judges setting (page_of layout files) bytes answer
+    → (shown_judged project answer).status ≢ 3 → (shown_judged project answer).status ≢ 4 → ShowsJudged bytes setting layout files (shown_judged project answer)
+shows_judged project bytes setting layout files (Ok v) most h three four = (the.resolved h.outcome, (h.is_outcome, h.few), (v, h.compared, refl))
+shows_judged project bytes setting layout files (Err (stop.Fault (Facts n))) most h three four = (the.too_many n, h, ap (λ k. told 6 (limit_line (limit.Facts k))) (sym (h.1 ∙ most)))
+shows_judged project bytes setting layout files (Err stop.Failed) most h three four = absurd (four refl)
+shows_judged project bytes setting layout files (Err (stop.Memory m)) most h three four = absurd (three refl)
 
 pub judge_ends : (project : Project) (report : Path) (bytes : List ℕ) (setting : made_setting.Setting) (start : made_start.Start) (answer : Result Verdict (Stop CloseFault)) (Reads : Bool → State → State → Type 0) (shown : Shown) (a b : State)
     → IfSome a.told (λ t. IsReady project setting start t.files)
-    → IfSome a.told (λ t. Judges (setting_view setting) (page_of (start_view start) t.files) bytes answer)
+    → IfSome a.told (λ t. Judges (setting_view setting) (page_of (layout_view start.layout) t.files) bytes answer)
     → Reads (has_failed answer) a b → EndsWith (shown_judged project answer) shown
-    → EndsFor (Ok (task.Check project report)) (ShowsJudged bytes (setting_view setting) (start_view start)) Reads shown a b
+    → EndsFor (Ok (task.Check project report)) (ShowsJudged bytes (setting_view setting) (layout_view start.layout)) Reads shown a b
 judge_ends project report bytes setting start answer Reads shown a b ready judges reads ends =
     ends_by (task.Check project report) _ Reads (shown_judged project answer) shown (has_failed answer) a b (judged_may_end project report answer) (judged_calm project answer)
-    (of_both a.told ready judges (λ t r h three four. shows_judged project bytes (setting_view setting) (start_view start) t.files answer r.most h three four))
+    (of_both a.told ready judges (λ t r h three four. shows_judged project bytes (setting_view setting) (layout_view start.layout) t.files answer r.most h three four))
     reads ends
 
 -- the report was read, and then judged
-pub check_ends : (project : Project) (report : Path) (bytes : List ℕ) (setting : Setting) (start : Start) (May : Purpose → Files → Path → Type 0) (earlier : List Path) (shown : Shown) (a b c : State)
+pub check_ends : (project : Project) (report : Path) (bytes : List ℕ) (setting : Setting) (layout : Layout) (May : Purpose → Files → Path → Type 0) (earlier : List Path) (shown : Shown) (a b c : State)
     → OnFiles (ReportIs report (Ok bytes)) a → ReadsReport report false a b
-    → EndsFor (Ok (task.Check project report)) (ShowsJudged bytes setting start) (ReadsOnce (May to_plan) earlier) shown b c
-    → EndsFor (Ok (task.Check project report)) (ShowsSettled (task.Check project report) setting start) (ReadsFor (Ok (task.Check project report)) May earlier) shown a c
-check_ends project report bytes setting start May earlier shown a b c is r ends = record {
+    → EndsFor (Ok (task.Check project report)) (ShowsJudged bytes setting layout) (ReadsOnce (May to_plan) earlier) shown b c
+    → EndsFor (Ok (task.Check project report)) (ShowsSettled (task.Check project report) setting layout) (ReadsFor (Ok (task.Check project report)) May earlier) shown a c
+check_ends project report bytes setting layout May earlier shown a b c is r ends = record {
   failed = ends.failed;
   may = ends.may;
   reads = own_before (Ok (task.Check project report)) May earlier r.own r.looks r.once ends.reads;
-  content = of_both a.told is (told_before (λ f. shown.status ≢ 3 → shown.status ≢ 4 → ShowsJudged bytes setting start f shown) (record { asked = r.own; looks = r.looks }) ends.content)
+  content = of_both a.told is (told_before (λ f. shown.status ≢ 3 → shown.status ≢ 4 → ShowsJudged bytes setting layout f shown) (record { asked = r.own; looks = r.looks }) ends.content)
       (λ t seen shows three four. let s = shows three four in (s.0, s.1, against_read report bytes t.files s.0 shown seen s.2));
 }

@@ -33,11 +33,11 @@ use Rattle.vk_model.specs.declared.projects.Project.{Project}
 use Rattle.vk_model.specs.declared.settings.Setting as made
 use Rattle.vk_files.specs.Kept.{Kept, IsOf, paths_of}
 use Rattle.vk_opening.specs.Asked.{opening_paths}
-use Rattle.vk_opening.specs.Starts.{Start}
+use Rattle.vk_opening.specs.Layouts.{Layout}
 use Rattle.vk_opening.specs.Opened.{Opens, Tells, IsKept}
 use Rattle.vk_opening.specs.Openings.{opened_of}
-use Rattle.vk_opening.specs.Views.{ready_view, start_view, opened_files}
-use Rattle.vk_opening.specs.declared.starts.Start as made_start
+use Rattle.vk_opening.specs.Views.{ready_view, layout_view, opened_files}
+use Rattle.vk_opening.specs.declared.layouts.Start as made_start
 use Rattle.vk_opening.specs.declared.opens.Opened.{Opened}
 use Rattle.vk_opening.specs.declared.opens.Opened.TheVariants as opened
 use Rattle.vk_opening.proofs.OpenLemmas as opening
@@ -81,10 +81,10 @@ settled setting (Err stop.Failed) state was fault = of_each state.pages (λ p. t
 settled setting (Err (stop.Memory m)) state was fault = of_each state.pages (λ p. tt)
 
 -- what is told of pages is told of the files whose they are
-pub pages_told : (start : Start) (told : Option Told) (pages : Option (Pages)) (P : Pages → Type 0) → pages ≡ pages_in start told → IfSome pages P → IfSome told (λ t. P (page_of start t.files))
-pages_told start told pages P same h = by told (subst (λ o. IfSome o P) same h)
+pub pages_told : (layout : Layout) (told : Option Told) (pages : Option (Pages)) (P : Pages → Type 0) → pages ≡ pages_in layout told → IfSome pages P → IfSome told (λ t. P (page_of layout t.files))
+pages_told layout told pages P same h = by told (subst (λ o. IfSome o P) same h)
   where
-    by : (o : Option Told) → IfSome (pages_in start o) P → IfSome o (λ t. P (page_of start t.files))
+    by : (o : Option Told) → IfSome (pages_in layout o) P → IfSome o (λ t. P (page_of layout t.files))
     by None h = tt
     by (Some t) h = h
 
@@ -127,21 +127,21 @@ ends_with t Answers Reads answer shown a b pass content reads ends =
     ends_by t Answers Reads (shown_of (project_of t) answer) shown (has_failed answer) a b (may_end t answer pass) (not_failed (project_of t) answer) content reads ends
 
 -- what is shown of an answer is what a plan shows, but for a failure and out of memory
-shows_plan : (project : Project) (setting : Setting) (start : Start) (files : Files) (answer : Result Outcome (Stop CloseFault)) → setting.max_facts ≡ project.max_facts → Resolves (Settles setting (page_of start files)) answer
-    → (shown_of project answer).status ≢ 3 → (shown_of project answer).status ≢ 4 → ShowsSettled (task.Plan project) setting start files (shown_of project answer)
-shows_plan project setting start files (Ok o) most h three four = (resolution_of (outcome_view o), h, refl)
-shows_plan project setting start files (Err (stop.Fault (Facts n))) most h three four = (the.too_many n, h, ap (λ k. told 6 (limit_line (limit.Facts k))) (sym (h.1 ∙ most)))
-shows_plan project setting start files (Err stop.Failed) most h three four = absurd (four refl)
-shows_plan project setting start files (Err (stop.Memory m)) most h three four = absurd (three refl)
+shows_plan : (project : Project) (setting : Setting) (layout : Layout) (files : Files) (answer : Result Outcome (Stop CloseFault)) → setting.max_facts ≡ project.max_facts → Resolves (Settles setting (page_of layout files)) answer
+    → (shown_of project answer).status ≢ 3 → (shown_of project answer).status ≢ 4 → ShowsSettled (task.Plan project) setting layout files (shown_of project answer)
+shows_plan project setting layout files (Ok o) most h three four = (resolution_of (outcome_view o), h, refl)
+shows_plan project setting layout files (Err (stop.Fault (Facts n))) most h three four = (the.too_many n, h, ap (λ k. told 6 (limit_line (limit.Facts k))) (sym (h.1 ∙ most)))
+shows_plan project setting layout files (Err stop.Failed) most h three four = absurd (four refl)
+shows_plan project setting layout files (Err (stop.Memory m)) most h three four = absurd (three refl)
 
 pub plan_ends : (project : Project) (setting : made.Setting) (start : made_start.Start) (answer : Result Outcome (Stop CloseFault)) (shown : Shown) (a b : State)
     → IfSome a.told (λ t. IsReady project setting start t.files)
-    → IfSome a.told (λ t. Resolves (Settles (setting_view setting) (page_of (start_view start) t.files)) answer)
-    → ReadsOnce (IsOfPorts (start_view start) to_plan) (paths_of (opened_files start)) (has_failed answer) a b → EndsWith (shown_of project answer) shown
-    → EndsFor (Ok (task.Plan project)) (ShowsSettled (task.Plan project) (setting_view setting) (start_view start)) (ReadsFor (Ok (task.Plan project)) (IsOfPorts (start_view start)) (paths_of (opened_files start))) shown a b
+    → IfSome a.told (λ t. Resolves (Settles (setting_view setting) (page_of (layout_view start.layout) t.files)) answer)
+    → ReadsOnce (IsOfPorts (layout_view start.layout) to_plan) (paths_of (opened_files start)) (has_failed answer) a b → EndsWith (shown_of project answer) shown
+    → EndsFor (Ok (task.Plan project)) (ShowsSettled (task.Plan project) (setting_view setting) (layout_view start.layout)) (ReadsFor (Ok (task.Plan project)) (IsOfPorts (layout_view start.layout)) (paths_of (opened_files start))) shown a b
 plan_ends project setting start answer shown a b ready resolves reads ends =
-    ends_with (task.Plan project) _ (ReadsFor (Ok (task.Plan project)) (IsOfPorts (start_view start)) (paths_of (opened_files start))) answer shown a b refl
-    (of_both a.told ready resolves (λ t r h three four. shows_plan project (setting_view setting) (start_view start) t.files answer r.most h three four)) (for_plan _ _ _ reads) ends
+    ends_with (task.Plan project) _ (ReadsFor (Ok (task.Plan project)) (IsOfPorts (layout_view start.layout)) (paths_of (opened_files start))) answer shown a b refl
+    (of_both a.told ready resolves (λ t r h three four. shows_plan project (setting_view setting) (layout_view start.layout) t.files answer r.most h three four)) (for_plan _ _ _ reads) ends
 
 -- ---- a load
 
@@ -155,21 +155,21 @@ load_not_failed : (size : ℕ) (project : Project) (answer : Result Outcome (Sto
 load_not_failed size project (Ok o) four = refl
 load_not_failed size project (Err e) four = not_failed project (Err e) four
 
-shows_load : (size : ℕ) (project : Project) (setting : Setting) (start : Start) (files : Files) (answer : Result Outcome (Stop CloseFault)) → setting.max_facts ≡ project.max_facts → Resolves (Settles setting (page_of start files)) answer
-    → (shown_load size project answer).status ≢ 3 → (shown_load size project answer).status ≢ 4 → ShowsSettled (task.SelfLoad size project) setting start files (shown_load size project answer)
-shows_load size project setting start files (Ok o) most h three four = (resolution_of (outcome_view o), h, refl)
-shows_load size project setting start files (Err (stop.Fault (Facts n))) most h three four = (the.too_many n, h, ap (λ k. told 6 (limit_line (limit.Facts k))) (sym (h.1 ∙ most)))
-shows_load size project setting start files (Err stop.Failed) most h three four = absurd (four refl)
-shows_load size project setting start files (Err (stop.Memory m)) most h three four = absurd (three refl)
+shows_load : (size : ℕ) (project : Project) (setting : Setting) (layout : Layout) (files : Files) (answer : Result Outcome (Stop CloseFault)) → setting.max_facts ≡ project.max_facts → Resolves (Settles setting (page_of layout files)) answer
+    → (shown_load size project answer).status ≢ 3 → (shown_load size project answer).status ≢ 4 → ShowsSettled (task.SelfLoad size project) setting layout files (shown_load size project answer)
+shows_load size project setting layout files (Ok o) most h three four = (resolution_of (outcome_view o), h, refl)
+shows_load size project setting layout files (Err (stop.Fault (Facts n))) most h three four = (the.too_many n, h, ap (λ k. told 6 (limit_line (limit.Facts k))) (sym (h.1 ∙ most)))
+shows_load size project setting layout files (Err stop.Failed) most h three four = absurd (four refl)
+shows_load size project setting layout files (Err (stop.Memory m)) most h three four = absurd (three refl)
 
 pub load_ends : (size : ℕ) (project : Project) (setting : made.Setting) (start : made_start.Start) (answer : Result Outcome (Stop CloseFault)) (shown : Shown) (a b : State)
     → IfSome a.told (λ t. IsReady project setting start t.files)
-    → IfSome a.told (λ t. Resolves (Settles (setting_view setting) (page_of (start_view start) t.files)) answer)
-    → ReadsOnce (IsOfPorts (start_view start) to_plan) (paths_of (opened_files start)) (has_failed answer) a b → EndsWith (shown_load size project answer) shown
-    → EndsFor (Ok (task.SelfLoad size project)) (ShowsSettled (task.SelfLoad size project) (setting_view setting) (start_view start)) (ReadsFor (Ok (task.SelfLoad size project)) (IsOfPorts (start_view start)) (paths_of (opened_files start))) shown a b
+    → IfSome a.told (λ t. Resolves (Settles (setting_view setting) (page_of (layout_view start.layout) t.files)) answer)
+    → ReadsOnce (IsOfPorts (layout_view start.layout) to_plan) (paths_of (opened_files start)) (has_failed answer) a b → EndsWith (shown_load size project answer) shown
+    → EndsFor (Ok (task.SelfLoad size project)) (ShowsSettled (task.SelfLoad size project) (setting_view setting) (layout_view start.layout)) (ReadsFor (Ok (task.SelfLoad size project)) (IsOfPorts (layout_view start.layout)) (paths_of (opened_files start))) shown a b
 load_ends size project setting start answer shown a b ready resolves reads ends =
-    ends_by (task.SelfLoad size project) _ (ReadsFor (Ok (task.SelfLoad size project)) (IsOfPorts (start_view start)) (paths_of (opened_files start))) (shown_load size project answer) shown (has_failed answer) a b (load_may_end size project answer) (load_not_failed size project answer)
-    (of_both a.told ready resolves (λ t r h three four. shows_load size project (setting_view setting) (start_view start) t.files answer r.most h three four)) (for_plan _ _ _ reads) ends
+    ends_by (task.SelfLoad size project) _ (ReadsFor (Ok (task.SelfLoad size project)) (IsOfPorts (layout_view start.layout)) (paths_of (opened_files start))) (shown_load size project answer) shown (has_failed answer) a b (load_may_end size project answer) (load_not_failed size project answer)
+    (of_both a.told ready resolves (λ t r h three four. shows_load size project (setting_view setting) (layout_view start.layout) t.files answer r.most h three four)) (for_plan _ _ _ reads) ends
 
 -- the world's tree tells what its setting was opened on
 pub ready_kept : (project : Project) (setting : made.Setting) (start : made_start.Start) (s : State) → IfSome s.told (λ t. IsReady project setting start t.files) → IfSome s.told (λ t. IsOf t.files (opened_files start))
@@ -180,7 +180,7 @@ ready_kept project setting start s ready = IfSome_then s.told ready (λ t r. r.k
 -- what a task shows of its setting is what it shows of what was opened
 pub ends_ready : (task : Task) (o : Opened) (setting : made.Setting) (start : made_start.Start) (shown : Shown) (read : Kept) (a b : State)
     → o ≡ opened.Ready setting start → IsKept read (Ok o)
-    → EndsFor (Ok task) (ShowsSettled task (setting_view setting) (start_view start)) (ReadsFor (Ok task) (IsOfPorts (start_view start)) (paths_of (opened_files start))) shown a b
+    → EndsFor (Ok task) (ShowsSettled task (setting_view setting) (layout_view start.layout)) (ReadsFor (Ok task) (IsOfPorts (layout_view start.layout)) (paths_of (opened_files start))) shown a b
     → EndsFor (Ok task) (OpenedShows task o) (ReadsFor (Ok task) (OpenedMayAsk o) (paths_of read)) shown a b
 ends_ready task o setting start shown read a b is kept ends =
     let same : read ≡ opened_files start = rw is at kept in

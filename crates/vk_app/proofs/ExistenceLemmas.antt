@@ -34,7 +34,7 @@ use Rattle.vk_model.specs.declared.projects.Project.{Project}
 use Rattle.vk_report.specs.Reports.{whole_report}
 use Rattle.vk_check.proofs.VerdictLemmas.{some_verdict}
 use Rattle.vk_abi.specs.LawsOnPlans.{ArePaths}
-use Rattle.vk_opening.specs.Starts.{Start}
+use Rattle.vk_opening.specs.Layouts.{Layout}
 use Rattle.vk_gen.specs.Loads.{load_files}
 use Rattle.vk_opening.specs.Openings.{Opening, opened_of}
 use Rattle.vk_opening.specs.Opened.{ListsOwnOff}
@@ -107,7 +107,7 @@ settles_some setting pages are = elim (outcome_or_many setting pages are) [
 
 -- a task shows something of all that a setting and the pages of these files come to, and of each early line
 record HasShown (t : Task) (files : Files) : Type 0 where
-  settled : (setting : Setting) (start : Start) (r : Resolution) → Settles setting (page_of start files) r → (shown : Shown) × ShowsTask t setting start files r shown
+  settled : (setting : Setting) (layout : Layout) (r : Resolution) → Settles setting (page_of layout files) r → (shown : Shown) × ShowsTask t setting layout files r shown
   unopened : (e : Early) → (shown : Shown) × ShowsEarly t e files shown
 
 -- so it does of its project
@@ -117,8 +117,8 @@ some_read t files has (Ok opening) is =
     let form = opening_form (project_of t) files opening is in
     let off = off_exists form.base in
     let setting_is : opening.setting off.0 ≡ with_off form.base off.0 = form.settings off.0 in
-    let r = settles_some (opening.setting off.0) (page_of opening.start files) (is_page opening.start files) in
-    let shown = has.settled (opening.setting off.0) opening.start r.0 r.1 in
+    let r = settles_some (opening.setting off.0) (page_of opening.layout files) (is_page opening.layout files) in
+    let shown = has.settled (opening.setting off.0) opening.layout r.0 r.1 in
     (shown.0, record { setting = opening.setting off.0; is_setting = record { off = off.0; setting_is = refl; lists = subst ListsOwnOff (sym setting_is) off.1 }; shows = (r.0, r.1, shown.1) })
 
 some_project : (t : Task) (files : Files) → HasShown t files → (shown : Shown) × ShowsProject t files shown
@@ -127,14 +127,14 @@ some_project t files has = some_read t files has (opened_of (project_of t) files
 -- ---- each task
 
 plan_shows : (project : Project) (files : Files) → HasShown (task.Plan project) files
-plan_shows project files = record { settled = λ setting start r settles. (shown_for r, refl); unopened = λ e. (shown_for (the.early e), refl) }
+plan_shows project files = record { settled = λ setting layout r settles. (shown_for r, refl); unopened = λ e. (shown_for (the.early e), refl) }
 
 load_shows : (size : ℕ) (project : Project) (files : Files) → HasShown (task.SelfLoad size project) files
-load_shows size project files = record { settled = λ setting start r settles. (load_shown size r, refl); unopened = λ e. (shown_for (the.early e), refl) }
+load_shows size project files = record { settled = λ setting layout r settles. (load_shown size r, refl); unopened = λ e. (shown_for (the.early e), refl) }
 
 text_shows : (project : Project) (i : made.Instance) (files : Files) → IsTree files → ArePaths files → HasShown (task.Abi project i) files
 text_shows project i files tree paths = record {
-  settled = λ setting start r settles. some_text (shared_of project setting) setting start files (instance_view i) r tree paths settles;
+  settled = λ setting layout r settles. some_text (shared_of project setting) setting layout files (instance_view i) r tree paths settles;
   unopened = λ e. (shown_for (the.early e), refl);
 }
 
@@ -150,7 +150,7 @@ some_seen path (holds bytes) r = some_against bytes r
 
 check_shows : (project : Project) (report : Path) (files : Files) → HasShown (task.Check project report) files
 check_shows project report files = record {
-  settled = λ setting start r settles. some_seen report (report_at report files) r;
+  settled = λ setting layout r settles. some_seen report (report_at report files) r;
   unopened = λ e. some_seen report (report_at report files) (the.early e);
 }
 

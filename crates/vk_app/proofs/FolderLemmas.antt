@@ -37,11 +37,11 @@ use Rattle.vk_model.specs.FactViews.{reasons_view}
 use Rattle.vk_model.specs.declared.plans.Item as made
 use Rattle.vk_model.specs.declared.plans.Outcome.{Outcome}
 use Rattle.vk_model.specs.declared.plans.Outcome.TheVariants as outcome
-use Rattle.vk_opening.specs.Starts.{Start}
+use Rattle.vk_opening.specs.Layouts.{Layout}
 use Rattle.vk_pages.specs.Homes.{home_of}
 use Rattle.vk_pages.specs.Pages.{page_of}
 use Rattle.vk_pages.proofs.PageLaws.{is_page}
-use Rattle.vk_world.specs.Worlds.{WorldView, pages_in, places_in, start_in, state_of}
+use Rattle.vk_world.specs.Worlds.{WorldView, pages_in, places_in, layout_in, state_of}
 use Rattle.vk_world.proofs.ListedLemmas.{version_stands}
 use Rattle.vk_worklist.specs.declared.faults.CloseFault.{CloseFault}
 use Rattle.vk_app.specs.Resolutions.{Settles}
@@ -96,9 +96,9 @@ place_in p f xs =
 stands_somewhere : {T : Type 0} (state : T → State) (w : WorldView T) (port : List ℕ) (v : Version) → OnPages (λ ps. HasVersion ps port v) (state_of state w) → OnPages (λ ps. (folder : Path) × ((state_of state w).origin.places port v ≡ Some folder)) (state_of state w)
 stands_somewhere state w port v has = by (state w.tree).told has
   where
-    by : (o : Option Told) → IfSome (pages_in (start_in w.learned) o) (λ ps. HasVersion ps port v) → IfSome (pages_in (start_in w.learned) o) (λ ps. (folder : Path) × (places_in (start_in w.learned) o port v ≡ Some folder))
+    by : (o : Option Told) → IfSome (pages_in (layout_in w.learned) o) (λ ps. HasVersion ps port v) → IfSome (pages_in (layout_in w.learned) o) (λ ps. (folder : Path) × (places_in (layout_in w.learned) o port v ≡ Some folder))
     by None h = tt
-    by (Some t) h = version_stands port t.files (home_of (start_in w.learned) port t.files) v h.listed
+    by (Some t) h = version_stands port t.files (home_of (layout_in w.learned) port t.files) v h.listed
 
 -- a folder that is answered is that of the item
 pub folder_answered : (s : CatalogueState Condition) (port : List ℕ) (v : Version) (folder : Path) → OnPages (λ ps. Some folder ≡ s.origin.places port v) s → OnPages (λ ps. s.origin.places port v ∷ [] ≡ Some folder ∷ []) s
@@ -145,13 +145,13 @@ folders_more s items i x folders folder within at old new =
 
 -- ---- the items of what a setting comes to
 
-pub have_outcome : (setting : Setting) (start : Start) (told : Option Told) (s : CatalogueState Condition) (answer : Result Outcome (Stop CloseFault)) → s.pages ≡ pages_in start told
-    → IfSome told (λ t. Resolves (Settles setting (page_of start t.files)) answer) → HaveOutcome answer s
-have_outcome setting start told s (Ok (outcome.Planned plan reasons)) pages h = subst (λ o. IfSome o (λ ps. HaveItems ps (map item_view plan.items))) (sym pages) (by told h)
+pub have_outcome : (setting : Setting) (layout : Layout) (told : Option Told) (s : CatalogueState Condition) (answer : Result Outcome (Stop CloseFault)) → s.pages ≡ pages_in layout told
+    → IfSome told (λ t. Resolves (Settles setting (page_of layout t.files)) answer) → HaveOutcome answer s
+have_outcome setting layout told s (Ok (outcome.Planned plan reasons)) pages h = subst (λ o. IfSome o (λ ps. HaveItems ps (map item_view plan.items))) (sym pages) (by told h)
   where
-    by : (o : Option Told) → IfSome o (λ t. Resolves (Settles setting (page_of start t.files)) (Ok (outcome.Planned plan reasons))) → IfSome (pages_in start o) (λ ps. HaveItems ps (map item_view plan.items))
+    by : (o : Option Told) → IfSome o (λ t. Resolves (Settles setting (page_of layout t.files)) (Ok (outcome.Planned plan reasons))) → IfSome (pages_in layout o) (λ ps. HaveItems ps (map item_view plan.items))
     by None h = tt
-    by (Some t) h = all_have_versions setting (page_of start t.files) (map item_view plan.items) (reasons_view reasons) (is_page start t.files) h.0
-have_outcome setting start told s (Ok (outcome.Refused faults reasons)) pages h = tt {0}
-have_outcome setting start told s (Ok (outcome.Early early)) pages h = tt {0}
-have_outcome setting start told s (Err e) pages h = tt {0}
+    by (Some t) h = all_have_versions setting (page_of layout t.files) (map item_view plan.items) (reasons_view reasons) (is_page layout t.files) h.0
+have_outcome setting layout told s (Ok (outcome.Refused faults reasons)) pages h = tt {0}
+have_outcome setting layout told s (Ok (outcome.Early early)) pages h = tt {0}
+have_outcome setting layout told s (Err e) pages h = tt {0}

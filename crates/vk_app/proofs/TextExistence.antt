@@ -11,7 +11,7 @@ use Rattle.vk_spec.proofs.ListLemmas.{contains_first, contains_later}
 use Rattle.vk_base.specs.declared.limits.Limit.{Limit}
 use Rattle.vk_resolution.specs.Planning.{Item}
 use Rattle.vk_resolution.specs.Outcomes.{planned, refused}
-use Rattle.vk_opening.specs.Starts.{Start}
+use Rattle.vk_opening.specs.Layouts.{Layout}
 use Rattle.vk_pages.specs.Homes.{home_of}
 use Rattle.vk_pages.specs.Pages.{page_at, page_of}
 use Rattle.vk_pages.proofs.PageLaws.{is_page}
@@ -36,27 +36,27 @@ all_some f (x ∷ xs) each =
     let rest = all_some f xs (λ y h. each y (contains_later x y xs h)) in
     (first.0 ∷ rest.0, ap (λ o. o ∷ map f xs) first.1 ∙ ap (λ l. Some first.0 ∷ l) rest.1)
 
-folders_exist : (start : Start) (files : Files) (items : List Item) → HaveItems (page_of start files) items → (folders : List Path) × AreFolders start files items folders
-folders_exist start files items have =
-    all_some (λ item. place_in start files item.instance.port item.version) items (λ item h. version_stands item.instance.port files (home_of start item.instance.port files) item.version (have item h).listed)
+folders_exist : (layout : Layout) (files : Files) (items : List Item) → HaveItems (page_of layout files) items → (folders : List Path) × AreFolders layout files items folders
+folders_exist layout files items have =
+    all_some (λ item. place_in layout files item.instance.port item.version) items (λ item h. version_stands item.instance.port files (home_of layout item.instance.port files) item.version (have item h).listed)
 
 -- ---- what is shown
 
-texts_tell : (shared : Shared) (start : Start) (files : Files) (items : List Item) → IsTree files → ArePaths files → HaveItems (page_of start files) items → (texts : Result (List Pair) Limit) × PlanTells shared start files items texts
-texts_tell shared start files items tree paths have =
-    let folders = folders_exist start files items have in
+texts_tell : (shared : Shared) (layout : Layout) (files : Files) (items : List Item) → IsTree files → ArePaths files → HaveItems (page_of layout files) items → (texts : Result (List Pair) Limit) × PlanTells shared layout files items texts
+texts_tell shared layout files items tree paths have =
+    let folders = folders_exist layout files items have in
     let texts = texts_exist shared (zip items folders.0) files tree paths in
     (texts.0, record { folders = folders.0; stand = folders.1; are = texts.1 })
 
-some_placed : (shared : Shared) (start : Start) (files : Files) (items : List Item) (i : Instance) (place : Option ℕ) → IsTree files → ArePaths files → HaveItems (page_of start files) items → (shown : Shown) × ShowsPlaced shared start files items i place shown
-some_placed shared start files items i None tree paths have = (printed 1 (not_planned i), refl)
-some_placed shared start files items i (Some k) tree paths have =
-    let texts = texts_tell shared start files items tree paths have in
+some_placed : (shared : Shared) (layout : Layout) (files : Files) (items : List Item) (i : Instance) (place : Option ℕ) → IsTree files → ArePaths files → HaveItems (page_of layout files) items → (shown : Shown) × ShowsPlaced shared layout files items i place shown
+some_placed shared layout files items i None tree paths have = (printed 1 (not_planned i), refl)
+some_placed shared layout files items i (Some k) tree paths have =
+    let texts = texts_tell shared layout files items tree paths have in
     (shown_at k texts.0, (texts.0, texts.1, refl))
 
-pub some_text : (shared : Shared) (setting : Setting) (start : Start) (files : Files) (i : Instance) (r : Resolution) → IsTree files → ArePaths files → Settles setting (page_of start files) r → (shown : Shown) × ShowsText shared start files i r shown
-some_text shared setting start files i (early e) tree paths settles = (shown_for (early e), refl)
-some_text shared setting start files i (resolved (planned items reasons)) tree paths settles =
-    some_placed shared start files items i (place_of i items) tree paths (all_have_versions setting (page_of start files) items reasons (is_page start files) settles.0)
-some_text shared setting start files i (resolved (refused lines reasons)) tree paths settles = (shown_for (resolved (refused lines reasons)), refl)
-some_text shared setting start files i (too_many n) tree paths settles = (shown_for (too_many n), refl)
+pub some_text : (shared : Shared) (setting : Setting) (layout : Layout) (files : Files) (i : Instance) (r : Resolution) → IsTree files → ArePaths files → Settles setting (page_of layout files) r → (shown : Shown) × ShowsText shared layout files i r shown
+some_text shared setting layout files i (early e) tree paths settles = (shown_for (early e), refl)
+some_text shared setting layout files i (resolved (planned items reasons)) tree paths settles =
+    some_placed shared layout files items i (place_of i items) tree paths (all_have_versions setting (page_of layout files) items reasons (is_page layout files) settles.0)
+some_text shared setting layout files i (resolved (refused lines reasons)) tree paths settles = (shown_for (resolved (refused lines reasons)), refl)
+some_text shared setting layout files i (too_many n) tree paths settles = (shown_for (too_many n), refl)

@@ -34,9 +34,9 @@ use Rattle.vk_model.specs.FactViews.{reasons_view}
 use Rattle.vk_model.specs.SettingViews.{instance_view, setting_view}
 use Rattle.vk_model.specs.declared.plans.Outcome.{Outcome}
 use Rattle.vk_model.specs.declared.plans.Outcome.TheVariants as outcome
-use Rattle.vk_opening.specs.Starts.{Start}
-use Rattle.vk_opening.specs.Views.{start_view, opened_files}
-use Rattle.vk_opening.specs.declared.starts.Start as made_start
+use Rattle.vk_opening.specs.Layouts.{Layout}
+use Rattle.vk_opening.specs.Views.{layout_view, opened_files}
+use Rattle.vk_opening.specs.declared.layouts.Start as made_start
 use Rattle.vk_files.specs.Kept.{paths_of}
 use Rattle.vk_pages.specs.Pages.{page_of}
 use Rattle.vk_world.specs.Worlds.{pages_in, places_in}
@@ -70,10 +70,10 @@ or_false false = refl
 -- ---- what is found, where files are told
 
 -- the folders of items, where the pages of the files have each of them
-folders_told : (start : Start) (told : Option Told) (items : List Item) (folders : List Path) (s : CatalogueState Condition) → s.pages ≡ pages_in start told → s.origin.places ≡ places_in start told
-    → AreItemFolders items folders s → IfSome told (λ t. AreFolders start t.files items folders)
-folders_told start None items folders s pages places h = tt
-folders_told start (Some t) items folders s pages places h =
+folders_told : (layout : Layout) (told : Option Told) (items : List Item) (folders : List Path) (s : CatalogueState Condition) → s.pages ≡ pages_in layout told → s.origin.places ≡ places_in layout told
+    → AreItemFolders items folders s → IfSome told (λ t. AreFolders layout t.files items folders)
+folders_told layout None items folders s pages places h = tt
+folders_told layout (Some t) items folders s pages places h =
     subst (λ (p : Places). StandIn p items folders) places (subst (λ o. IfSome o (λ ps. StandIn s.origin.places items folders)) pages h)
 
 -- where resolving failed, nothing more is asked
@@ -94,9 +94,9 @@ fits_outcome i (Ok (outcome.Early early)) found s finds = tt {0}
 fits_outcome i (Err e) found s finds = tt {0}
 
 -- what is below the folders of items is below folders where versions of ports stand
-in_folder : (start : Start) (files : Files) (items : List Item) (folders : List Path) (path : Path) → AreFolders start files items folders → IsBelowSome folders path → IsOfPorts start to_tell files path
-in_folder start files items folders path stand below =
-    let there = contains_map (λ item. place_in start files item.instance.port item.version) items (Some below.0) (subst (λ l. Contains l (Some below.0)) (sym stand) (map_contains Some folders below.0 below.1)) in
+in_folder : (layout : Layout) (files : Files) (items : List Item) (folders : List Path) (path : Path) → AreFolders layout files items folders → IsBelowSome folders path → IsOfPorts layout to_tell files path
+in_folder layout files items folders path stand below =
+    let there = contains_map (λ item. place_in layout files item.instance.port item.version) items (Some below.0) (subst (λ l. Contains l (Some below.0)) (sym stand) (map_contains Some folders below.0 below.1)) in
     (there.0.instance.port, there.0.version, below.0, there.2, below.2)
 
 -- ---- a plan, or none
@@ -131,33 +131,33 @@ ends_none wanted (Err e) found shown s none told = record { ends = told; same = 
 abbrev SpotShows : Shared → List Item → Spot → Shown → Files → Type 0
 SpotShows shared items spot shown files = NoRepeats (order_of items) → (texts : Result (List Pair) Limit) × TextsAre shared (zip items spot.folders) texts (disk_of files) × (shown ≡ shown_at spot.place texts)
 
-shows_spot : (project : Project) (instance : Instance) (setting : Setting) (start : Start) (files : Files) (items : List Item) (reasons : List Reason) (spot : Spot) (shown : Shown)
-    → Settles setting (page_of start files) (the.resolved (planned items reasons)) → place_of (instance_view instance) items ≡ Some spot.place
-    → AreFolders start files items spot.folders
+shows_spot : (project : Project) (instance : Instance) (setting : Setting) (layout : Layout) (files : Files) (items : List Item) (reasons : List Reason) (spot : Spot) (shown : Shown)
+    → Settles setting (page_of layout files) (the.resolved (planned items reasons)) → place_of (instance_view instance) items ≡ Some spot.place
+    → AreFolders layout files items spot.folders
     → SpotShows (shared_of project setting) items spot shown files
-    → ShowsSettled (task.Abi project instance) setting start files shown
-shows_spot project instance setting start files items reasons spot shown settles place stand texts =
-    let t = texts (planned_once setting (page_of start files) items reasons settles.0) in (
+    → ShowsSettled (task.Abi project instance) setting layout files shown
+shows_spot project instance setting layout files items reasons spot shown settles place stand texts =
+    let t = texts (planned_once setting (page_of layout files) items reasons settles.0) in (
       the.resolved (planned items reasons),
       settles,
-      subst (λ p. ShowsPlaced (shared_of project setting) start files items (instance_view instance) p shown) (sym place) (t.0, record { folders = spot.folders; stand = stand; are = t.1 }, t.2),
+      subst (λ p. ShowsPlaced (shared_of project setting) layout files items (instance_view instance) p shown) (sym place) (t.0, record { folders = spot.folders; stand = stand; are = t.1 }, t.2),
     )
 
-shows_unplanned : (project : Project) (instance : Instance) (setting : Setting) (start : Start) (files : Files) (items : List Item) (reasons : List Reason)
-    → Settles setting (page_of start files) (the.resolved (planned items reasons)) → place_of (instance_view instance) items ≡ None
-    → ShowsSettled (task.Abi project instance) setting start files (printed 1 (not_planned (instance_view instance)))
-shows_unplanned project instance setting start files items reasons settles place =
-    (the.resolved (planned items reasons), settles, subst (λ p. ShowsPlaced (shared_of project setting) start files items (instance_view instance) p (printed 1 (not_planned (instance_view instance)))) (sym place) refl)
+shows_unplanned : (project : Project) (instance : Instance) (setting : Setting) (layout : Layout) (files : Files) (items : List Item) (reasons : List Reason)
+    → Settles setting (page_of layout files) (the.resolved (planned items reasons)) → place_of (instance_view instance) items ≡ None
+    → ShowsSettled (task.Abi project instance) setting layout files (printed 1 (not_planned (instance_view instance)))
+shows_unplanned project instance setting layout files items reasons settles place =
+    (the.resolved (planned items reasons), settles, subst (λ p. ShowsPlaced (shared_of project setting) layout files items (instance_view instance) p (printed 1 (not_planned (instance_view instance)))) (sym place) refl)
 
 -- there is no plan
-shows_rest : (project : Project) (instance : Instance) (setting : Setting) (start : Start) (files : Files) (answer : Result Outcome (Stop CloseFault)) → HasNoPlan answer → setting.max_facts ≡ project.max_facts → Resolves (Settles setting (page_of start files)) answer
-    → (shown_of project answer).status ≢ 3 → (shown_of project answer).status ≢ 4 → ShowsSettled (task.Abi project instance) setting start files (shown_of project answer)
-shows_rest project instance setting start files (Ok (outcome.Planned plan reasons)) rest most h three four = absurd rest
-shows_rest project instance setting start files (Ok (outcome.Refused faults reasons)) rest most h three four = (resolution_of (outcome_view (outcome.Refused faults reasons)), h, refl)
-shows_rest project instance setting start files (Ok (outcome.Early early)) rest most h three four = absurd h
-shows_rest project instance setting start files (Err (stop.Fault (Facts n))) rest most h three four = (the.too_many n, h, ap (λ k. told 6 (limit_line (limit.Facts k))) (sym (h.1 ∙ most)))
-shows_rest project instance setting start files (Err stop.Failed) rest most h three four = absurd (four refl)
-shows_rest project instance setting start files (Err (stop.Memory m)) rest most h three four = absurd (three refl)
+shows_rest : (project : Project) (instance : Instance) (setting : Setting) (layout : Layout) (files : Files) (answer : Result Outcome (Stop CloseFault)) → HasNoPlan answer → setting.max_facts ≡ project.max_facts → Resolves (Settles setting (page_of layout files)) answer
+    → (shown_of project answer).status ≢ 3 → (shown_of project answer).status ≢ 4 → ShowsSettled (task.Abi project instance) setting layout files (shown_of project answer)
+shows_rest project instance setting layout files (Ok (outcome.Planned plan reasons)) rest most h three four = absurd rest
+shows_rest project instance setting layout files (Ok (outcome.Refused faults reasons)) rest most h three four = (resolution_of (outcome_view (outcome.Refused faults reasons)), h, refl)
+shows_rest project instance setting layout files (Ok (outcome.Early early)) rest most h three four = absurd h
+shows_rest project instance setting layout files (Err (stop.Fault (Facts n))) rest most h three four = (the.too_many n, h, ap (λ k. told 6 (limit_line (limit.Facts k))) (sym (h.1 ∙ most)))
+shows_rest project instance setting layout files (Err stop.Failed) rest most h three four = absurd (four refl)
+shows_rest project instance setting layout files (Err (stop.Memory m)) rest most h three four = absurd (three refl)
 
 -- ---- the text at a spot
 
@@ -209,22 +209,22 @@ placed_limit wanted items spot e shown a b is limits only (short four) = record 
 
 module _ (wanted : Wanted) (start : made_start.Start) (a b c : State) where
   abbrev Ends : Shown → Type 0
-  Ends shown = EndsFor (Ok (task.Abi wanted.project.now wanted.instance.now)) (ShowsSettled (task.Abi wanted.project.now wanted.instance.now) (setting_view wanted.setting.now) (start_view start))
-      (ReadsFor (Ok (task.Abi wanted.project.now wanted.instance.now)) (IsOfPorts (start_view start)) (paths_of (opened_files start))) shown a c
+  Ends shown = EndsFor (Ok (task.Abi wanted.project.now wanted.instance.now)) (ShowsSettled (task.Abi wanted.project.now wanted.instance.now) (setting_view wanted.setting.now) (layout_view start.layout))
+      (ReadsFor (Ok (task.Abi wanted.project.now wanted.instance.now)) (IsOfPorts (layout_view start.layout)) (paths_of (opened_files start))) shown a c
 
   -- what was read for the plan
   abbrev Reads : Bool → State → State → Type 0
-  Reads = ReadsOnce (IsOfPorts (start_view start) to_plan) (paths_of (opened_files start))
+  Reads = ReadsOnce (IsOfPorts (layout_view start.layout) to_plan) (paths_of (opened_files start))
 
-  plan_reads : (failed : Bool) → Reads failed a b → c ≡ b → ReadsFor (Ok (task.Abi wanted.project.now wanted.instance.now)) (IsOfPorts (start_view start)) (paths_of (opened_files start)) failed a c
+  plan_reads : (failed : Bool) → Reads failed a b → c ≡ b → ReadsFor (Ok (task.Abi wanted.project.now wanted.instance.now)) (IsOfPorts (layout_view start.layout)) (paths_of (opened_files start)) failed a c
   plan_reads failed reads same = for_plan _ _ _ (subst (Reads failed a) (sym same) reads)
 
   abbrev ResolvesTo : Result Outcome (Stop CloseFault) → Type 0
-  ResolvesTo answer = IfSome a.told (λ t. Resolves (Settles (setting_view wanted.setting.now) (page_of (start_view start) t.files)) answer)
+  ResolvesTo answer = IfSome a.told (λ t. Resolves (Settles (setting_view wanted.setting.now) (page_of (layout_view start.layout) t.files)) answer)
 
   -- nothing was read besides, and this is shown
   still : (first shown : Shown) (failed : Bool) → MayEnd (Ok (task.Abi wanted.project.now wanted.instance.now)) first failed → (first.status ≢ 4 → failed ≡ false)
-      → IfSome a.told (λ t. first.status ≢ 3 → first.status ≢ 4 → ShowsSettled (task.Abi wanted.project.now wanted.instance.now) (setting_view wanted.setting.now) (start_view start) t.files first)
+      → IfSome a.told (λ t. first.status ≢ 3 → first.status ≢ 4 → ShowsSettled (task.Abi wanted.project.now wanted.instance.now) (setting_view wanted.setting.now) (layout_view start.layout) t.files first)
       → Reads failed a b → c ≡ b → EndsWith first shown → Ends shown
   still first shown failed may calm content reads same ends = ends_by (task.Abi wanted.project.now wanted.instance.now) _ _ first shown failed a c may calm content (plan_reads failed reads same) ends
 
@@ -239,35 +239,35 @@ module _ (wanted : Wanted) (start : made_start.Start) (a b c : State) where
   rest_ends answer found shown rest none resolves ready only u =
       let same : has_failed answer || was_out found ≡ has_failed answer = ap (λ f. has_failed answer || was_out f) none ∙ or_false (has_failed answer) in
       ends_with (task.Abi wanted.project.now wanted.instance.now) _ _ answer shown a c (inl refl)
-      (of_both a.told ready resolves (λ t r h three four. shows_rest wanted.project.now wanted.instance.now (setting_view wanted.setting.now) (start_view start) t.files answer rest r.most h three four))
+      (of_both a.told ready resolves (λ t r h three four. shows_rest wanted.project.now wanted.instance.now (setting_view wanted.setting.now) (layout_view start.layout) t.files answer rest r.most h three four))
       (plan_reads (has_failed answer) (subst (λ f. Reads f a b) same only) u.same) u.ends
 
   -- there is one
   plan_ends_so : (plan : Plan) (reasons : List made_reason.Reason) (found : Result (Option Spot) Outage) (shown : Shown) (s : CatalogueState Condition)
-      → s.pages ≡ pages_in (start_view start) a.told → s.origin.places ≡ places_in (start_view start) a.told → ResolvesTo (Ok (outcome.Planned plan reasons))
+      → s.pages ≡ pages_in (layout_view start.layout) a.told → s.origin.places ≡ places_in (layout_view start.layout) a.told → ResolvesTo (Ok (outcome.Planned plan reasons))
       → FindsIn (instance_view wanted.instance.now) (map item_view plan.items) found s → Reads (was_out found) a b → EndsInPlan wanted (map item_view plan.items) found shown b c → Ends shown
   plan_ends_so plan reasons (Ok None) shown s pages places resolves finds only u =
       still (printed 1 (not_planned (instance_view wanted.instance.now))) shown false (refused (task.Abi wanted.project.now wanted.instance.now) _) (λ four. refl)
-      (IfSome_then a.told resolves (λ t h three four. shows_unplanned wanted.project.now wanted.instance.now (setting_view wanted.setting.now) (start_view start) t.files (map item_view plan.items) (reasons_view reasons) h finds))
+      (IfSome_then a.told resolves (λ t h three four. shows_unplanned wanted.project.now wanted.instance.now (setting_view wanted.setting.now) (layout_view start.layout) t.files (map item_view plan.items) (reasons_view reasons) h finds))
       only u.same u.ends
   plan_ends_so plan reasons (Err o) shown s pages places resolves finds only u = out_ends o shown only u
   plan_ends_so plan reasons (Ok (Some spot)) shown s pages places resolves finds only e =
-      let stand = folders_told (start_view start) a.told (map item_view plan.items) spot.folders s pages places finds.2 in
+      let stand = folders_told (layout_view start.layout) a.told (map item_view plan.items) spot.folders s pages places finds.2 in
       let texts = told_before (λ f. shown.status ≢ 3 → shown.status ≢ 4 → SpotShows (shared_of wanted.project.now (setting_view wanted.setting.now)) (map item_view plan.items) spot shown f) only.only e.content in
       record {
         failed = e.failed;
         may = e.may;
-        reads = own_after _ _ _ only e.reads.only (IfSome_then a.told stand (λ t st path has. in_folder (start_view start) t.files (map item_view plan.items) spot.folders path st (e.reads.within path has)));
+        reads = own_after _ _ _ only e.reads.only (IfSome_then a.told stand (λ t st path has. in_folder (layout_view start.layout) t.files (map item_view plan.items) spot.folders path st (e.reads.within path has)));
         content = of_both a.told (of_both {R = λ t. StandsAndShows t.files plan spot shown} a.told stand texts (λ t st tx. (st, tx))) resolves
-            (λ t both h three four. shows_spot wanted.project.now wanted.instance.now (setting_view wanted.setting.now) (start_view start) t.files (map item_view plan.items) (reasons_view reasons) spot shown h finds.0 both.0 (both.1 three four));
+            (λ t both h three four. shows_spot wanted.project.now wanted.instance.now (setting_view wanted.setting.now) (layout_view start.layout) t.files (map item_view plan.items) (reasons_view reasons) spot shown h finds.0 both.0 (both.1 three four));
       }
     where
       StandsAndShows : Files → Plan → Spot → Shown → Type 0
-      StandsAndShows files plan spot shown = AreFolders (start_view start) files (map item_view plan.items) spot.folders
+      StandsAndShows files plan spot shown = AreFolders (layout_view start.layout) files (map item_view plan.items) spot.folders
           × (shown.status ≢ 3 → shown.status ≢ 4 → SpotShows (shared_of wanted.project.now (setting_view wanted.setting.now)) (map item_view plan.items) spot shown files)
 
   pub text_ends : (answer : Result Outcome (Stop CloseFault)) (found : Result (Option Spot) Outage) (shown : Shown) (s : CatalogueState Condition)
-      → s.pages ≡ pages_in (start_view start) a.told → s.origin.places ≡ places_in (start_view start) a.told → ResolvesTo answer → IfSome a.told (λ t. IsReady wanted.project.now wanted.setting.now start t.files)
+      → s.pages ≡ pages_in (layout_view start.layout) a.told → s.origin.places ≡ places_in (layout_view start.layout) a.told → ResolvesTo answer → IfSome a.told (λ t. IsReady wanted.project.now wanted.setting.now start t.files)
       → Finds (instance_view wanted.instance.now) answer found s → Reads (has_failed answer || was_out found) a b → EndsFound wanted answer found shown b c → Ends shown
   text_ends (Ok (outcome.Planned plan reasons)) found shown s pages places resolves ready finds only ends = plan_ends_so plan reasons found shown s pages places resolves finds only ends
   text_ends (Ok (outcome.Refused faults reasons)) found shown s pages places resolves ready finds only ends = rest_ends (Ok (outcome.Refused faults reasons)) found shown (tt {0}) finds resolves ready only ends

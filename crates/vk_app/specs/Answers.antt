@@ -6,7 +6,7 @@ use Rattle.vk_spec.specs.Settings.{Setting}
 use Rattle.vk_gen.specs.Loads.{load_files}
 use Rattle.vk_words.specs.Words.{Words}
 use Rattle.vk_model.specs.SettingViews.{instance_view}
-use Rattle.vk_opening.specs.Starts.{Start}
+use Rattle.vk_opening.specs.Layouts.{Layout}
 use Rattle.vk_opening.specs.Openings.{Opening, opened_of}
 use Rattle.vk_pages.specs.Pages.{page_of}
 use Rattle.vk_app.specs.declared.requests.Task.{Task}
@@ -19,21 +19,21 @@ use Rattle.vk_app.specs.Checks.{ShowsCheck}
 use Rattle.vk_app.specs.Loads.{load_shown}
 
 -- what a task shows of a project that comes to this: its report, the ABI text of an instance in its plan, the verdict on a report in a file, or the figures of a load
-abbrev pub ShowsTask : Task → Setting → Start → Files → Resolution → Shown → Type 0
-ShowsTask (task.Plan project) setting start files r shown = shown ≡ shown_for r
-ShowsTask (task.Abi project i) setting start files r shown = ShowsText (shared_of project setting) start files (instance_view i) r shown
-ShowsTask (task.Check project report) setting start files r shown = ShowsCheck report files r shown
-ShowsTask (task.SelfLoad size project) setting start files r shown = shown ≡ load_shown size r
+abbrev pub ShowsTask : Task → Setting → Layout → Files → Resolution → Shown → Type 0
+ShowsTask (task.Plan project) setting layout files r shown = shown ≡ shown_for r
+ShowsTask (task.Abi project i) setting layout files r shown = ShowsText (shared_of project setting) layout files (instance_view i) r shown
+ShowsTask (task.Check project report) setting layout files r shown = ShowsCheck report files r shown
+ShowsTask (task.SelfLoad size project) setting layout files r shown = shown ≡ load_shown size r
 
 -- what it shows under a setting, by what this and the pages of the files come to
-abbrev pub ShowsSettled : Task → Setting → Start → Files → Shown → Type 0
-ShowsSettled task setting start files shown = (r : Resolution) × Settles setting (page_of start files) r × ShowsTask task setting start files r shown
+abbrev pub ShowsSettled : Task → Setting → Layout → Files → Shown → Type 0
+ShowsSettled task setting layout files shown = (r : Resolution) × Settles setting (page_of layout files) r × ShowsTask task setting layout files r shown
 
 -- what it shows of a project that opens, by its setting
 pub record ShowsOpening (task : Task) (opening : Opening) (files : Files) (shown : Shown) : Type 0 where
   pub setting : Setting
   pub is_setting : IsSettingOf opening setting
-  pub shows : ShowsSettled task setting opening.start files shown
+  pub shows : ShowsSettled task setting opening.layout files shown
 
 -- a project that doesn't open is shown by its early line, against which a report is checked too
 abbrev pub ShowsEarly : Task → Early → Files → Shown → Type 0

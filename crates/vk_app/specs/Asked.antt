@@ -7,7 +7,7 @@ use Rattle.vk_spec.specs.Versions.{Version}
 use Rattle.vk_spec.specs.Earlies.{Early}
 use Rattle.vk_opening.specs.Asked.{opening_paths}
 use Rattle.vk_opening.specs.Openings.{Opening, opened_of}
-use Rattle.vk_opening.specs.Starts.{Start}
+use Rattle.vk_opening.specs.Layouts.{Layout}
 use Rattle.vk_pages.specs.Asked.{page_paths}
 use Rattle.vk_world.specs.VersionFolders.{place_in}
 use Rattle.vk_model.specs.declared.projects.Project.{Project}
@@ -21,13 +21,13 @@ pub data Purpose : Type 0 where
   to_tell : Purpose
 
 -- what is asked for on some port's behalf: for a plan a path of its page, for an ABI text one at or below the folder where a version of it stands
-abbrev pub IsOfPorts : Start → Purpose → Files → Path → Type 0
-IsOfPorts start to_plan files path = (port : List ℕ) × Contains (page_paths start files port) path
-IsOfPorts start to_tell files path = (port : List ℕ) × (v : Version) × (folder : Path) × (place_in start files port v ≡ Some folder) × Begins folder path
+abbrev pub IsOfPorts : Layout → Purpose → Files → Path → Type 0
+IsOfPorts layout to_plan files path = (port : List ℕ) × Contains (page_paths layout files port) path
+IsOfPorts layout to_tell files path = (port : List ℕ) × (v : Version) × (folder : Path) × (place_in layout files port v ≡ Some folder) × Begins folder path
 
 -- the same, where the project opens
 abbrev pub IsOfOpened : Result Opening Early → Purpose → Files → Path → Type 0
-IsOfOpened (Ok opening) purpose files path = IsOfPorts opening.start purpose files path
+IsOfOpened (Ok opening) purpose files path = IsOfPorts opening.layout purpose files path
 IsOfOpened (Err early) purpose files path = ⊥
 
 -- for a plan, opening the project asks for it too

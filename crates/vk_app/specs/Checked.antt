@@ -12,7 +12,7 @@ use Rattle.vk_tree.specs.declared.trees.ReadFault.{ReadFault}
 use Rattle.vk_tree.specs.declared.trees.ReadFault.TheVariants as read
 use Rattle.vk_files.specs.Kept.{absent, too_large, holds}
 use Rattle.vk_model.specs.declared.projects.Project.{Project}
-use Rattle.vk_opening.specs.Starts.{Start}
+use Rattle.vk_opening.specs.Layouts.{Layout}
 use Rattle.vk_pages.specs.Pages.{page_of}
 use Rattle.vk_worklist.specs.declared.faults.CloseFault.{CloseFault}
 use Rattle.vk_worklist.specs.declared.faults.CloseFault.TheVariants.{Facts}
@@ -57,8 +57,8 @@ shown_judged project (Ok verdict) = verdict_shown verdict
 shown_judged project (Err stop) = shown_of project (Err stop)
 
 -- what is shown of a report's bytes under a setting, by what this and the pages of the files come to
-abbrev pub ShowsJudged : List ℕ → Setting → Start → Files → Shown → Type 0
-ShowsJudged bytes setting start files shown = (r : Resolution) × Settles setting (page_of start files) r × ShowsAgainst bytes r shown
+abbrev pub ShowsJudged : List ℕ → Setting → Layout → Files → Shown → Type 0
+ShowsJudged bytes setting layout files shown = (r : Resolution) × Settles setting (page_of layout files) r × ShowsAgainst bytes r shown
 
 -- the end is one of these, or memory ran out before it was made
 pub data EndsIn (Shows : Shown → Type 0) : Shown → Type 0 where

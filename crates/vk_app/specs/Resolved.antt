@@ -11,7 +11,7 @@ use Rattle.vk_model.specs.FaultViews.{outcome_view}
 use Rattle.vk_model.specs.EarlyViews.{early_view}
 use Rattle.vk_model.specs.SettingViews.{setting_view}
 use Rattle.vk_model.specs.declared.plans.Outcome.{Outcome}
-use Rattle.vk_opening.specs.Views.{opened_files, start_view}
+use Rattle.vk_opening.specs.Views.{opened_files, layout_view}
 use Rattle.vk_opening.specs.declared.opens.Opened.{Opened}
 use Rattle.vk_opening.specs.declared.opens.Opened.TheVariants as opened
 use Rattle.vk_worklist.specs.declared.faults.CloseFault.{CloseFault}
@@ -23,7 +23,7 @@ use Rattle.vk_app.specs.Answers.{ShowsSettled, ShowsEarly}
 use Rattle.vk_app.specs.declared.requests.Task.{Task}
 use Rattle.vk_model.specs.declared.projects.Project.{Project}
 use Rattle.vk_model.specs.declared.settings.Setting.{Setting}
-use Rattle.vk_opening.specs.declared.starts.Start.{Start}
+use Rattle.vk_opening.specs.declared.layouts.Start.{Start}
 
 -- an outcome or an early line as what files come to
 abbrev pub resolution_of : Result plain.Outcome Early → Resolution
@@ -39,12 +39,12 @@ Resolves P (Err (stop.Memory m)) = Unit {0}
 
 -- what a task shows of what was opened: its early line, or what it shows under its setting
 abbrev pub OpenedShows : Task → Opened → Files → Shown → Type 0
-OpenedShows task (opened.Ready setting start) files shown = ShowsSettled task (setting_view setting) (start_view start) files shown
+OpenedShows task (opened.Ready setting start) files shown = ShowsSettled task (setting_view setting) (layout_view start.layout) files shown
 OpenedShows task (opened.Refused e) files shown = ShowsEarly task (early_view e) files shown
 
 -- what is asked for then: on the ports' behalf, or nothing
 abbrev pub OpenedMayAsk : Opened → Purpose → Files → Path → Type 0
-OpenedMayAsk (opened.Ready setting start) purpose files path = IsOfPorts (start_view start) purpose files path
+OpenedMayAsk (opened.Ready setting start) purpose files path = IsOfPorts (layout_view start.layout) purpose files path
 OpenedMayAsk (opened.Refused e) purpose files path = AsksNothing purpose files path
 
 -- what was kept of files is theirs, and as many requirements are allowed as the words say

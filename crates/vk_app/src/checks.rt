@@ -11,7 +11,7 @@ ghost use Rattle.vk_model.specs.EarlyViews.{early_view};
 ghost use Rattle.vk_model.specs.FaultViews.{outcome_view};
 ghost use Rattle.vk_model.specs.SettingViews.{setting_view};
 ghost use Rattle.vk_model.specs.declared.projects.Project.{Project};
-ghost use Rattle.vk_opening.specs.Views.{start_view, opened_files};
+ghost use Rattle.vk_opening.specs.Views.{layout_view, opened_files};
 ghost use Rattle.vk_world.specs.Worlds.{state_of};
 ghost use Rattle.vk_check.specs.declared.verdicts.Verdict.TheVariants as the_verdict;
 ghost use Rattle.vk_app.specs.declared.requests.Task.TheVariants as task;
@@ -196,8 +196,8 @@ fn judge_on<T: Tree>(
         (λ t. IsReady checked.project.now setting.now start t.files) }
     requires small { length bytes.now ≤ most_report }
     ensures { EndsFor (Ok (task.Check checked.entry.project.now checked.entry.report.now))
-        (ShowsJudged bytes.now (setting_view setting.now) (start_view start))
-        (ReadsOnce (IsOfPorts (start_view start) to_plan) (paths_of (opened_files start)))
+        (ShowsJudged bytes.now (setting_view setting.now) (layout_view start.layout))
+        (ReadsOnce (IsOfPorts (layout_view start.layout) to_plan) (paths_of (opened_files start)))
         (end_view result.end) (T.state tree) (T.state result.tree) }
 {
     let mut world = World::on(alloc, start, tree);
@@ -224,9 +224,9 @@ pub fn check_on<T: Tree>(
     ensures { NoRepeats (paths_of (opened_files start))
         → EndsFor (Ok (task.Check checked.entry.project.now checked.entry.report.now))
         (ShowsSettled (task.Check checked.entry.project.now checked.entry.report.now)
-        (setting_view setting.now) (start_view start))
+        (setting_view setting.now) (layout_view start.layout))
         (ReadsFor (Ok (task.Check checked.entry.project.now checked.entry.report.now))
-        (IsOfPorts (start_view start)) (paths_of (opened_files start)))
+        (IsOfPorts (layout_view start.layout)) (paths_of (opened_files start)))
         (end_view result.end) (T.state tree) (T.state result.tree) }
 {
     match read_report(&mut tree, checked.report) {

@@ -8,7 +8,7 @@ ghost use Rattle.vk_files.specs.Kept.{IsOf, Kept, paths_of};
 ghost use Rattle.vk_model.specs.EarlyViews.{early_view};
 ghost use Rattle.vk_model.specs.SettingViews.{setting_view};
 ghost use Rattle.vk_opening.specs.Opened.{IsKept};
-ghost use Rattle.vk_opening.specs.Views.{start_view, opened_files};
+ghost use Rattle.vk_opening.specs.Views.{layout_view, opened_files};
 ghost use Rattle.vk_world.specs.Worlds.{state_of};
 ghost use Rattle.vk_app.specs.declared.requests.Task.TheVariants as task;
 ghost use Rattle.vk_pages.specs.Pages.{page_of};
@@ -72,9 +72,10 @@ struct Resolved<T> {
 fn resolved_on<T: Tree>(alloc: Global, setting: &Setting, start: Start, tree: T) -> Resolved<T>
     requires { IfSome (T.state tree).told (λ t. IsOf t.files (opened_files start)) }
     ensures content { IfSome (T.state tree).told (λ t. Resolves (Settles (setting_view setting.now)
-        (page_of (start_view start) t.files)) result.outcome) }
-    ensures reads { ReadsOnce (IsOfPorts (start_view start) to_plan) (paths_of (opened_files start))
-        (has_failed result.outcome) (T.state tree) (T.state result.tree) }
+        (page_of (layout_view start.layout) t.files)) result.outcome) }
+    ensures reads { ReadsOnce (IsOfPorts (layout_view start.layout) to_plan)
+        (paths_of (opened_files start)) (has_failed result.outcome) (T.state tree)
+        (T.state result.tree) }
 {
     let mut world = World::on(alloc, start, tree);
     let outcome = resolved_by::<T, Brand>(alloc, setting, &mut world, Blank::new(1));
@@ -97,9 +98,9 @@ fn plan_on<T: Tree>(
     requires { IfSome (T.state tree).told
         (λ t. IsReady project.now setting.now start t.files) }
     ensures { EndsFor (Ok (task.Plan project.now))
-        (ShowsSettled (task.Plan project.now) (setting_view setting.now) (start_view start))
+        (ShowsSettled (task.Plan project.now) (setting_view setting.now) (layout_view start.layout))
         (ReadsFor (Ok (task.Plan project.now))
-        (IsOfPorts (start_view start)) (paths_of (opened_files start)))
+        (IsOfPorts (layout_view start.layout)) (paths_of (opened_files start)))
         (end_view result.end) (T.state tree) (T.state result.tree) }
 {
     let found = resolved_on(alloc, setting, start, tree);
@@ -124,9 +125,9 @@ fn load_on<T: Tree>(
         (λ t. IsReady project.now setting.now start t.files) }
     ensures { EndsFor (Ok (task.SelfLoad size project.now))
         (ShowsSettled (task.SelfLoad size project.now) (setting_view setting.now)
-        (start_view start))
+        (layout_view start.layout))
         (ReadsFor (Ok (task.SelfLoad size project.now))
-        (IsOfPorts (start_view start)) (paths_of (opened_files start)))
+        (IsOfPorts (layout_view start.layout)) (paths_of (opened_files start)))
         (end_view result.end) (T.state tree) (T.state result.tree) }
 {
     let found = resolved_on(alloc, setting, start, tree);
@@ -144,9 +145,9 @@ fn text_on<T: Tree>(alloc: Global, wanted: Wanted<'_>, start: Start, tree: T) ->
         (λ t. IsReady wanted.project.now wanted.setting.now start t.files) }
     ensures { EndsFor (Ok (task.Abi wanted.entry.project.now wanted.entry.instance.now))
         (ShowsSettled (task.Abi wanted.entry.project.now wanted.entry.instance.now)
-        (setting_view wanted.entry.setting.now) (start_view start))
+        (setting_view wanted.entry.setting.now) (layout_view start.layout))
         (ReadsFor (Ok (task.Abi wanted.entry.project.now wanted.entry.instance.now))
-        (IsOfPorts (start_view start)) (paths_of (opened_files start)))
+        (IsOfPorts (layout_view start.layout)) (paths_of (opened_files start)))
         (end_view result.end) (T.state tree) (T.state result.tree) }
 {
     let mut world = World::on(alloc, start, tree);
@@ -172,8 +173,9 @@ fn done_on<T: Tree>(
     requires { IfSome (T.state tree).told
         (λ t. IsReady (project_of task.now) setting.now start t.files) }
     ensures { NoRepeats (paths_of (opened_files start)) → EndsFor (Ok task.now)
-        (ShowsSettled task.now (setting_view setting.now) (start_view start))
-        (ReadsFor (Ok task.now) (IsOfPorts (start_view start)) (paths_of (opened_files start)))
+        (ShowsSettled task.now (setting_view setting.now) (layout_view start.layout))
+        (ReadsFor (Ok task.now) (IsOfPorts (layout_view start.layout))
+        (paths_of (opened_files start)))
         (end_view result.end) (T.state tree) (T.state result.tree) }
 {
     match task {

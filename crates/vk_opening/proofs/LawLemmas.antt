@@ -20,7 +20,7 @@ use Rattle.vk_files.specs.Kept.{Seen, seen_in, seen_at, absent, too_large, holds
 use Rattle.vk_files.specs.Readings.{Standing, missing, too_long, readable, standing_by, standing_at, is_at, seen_file, early_of, or_told, told_at}
 use Rattle.vk_model.specs.declared.projects.Project.{Project}
 use Rattle.vk_spec.specs.Earlies.{Early, bad_file, two_configurations, no_triplet}
-use Rattle.vk_opening.specs.Starts.{Overlay}
+use Rattle.vk_opening.specs.Layouts.{Overlay}
 use Rattle.vk_opening.specs.Asked.{is_faulty, tried_paths, triplets_asked, overlay_paths, found_paths, opening_paths}
 use Rattle.vk_opening.specs.Laws.{AgreeAt, LacksTriplet, NoneHas, triplet_paths, early_paths}
 use Rattle.vk_opening.specs.Projects.{manifest_path, config_path, triplet_path, folders_of}
@@ -149,14 +149,14 @@ step_ok (Ok x) next y is = (x, refl, is)
 step_ok (Err fault) next y is = (cc)
 
 abbrev config_or : Config → Result Opening Early → Config
-config_or config (Ok o) = o.start.config
+config_or config (Ok o) = o.layout.config
 config_or config (Err line) = config
 
 -- the configuration of an opening is the one that was read
-config_opened : (project : Project) (root : Manifest Condition) (config : Config) (triplets : Triplets) (overlays : List Overlay) (files : Files) (opening : Opening) → after_overlays project root config triplets overlays files ≡ Ok opening → opening.start.config ≡ config
-config_opened project root config triplets overlays files opening is = ap (λ r. config_or opening.start.config r) (sym is)
+config_opened : (project : Project) (root : Manifest Condition) (config : Config) (triplets : Triplets) (overlays : List Overlay) (files : Files) (opening : Opening) → after_overlays project root config triplets overlays files ≡ Ok opening → opening.layout.config ≡ config
+config_opened project root config triplets overlays files opening is = ap (λ r. config_or opening.layout.config r) (sym is)
 
-pub decided : (project : Project) (opening : Opening) (one other : Files) → AgreeAt (early_paths project opening.start.config) one other → opened_of project one ≡ Ok opening → opened_of project other ≡ Ok opening
+pub decided : (project : Project) (opening : Opening) (one other : Files) → AgreeAt (early_paths project opening.layout.config) one other → opened_of project one ≡ Ok opening → opened_of project other ≡ Ok opening
 unfolding opened_of triplets_at
 decided project opening one other agree is =
     let root = step_ok (early_at root_in (manifest_path project.folder) one) (λ root. after_root project root one) opening is in
@@ -175,7 +175,7 @@ decided project opening one other agree is =
     with_config : (root : Root) (config : Config) (triplets : Triplets) (overlays : List Overlay) → early_at root_in (manifest_path project.folder) one ≡ Ok root → config_in project.folder root.configuration one ≡ Ok config → triplets_of project config one ≡ Ok triplets → overlays_of project config one ≡ Ok overlays
         → after_overlays project root.manifest config triplets overlays one ≡ Ok opening → opened_of project other ≡ Ok opening
     with_config root config triplets overlays root_is config_is triplets_are overlays_are is_opening =
-        let config_same_as : opening.start.config ≡ config = config_opened project root.manifest config triplets overlays one opening is_opening in
+        let config_same_as : opening.layout.config ≡ config = config_opened project root.manifest config triplets overlays one opening is_opening in
         let agreed : AgreeAt (early_paths project config) one other = rw config_same_as at agree in
         let ports = map manifest_path (folders_of project.folder project.overlay_ports config.overlay_ports) in
         rw (
@@ -227,7 +227,7 @@ found_early project config files =
     (after_in (triplet_at project.target folders files) (λ first. tried) host (λ first. first_here (is_at files) host)))
     (after_in (triplets_of project config files) (λ triplets. overlay_paths ports files) (map manifest_path ports) (λ triplets. first_in manifest_path (is_faulty files) ports))
 
-pub asked_early : (project : Project) (opening : Opening) (files : Files) → opened_of project files ≡ Ok opening → IsWithin (opening_paths project files) (early_paths project opening.start.config)
+pub asked_early : (project : Project) (opening : Opening) (files : Files) → opened_of project files ≡ Ok opening → IsWithin (opening_paths project files) (early_paths project opening.layout.config)
 unfolding opened_of
 asked_early project opening files is =
     let root = step_ok (early_at root_in (manifest_path project.folder) files) (λ root. after_root project root files) opening is in
@@ -236,7 +236,7 @@ asked_early project opening files is =
     let overlays = step_ok (overlays_of project config.0 files) (λ overlays. after_overlays project root.0.manifest config.0 triplets.0 overlays files) opening triplets.2 in
     with_config root.0 config.0 root.1 config.1 (config_opened project root.0.manifest config.0 triplets.0 overlays.0 files opening overlays.2)
   where
-    with_config : (root : Root) (config : Config) → early_at root_in (manifest_path project.folder) files ≡ Ok root → config_in project.folder root.configuration files ≡ Ok config → opening.start.config ≡ config → IsWithin (opening_paths project files) (early_paths project opening.start.config)
+    with_config : (root : Root) (config : Config) → early_at root_in (manifest_path project.folder) files ≡ Ok root → config_in project.folder root.configuration files ≡ Ok config → opening.layout.config ≡ config → IsWithin (opening_paths project files) (early_paths project opening.layout.config)
     with_config root config root_is config_is same =
         let top = manifest_path project.folder in
         let file = config_path project.folder in
@@ -244,4 +244,4 @@ asked_early project opening files is =
         let early = triplet_paths project config ++ map manifest_path (folders_of project.folder project.overlay_ports config.overlay_ports) in
         let asked : opening_paths project files ≡ top ∷ file ∷ found = rw (root_is, config_is) refl in
         let within : IsWithin (top ∷ file ∷ found) (early_paths project config) = cons_in top (file ∷ found) (file ∷ early) (cons_in file found early (found_early project config files)) in
-        subst (λ paths. IsWithin paths (early_paths project opening.start.config)) (sym asked) (subst (λ c. IsWithin (top ∷ file ∷ found) (early_paths project c)) (sym same) within)
+        subst (λ paths. IsWithin paths (early_paths project opening.layout.config)) (sym asked) (subst (λ c. IsWithin (top ∷ file ∷ found) (early_paths project c)) (sym same) within)

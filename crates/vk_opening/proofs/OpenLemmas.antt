@@ -5,26 +5,18 @@ use Rattle.vk_spec.specs.Paths.{Path}
 use Rattle.vk_spec.specs.Lists.{NoRepeats, IsWithin}
 use Rattle.vk_spec.specs.States.{State, OnlyRead}
 use Rattle.vk_files.specs.Kept.{Kept, paths_of, IsOf, ReadOnce}
-use Rattle.vk_files.specs.Views.{kept_of}
 use Rattle.vk_files.specs.Within.{LooksWithin}
 use Rattle.vk_files.specs.Finds.{ReadsFrom}
-use Rattle.vk_files.specs.declared.caches.FileCache.{FileCache}
 use Rattle.vk_base.specs.declared.stops.Stop.{Stop}
-use Rattle.vk_base.specs.declared.stops.Stop.TheVariants as stop
-use Rattle.vk_model.specs.Views.{override_view}
 use Rattle.vk_model.specs.declared.projects.Project.{Project}
 use Rattle.vk_model.specs.declared.projects.Store.{Store}
-use Rattle.vk_config.specs.Configs.{Config}
 use Rattle.vk_opening.specs.Asked.{paths_with}
-use Rattle.vk_opening.specs.Openings.{opening_with, opened_with}
+use Rattle.vk_opening.specs.Openings.{opened_with}
 use Rattle.vk_model.specs.EarlyViews.{early_view}
-use Rattle.vk_opening.specs.OpeningViews.{opening_found, opening_view, answer_of, AreOffIn}
+use Rattle.vk_opening.specs.OpeningViews.{opening_view, Answers}
 use Rattle.vk_base.specs.declared.instances.Instance.{Instance}
 use Rattle.vk_base.specs.declared.memory.Memory.{Memory}
-use Rattle.vk_base.specs.Stops.{fault_seen, has_failed, was_out}
-use Rattle.vk_spec.specs.Reading.{Gives}
-use Rattle.vk_spec.specs.Earlies as plain_early
-use Rattle.vk_opening.specs.Openings as plain_opening
+use Rattle.vk_base.specs.Stops.{was_out}
 use Rattle.vk_spec.specs.Settings as plain
 use Rattle.vk_resolution.specs.Keys.{IsListing}
 use Rattle.vk_resolution.specs.Planning.{instance_key}
@@ -35,26 +27,19 @@ use Rattle.vk_triplet.specs.Meanings.{meaning_of}
 use Rattle.vk_model.specs.Views.{manifest_view}
 use Rattle.vk_model.specs.SettingViews.{setting_view, instance_view}
 use Rattle.vk_rules.specs.RootSettings.{setting_of}
-use Rattle.vk_opening.specs.Opened.{Opens, ListsOwnOff, IsKept, Tells}
-use Rattle.vk_opening.specs.Views.{triplets_view, overlay_view, opened_files}
+use Rattle.vk_opening.specs.Opened.{Opens, ListsOwnOff}
+use Rattle.vk_opening.specs.Views.{opened_files}
 use Rattle.vk_model.specs.declared.settings.Setting.{Setting}
-use Rattle.vk_opening.specs.declared.starts.Start.{Start}
+use Rattle.vk_opening.specs.declared.layouts.Start.{Start}
 use Rattle.vk_opening.specs.declared.opens.Opened.{Opened}
 use Rattle.vk_opening.specs.declared.opens.Opened.TheVariants as opened
 use Rattle.vk_base.specs.declared.stops.Outage.{Outage}
+use Rattle.vk_base.specs.declared.stops.Outage.TheVariants as outage
+use Rattle.std.specs.Result.{IsErrAnd}
+use Rattle.std.proofs.lemmas.Result.{err_from_is_err_and}
 use Rattle.vk_model.specs.declared.earlies.Early.{Early}
 use Rattle.vk_opening.specs.declared.opens.Opening.{Opening}
-use Rattle.vk_opening.specs.declared.opens.Found.{Found}
-use Rattle.vk_model.specs.declared.manifests.Manifest.{Manifest}
 use Rattle.vk_spec.proofs.OptionLemmas.{of_both}
-
--- what was found is put together
-pub found_is : (project : Project) (root : Manifest) (config : Config) (found : Found)
-    → found.own.folder ≡ project.folder → found.own.overrides ≡ map override_view root.overrides
-    → found.own.features ≡ project.features
-    → opening_with project (manifest_view root) config (triplets_view found.triplets) (map overlay_view found.overlays)
-    ≡ opening_found project (manifest_view root) config found
-found_is project root config found folder overrides features = rw (folder, overrides, features) refl
 
 -- the off list that is made of a setting is its own
 pub lists_own : (setting : Setting) (off : Result (List Instance) Memory)
@@ -63,45 +48,27 @@ pub lists_own : (setting : Setting) (off : Result (List Instance) Memory)
 lists_own setting (Ok l) lists = lists (map instance_view l) setting.max_facts
 lists_own setting (Err m) lists = tt
 
--- the answer that goes with what was read: whether the tree failed, what is kept, and what is told
-fails_as : (read : Result Opening (Stop Early)) (off : Result (List Instance) Memory) (files : FileCache) → has_failed read ≡ was_out (answer_of read off files)
-fails_as (Ok o) (Ok off) files = refl
-fails_as (Ok o) (Err m) files = refl
-fails_as (Err (stop.Fault early)) off files = refl
-fails_as (Err stop.Failed) off files = refl
-fails_as (Err (stop.Memory m)) off files = refl
-
-keeps_files : (read : Result Opening (Stop Early)) (off : Result (List Instance) Memory) (files : FileCache) → IsKept (kept_of files) (answer_of read off files)
-keeps_files (Ok o) (Ok off) files = refl
-keeps_files (Ok o) (Err m) files = tt
-keeps_files (Err (stop.Fault early)) off files = tt
-keeps_files (Err stop.Failed) off files = tt
-keeps_files (Err (stop.Memory m)) off files = tt
-
-tells_read : (read : Result Opening (Stop Early)) (off : Result (List Instance) Memory) (files : FileCache) (given : Result plain_opening.Opening plain_early.Early) → IfOk off (AreOffIn read)
-    → Gives opening_view (fault_seen early_view) read given → Tells (answer_of read off files) given
-tells_read (Ok o) (Ok off) files given lists gives = (gives, lists)
-tells_read (Ok o) (Err m) files given lists gives = tt
-tells_read (Err (stop.Fault early)) off files given lists gives = gives
-tells_read (Err stop.Failed) off files given lists gives = tt
-tells_read (Err (stop.Memory m)) off files given lists gives = tt
+-- memory ran out at the last
+pub answers_lacking : {opening : Opening} {kept : Kept} {answer : Result Opened Outage} {m : Memory} → IsErrAnd answer (λ e. e ≡ outage.Memory m) → Answers (Ok opening) kept answer
+answers_lacking {answer = answer} is =
+    let p = err_from_is_err_and answer is in
+    rw (p.1, p.2) (record { failed = refl; keeps = tt; tells = λ given gives. tt })
 
 -- all that was kept was looked at since nothing was
 all_within : (paths : List Path) (kept now : Kept) → kept ≡ [] → LooksWithin paths kept now → IsWithin (paths_of now) paths
 all_within paths kept now none looks = subst (λ k. IsWithin (paths_of k) paths) (sym (looks.kept ∙ ap (λ k. k ++ looks.more) none)) looks.within
 
-pub opens_with : (project : Project) (store : Option Store) (read : Result Opening (Stop Early)) (off : Result (List Instance) Memory) (files : FileCache) (before after : State) (kept : Kept) → kept ≡ [] → NoRepeats (paths_of (kept_of files))
-    → IfOk off (AreOffIn read)
-    → ReadsFrom early_view opening_view read (opened_with project store) (paths_with project store) (record { kept = kept; tree = before }) (record { kept = kept_of files; tree = after })
-    → Opens project store (answer_of read off files) before after
-opens_with project store read off files before after kept none distinct lists r =
+pub opens_with : (project : Project) (store : Option Store) (read : Result Opening (Stop Early)) (answer : Result Opened Outage) (before after : State) (kept now : Kept) → kept ≡ [] → NoRepeats (paths_of now)
+    → ReadsFrom early_view opening_view read (opened_with project store) (paths_with project store) (record { kept = kept; tree = before }) (record { kept = now; tree = after })
+    → Answers read now answer → Opens project store answer before after
+opens_with project store read answer before after kept now none distinct r a =
     let learned = of_both before.told r.reads.learned r.reads.learned (λ t all _. all (rw none tt) tt) in record {
-      read = kept_of files;
-      once = subst (λ f. ReadOnce f (record { kept = []; tree = before }) (record { kept = kept_of files; tree = after })) (fails_as read off files) (rw none at r.reads.once);
+      read = now;
+      once = subst (λ f. ReadOnce f (record { kept = []; tree = before }) (record { kept = now; tree = after })) a.failed (rw none at r.reads.once);
       distinct = distinct;
-      within = of_both before.told learned learned (λ t all _. all_within (paths_with project store t.files) kept (kept_of files) none all.within);
-      kept = keeps_files read off files;
-      content = of_both before.told learned learned (λ t all _. tells_read read off files (opened_with project store t.files) lists all.holds);
+      within = of_both before.told learned learned (λ t all _. all_within (paths_with project store t.files) kept now none all.within);
+      kept = a.keeps;
+      content = of_both before.told learned learned (λ t all _. a.tells (opened_with project store t.files) all.holds);
     }
 
 -- what a caller has of it: nothing but reading was done, no path twice, and what was read is the files'

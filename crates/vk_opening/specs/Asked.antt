@@ -59,4 +59,4 @@ opening_paths project files = manifest_path project.folder ∷ paths_after (earl
 abbrev pub paths_with : Project → Option Store → Files → List Path
 paths_with project None files = opening_paths project files
 paths_with project (Some store) files =
-    opening_paths project files ++ paths_after (opened_of project files) (λ opening. stored_paths project store opening.start.config files)
+    opening_paths project files ++ paths_after (opened_of project files) (λ opening. stored_paths project store opening.layout.config files)

@@ -1,6 +1,6 @@
 -- what is promised
 pub mod Projects
-pub mod Starts
+pub mod Layouts
 pub mod Roots
 pub mod Configurations
 pub mod TripletFiles

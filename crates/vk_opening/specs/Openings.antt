@@ -1,4 +1,4 @@
--- What the early files of a project give: a setting and a start, or the first early line.
+-- What the early files of a project give: a setting and a layout, or the first early line.
 use Rattle.std.specs.Prelude.{List, map, Option, Some, None, Result, Ok}
 use Rattle.vk_spec.specs.Reading.{◌>>=◌}
 use Rattle.vk_spec.specs.Files.{Files}
@@ -11,7 +11,7 @@ use Rattle.vk_config.specs.Configs.{Config}
 use Rattle.vk_model.specs.declared.projects.Project.{Project}
 use Rattle.vk_model.specs.declared.projects.Store.{Store}
 use Rattle.vk_spec.specs.Earlies.{Early}
-use Rattle.vk_opening.specs.Starts.{Overlay, Start}
+use Rattle.vk_opening.specs.Layouts.{Overlay, Layout}
 use Rattle.vk_opening.specs.Projects.{manifest_path, folders_of}
 use Rattle.vk_opening.specs.Roots.{Root, root_in, early_at}
 use Rattle.vk_opening.specs.Configurations.{config_in}
@@ -22,7 +22,7 @@ use Rattle.vk_opening.specs.Stores.{stored_at}
 -- a setting, by the instances that are off in it, and what is known besides before any port is looked at
 pub record Opening : Type 0 where
   pub setting : List Instance → Setting
-  pub start : Start
+  pub layout : Layout
 
 -- the triplets, in the folders that the words name and then in those of the configuration
 abbrev pub triplets_of : Project → Config → Files → Result Triplets Early
@@ -35,11 +35,11 @@ overlays_of project config files = overlays_at (folders_of project.folder projec
 abbrev pub setting_with : Project → Manifest Condition → Triplets → List Instance → Setting
 setting_with project root triplets off = record { root = root; target = meaning_of triplets.target; host = meaning_of triplets.host; features = map feature_view project.features; defaults = project.defaults; off = off; max_facts = project.max_facts }
 
-abbrev pub start_with : Project → Manifest Condition → Config → List Overlay → Start
-start_with project root config overlays = record { folder = project.folder; config = config; overlays = overlays; overrides = root.overrides }
+abbrev pub layout_with : Project → Manifest Condition → Config → List Overlay → Layout
+layout_with project root config overlays = record { folder = project.folder; config = config; overlays = overlays; overrides = root.overrides }
 
 abbrev pub opening_with : Project → Manifest Condition → Config → Triplets → List Overlay → Opening
-opening_with project root config triplets overlays = record { setting = setting_with project root triplets; start = start_with project root config overlays }
+opening_with project root config triplets overlays = record { setting = setting_with project root triplets; layout = layout_with project root config overlays }
 
 unfoldable pub opened_of : Project → Files → Result Opening Early
 opened_of project files = do
@@ -51,7 +51,7 @@ opened_of project files = do
 
 -- the same, where packages are to be kept somewhere only if they can be
 abbrev pub stored : Project → Store → Opening → Files → Result Opening Early
-stored project store opening files = stored_at project store opening.start.config files >>= λ done. Ok opening
+stored project store opening files = stored_at project store opening.layout.config files >>= λ done. Ok opening
 
 abbrev pub opened_with : Project → Option Store → Files → Result Opening Early
 opened_with project None files = opened_of project files

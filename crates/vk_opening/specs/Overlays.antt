@@ -7,7 +7,7 @@ use Rattle.vk_files.specs.Readings.{Standing, missing, too_long, readable, stand
 use Rattle.vk_spec.specs.Earlies.{Early}
 use Rattle.vk_opening.specs.Roots.{port_in, early_at}
 use Rattle.vk_opening.specs.Projects.{manifest_path}
-use Rattle.vk_opening.specs.Starts.{Overlay, is_port, has_ports}
+use Rattle.vk_opening.specs.Layouts.{Overlay, is_port, has_ports}
 
 -- a folder with a manifest is the port of that manifest
 abbrev pub port_at : Path → Files → Result Overlay Early

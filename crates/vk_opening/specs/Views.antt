@@ -1,4 +1,4 @@
--- What contracts see of a start and of a setting: plain data.
+-- What contracts see of a layout and of a setting: plain data.
 use Rattle.std.specs.Prelude.{map, Result, Ok, Err}
 use Rattle.vk_json.specs.declared.faults.FileFault.{FileFault}
 use Rattle.vk_model.specs.Views.{manifest_view}
@@ -9,13 +9,14 @@ use Rattle.vk_config.specs.Views.{config_view, embedded_view}
 use Rattle.vk_config.specs.declared.configs.Embedded.{Embedded}
 use Rattle.vk_files.specs.Kept.{Kept}
 use Rattle.vk_files.specs.Views.{kept_of}
-use Rattle.vk_opening.specs.Starts as plain
+use Rattle.vk_opening.specs.Layouts as plain
 use Rattle.vk_opening.specs.Roots as plain_root
 use Rattle.vk_opening.specs.TripletFiles as plain_triplets
 use Rattle.vk_opening.specs.Openings as plain_opening
-use Rattle.vk_opening.specs.declared.starts.Overlay.{Overlay}
-use Rattle.vk_opening.specs.declared.starts.Overlay.TheVariants as overlay
-use Rattle.vk_opening.specs.declared.starts.Start.{Start}
+use Rattle.vk_opening.specs.declared.layouts.Overlay.{Overlay}
+use Rattle.vk_opening.specs.declared.layouts.Overlay.TheVariants as overlay
+use Rattle.vk_opening.specs.declared.layouts.Layout.{Layout}
+use Rattle.vk_opening.specs.declared.layouts.Start.{Start}
 use Rattle.vk_model.specs.declared.settings.Setting.{Setting}
 use Rattle.vk_opening.specs.declared.roots.OwnConfiguration.{OwnConfiguration}
 use Rattle.vk_opening.specs.declared.roots.Root.{Root}
@@ -25,8 +26,8 @@ abbrev pub overlay_view : Overlay → plain.Overlay
 overlay_view (overlay.Port folder manifest) = plain.is_port folder (manifest_view manifest.value)
 overlay_view (overlay.Ports folder) = plain.has_ports folder
 
-abbrev pub start_view : Start → plain.Start
-start_view s = record { folder = s.folder; config = config_view s.config; overlays = map overlay_view s.overlays; overrides = s.overrides }
+abbrev pub layout_view : Layout → plain.Layout
+layout_view l = record { folder = l.folder; config = config_view l.config; overlays = map overlay_view l.overlays; overrides = l.overrides }
 
 abbrev pub embedded_seen : Result Embedded FileFault → Result plain_config.Embedded FileFault
 embedded_seen (Ok embedded) = Ok (embedded_view embedded)
@@ -41,9 +42,9 @@ root_view r = record { manifest = manifest_view r.manifest; configuration = conf
 abbrev pub triplets_view : Triplets → plain_triplets.Triplets
 triplets_view t = record { target = t.target; host = t.host }
 
--- a setting, whatever is off in it, and a start, together
+-- a setting, whatever is off in it, and a layout, together
 abbrev pub ready_view : Setting → Start → plain_opening.Opening
-ready_view setting start = record { setting = with_off (setting_view setting); start = start_view start }
+ready_view setting start = record { setting = with_off (setting_view setting); layout = layout_view start.layout }
 
 -- what opening read, by path
 abbrev pub opened_files : Start → Kept

@@ -53,11 +53,11 @@ pub fn first_triplet()
 /// tree, it is the same. No path is asked for but those where they may stand.
 pub fn early_files()
     ensures decided { (project : Project) (opening : Opening) (one other : Files) → AgreeAt
-        (early_paths project opening.start.config) one other → opened_of project one ≡ Ok opening →
+        (early_paths project opening.layout.config) one other → opened_of project one ≡ Ok opening →
         opened_of project other ≡ Ok opening }
     ensures asked { (project : Project) (opening : Opening) (files : Files) → opened_of project
         files ≡ Ok opening → IsWithin (opening_paths project files)
-        (early_paths project opening.start.config) }
+        (early_paths project opening.layout.config) }
 {}
 
 /// Where nothing is wrong with a store, its two folders are apart from each other and from all

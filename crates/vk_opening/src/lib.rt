@@ -5,16 +5,16 @@
 
 mod configurations;
 mod laws;
+mod layouts;
 mod opens;
 mod overlays;
 mod projects;
 mod roots;
-mod starts;
 mod stores;
 mod triplet_files;
 
 pub use laws::{early_files, first_triplet, kept_apart, two_places};
+pub use layouts::{Layout, Overlay, Start};
 pub use opens::{Opened, open};
 pub use projects::{from_folder, manifest_path};
 pub use roots::PortFile;
-pub use starts::{Overlay, Start};

@@ -8,12 +8,12 @@ ghost use Rattle.vk_model.specs.Views.{manifest_view};
 ghost use Rattle.vk_opening.specs.Overlays.{port_at, overlay_by, overlay_at, overlays_at};
 ghost use Rattle.vk_opening.specs.Asked.{overlay_paths};
 ghost use Rattle.vk_opening.specs.Projects.{manifest_path};
-ghost use Rattle.vk_opening.specs.Starts.{is_port};
+ghost use Rattle.vk_opening.specs.Layouts.{is_port};
 ghost use Rattle.vk_opening.specs.Views.{overlay_view};
 
+use crate::layouts::Overlay;
 use crate::projects::manifest_path;
 use crate::roots::PortFile;
-use crate::starts::Overlay;
 use std::alloc::Global;
 use std::rc::Rc;
 use vk_base::{List, Stop, TreePath};

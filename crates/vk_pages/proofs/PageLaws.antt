@@ -38,7 +38,7 @@ use Rattle.vk_opening.specs.Overlays.{port_at, overlay_by, overlay_at, overlays_
 use Rattle.vk_rules.specs.Overrides.{override_for}
 use Rattle.vk_opening.specs.Projects.{manifest_path, folders_of}
 use Rattle.vk_opening.specs.Roots.{root_in, port_in, early_at}
-use Rattle.vk_opening.specs.Starts.{Overlay, is_port, has_ports, Start}
+use Rattle.vk_opening.specs.Layouts.{Overlay, is_port, has_ports, Layout}
 use Rattle.vk_pages.specs.Homes.{Home, in_overlay, in_registry, Served, served_by, source_in, served_for, given_by, overlay_home, home_in, home_with, served_home, registry_home, overlay_for, has_port, home_by, home_of, IsPinned}
 use Rattle.vk_pages.specs.Pages.{row_folder, row_manifest, page_row, page_at, page_of}
 
@@ -90,8 +90,8 @@ HasVersion (has_ports folder) = Unit {0}
 
 -- the ports among its overlays have versions, and its start has the overrides of the root manifest
 record IsOpened (opening : Opening) : Type 0 where
-  pub ports : AllByRecursion HasVersion opening.start.overlays
-  pub sets : (opening.setting []).root.overrides ≡ opening.start.overrides
+  pub ports : AllByRecursion HasVersion opening.layout.overlays
+  pub sets : (opening.setting []).root.overrides ≡ opening.layout.overrides
 
 -- what a port's reader gives has a version
 versioned : (bytes : List ℕ) (m : Manifest Condition) → port_in bytes ≡ Ok m → IsSome m.version
@@ -189,55 +189,55 @@ IsHome pinned (in_overlay folder v m) = pinned ≡ true
 IsHome pinned (in_registry given registry rows) = IsSet pinned given × IsTable rows
 
 -- what can be wrong with a home, and where as much is known, the port is pinned then or not
-abbrev IsWrong : Start → List ℕ → Type 0 → Bool → Wrong → Type 0
-IsWrong start port Known pinned wrong = CanBeOfGiven wrong × (Known → is_pinned_by start.overrides port (Err wrong) ≡ pinned)
+abbrev IsWrong : Layout → List ℕ → Type 0 → Bool → Wrong → Type 0
+IsWrong layout port Known pinned wrong = CanBeOfGiven wrong × (Known → is_pinned_by layout.overrides port (Err wrong) ≡ pinned)
 
-module _ (start : Start) (port : List ℕ) (files : Files) (Known : Type 0) where
-  own_is : (folder : Path) (m : Manifest Condition) → (Known → IsSome m.version) → Each (IsWrong start port Known true) (IsHome true) (overlay_home folder m)
+module _ (layout : Layout) (port : List ℕ) (files : Files) (Known : Type 0) where
+  own_is : (folder : Path) (m : Manifest Condition) → (Known → IsSome m.version) → Each (IsWrong layout port Known true) (IsHome true) (overlay_home folder m)
   unfolding overlay_home
   own_is folder m has = then_each (there _ m.version (λ none. (tt, λ known. let some : IsSome {T = Version} None = subst IsSome none (has known) in (cc)))) (λ v _. record { is = refl })
 
-  in_is : (o : Overlay) → (Known → HasVersion o) → Each (IsWrong start port Known true) (IsHome true) (home_in o port files)
+  in_is : (o : Overlay) → (Known → HasVersion o) → Each (IsWrong layout port Known true) (IsHome true) (home_in o port files)
   in_is (is_port folder m) has = own_is folder m has
   in_is (has_ports folder) has =
       let own = port_folder folder port in
       let path = manifest_path own in
-      then_each (then_each (content wrong_of port_in path files (λ fault. (tt, λ known. or_left (is_overlay_file port path) (has_override start.overrides port) (overlay_file port folder))) versioned)
+      then_each (then_each (content wrong_of port_in path files (λ fault. (tt, λ known. or_left (is_overlay_file port path) (has_override layout.overrides port) (overlay_file port folder))) versioned)
       (λ m is. then_each (same path the.name port (name_text m.name) (refl, λ known. refl)) (λ _ _. record { is = is }))) (λ m is. own_is own m (λ known. is))
 
-  served_is : {pinned : Bool} (source : Option Source) → has_override start.overrides port ≡ pinned → Each (IsWrong start port Known pinned) (λ s. Unit {0}) (served_by start.folder source)
+  served_is : {pinned : Bool} (source : Option Source) → has_override layout.overrides port ≡ pinned → Each (IsWrong layout port Known pinned) (λ s. Unit {0}) (served_by layout.folder source)
   served_is (Some (filesystem path name)) is = record { is = tt }
   served_is (Some git) is = record { is = (tt, λ known. is) }
   served_is (Some builtin) is = record { is = (tt, λ known. is) }
   served_is (Some artifact) is = record { is = (tt, λ known. is) }
   served_is None is = record { is = (tt, λ known. is) }
 
-  entry_is : (ask : Option Ask) → has_override start.overrides port ≡ false → Each (IsWrong start port Known false) (IsSet false) (or_fault the.no_baseline (option_map baseline ask))
+  entry_is : (ask : Option Ask) → has_override layout.overrides port ≡ false → Each (IsWrong layout port Known false) (IsSet false) (or_fault the.no_baseline (option_map baseline ask))
   entry_is None is = record { is = (tt, λ known. is) }
   entry_is (Some ask) is = record { is = refl }
 
   -- a file of the registry that is wrong
-  file_wrong : {pinned : Bool} (path : Path) → is_overlay_file port path ≡ false → has_override start.overrides port ≡ pinned → (fault : FileFault) → IsWrong start port Known pinned (wrong_of (bad_at path fault))
-  file_wrong path other is fault = (tt, λ known. ap (λ b. b || has_override start.overrides port) other ∙ is)
+  file_wrong : {pinned : Bool} (path : Path) → is_overlay_file port path ≡ false → has_override layout.overrides port ≡ pinned → (fault : FileFault) → IsWrong layout port Known pinned (wrong_of (bad_at path fault))
+  file_wrong path other is fault = (tt, λ known. ap (λ b. b || has_override layout.overrides port) other ∙ is)
 
-  given_is : (set : Option Ask) (served : Served) → has_override start.overrides port ≡ is_some set → Each (IsWrong start port Known (is_some set)) (IsSet (is_some set)) (given_by set served port files)
+  given_is : (set : Option Ask) (served : Served) → has_override layout.overrides port ≡ is_some set → Each (IsWrong layout port Known (is_some set)) (IsSet (is_some set)) (given_by set served port files)
   given_is (Some ask) served is = record { is = refl }
   given_is None served is =
       then_each (content wrong_of (baseline_by served.baseline) (baseline_path served.folder) files (file_wrong (baseline_path served.folder) (no_baseline_file port served.folder) is) (λ bytes entries e. tt {0})) (λ entries _. entry_is (ask_for port entries) is)
 
-  registry_is : Each (IsWrong start port Known (is_some (override_for start.overrides port))) (IsHome (is_some (override_for start.overrides port))) (registry_home start port files)
+  registry_is : Each (IsWrong layout port Known (is_some (override_for layout.overrides port))) (IsHome (is_some (override_for layout.overrides port))) (registry_home layout port files)
   unfolding registry_home served_home
   registry_is =
-      let is = set_is start.overrides port in
-      then_each (served_is (source_in start.config (place_of start.config port)) is)
-      (λ served _. then_each (given_is (override_for start.overrides port) served is)
+      let is = set_is layout.overrides port in
+      then_each (served_is (source_in layout.config (place_of layout.config port)) is)
+      (λ served _. then_each (given_is (override_for layout.overrides port) served is)
       (λ given set. then_each (content wrong_of table_of (table_path port served.folder) files (file_wrong (table_path port served.folder) (no_table_file port served.folder) is) table_read) (λ rows table. record { is = (set, table) })))
 
   -- whether the port is pinned
   abbrev pinned_at : Option Overlay → Bool
-  pinned_at found = is_some found || is_some (override_for start.overrides port)
+  pinned_at found = is_some found || is_some (override_for layout.overrides port)
 
-  home_is : (found : Option Overlay) → (Known → IfSome found HasVersion) → Each (IsWrong start port Known (pinned_at found)) (IsHome (pinned_at found)) (home_by found start port files)
+  home_is : (found : Option Overlay) → (Known → IfSome found HasVersion) → Each (IsWrong layout port Known (pinned_at found)) (IsHome (pinned_at found)) (home_by found layout port files)
   home_is (Some o) has = in_is o has
   home_is None has = registry_is
 
@@ -273,49 +273,49 @@ set_alone pinned rows (overlay v) is = absurd is
 set_alone pinned rows (override a) is = tt
 set_alone pinned rows (baseline a) is = tt
 
-page_is : (start : Start) (port : List ℕ) {Known : Type 0} {pinned : Bool} (files : Files) (home : Result Home Wrong) → Each (IsWrong start port Known pinned) (IsHome pinned) home → IsPage (page_at port files home)
-page_is start port files (Err wrong) home = record { distinct = tt; own = tt; given_wrong = home.is.0; row_wrongs = λ r at. absurd (contains_nothing r at) }
-page_is start port files (Ok (in_overlay folder v m)) home = record {
+page_is : (layout : Layout) (port : List ℕ) {Known : Type 0} {pinned : Bool} (files : Files) (home : Result Home Wrong) → Each (IsWrong layout port Known pinned) (IsHome pinned) home → IsPage (page_at port files home)
+page_is layout port files (Err wrong) home = record { distinct = tt; own = tt; given_wrong = home.is.0; row_wrongs = λ r at. absurd (contains_nothing r at) }
+page_is layout port files (Ok (in_overlay folder v m)) home = record {
   distinct = (contains_nothing (ask_of v), tt);
   own = refl;
   given_wrong = tt;
   row_wrongs = λ r at. let rows : List (the.Row Condition) = record { version = v; manifest = Ok m } ∷ [] in All-contains IsFitRow rows r (All-from_recursion IsFitRow rows (tt, tt)) at;
 }
-page_is start port {pinned = pinned} files (Ok (in_registry given registry rows)) home = record {
+page_is layout port {pinned = pinned} files (Ok (in_registry given registry rows)) home = record {
   distinct = subst NoRepeats (sym (asks_are port registry files rows)) home.is.1.distinct;
   own = set_alone pinned (map (page_row port registry files) rows) given home.is.0;
   given_wrong = tt;
   row_wrongs = λ r at. All-contains IsFitRow (map (page_row port registry files) rows) r (All-from_recursion IsFitRow (map (page_row port registry files) rows) (rows_are port registry files rows)) at;
 }
 
-pub is_page : (start : Start) (files : Files) (port : List ℕ) → IsPage (page_of start files port)
-is_page start files port =
-    let found = overlay_for start.overlays port files in
-    page_is start port files (home_of start port files) (home_is start port files (IfSome found HasVersion) found (λ known. known))
+pub is_page : (layout : Layout) (files : Files) (port : List ℕ) → IsPage (page_of layout files port)
+is_page layout files port =
+    let found = overlay_for layout.overlays port files in
+    page_is layout port files (home_of layout port files) (home_is layout port files (IfSome found HasVersion) found (λ known. known))
 
 -- ---- which ports are pinned
 
-pinned_on_page : (start : Start) (port : List ℕ) {Known : Type 0} {pinned : Bool} (files : Files) (home : Result Home Wrong) → Each (IsWrong start port Known pinned) (IsHome pinned) home → Known → is_pinned_by start.overrides port (page_at port files home).given ≡ pinned
-pinned_on_page start port files (Err wrong) home known = home.is.1 known
-pinned_on_page start port files (Ok (in_overlay folder v m)) home known = sym home.is
-pinned_on_page start port {pinned = pinned} files (Ok (in_registry given registry rows)) home known = by given home.is.0
+pinned_on_page : (layout : Layout) (port : List ℕ) {Known : Type 0} {pinned : Bool} (files : Files) (home : Result Home Wrong) → Each (IsWrong layout port Known pinned) (IsHome pinned) home → Known → is_pinned_by layout.overrides port (page_at port files home).given ≡ pinned
+pinned_on_page layout port files (Err wrong) home known = home.is.1 known
+pinned_on_page layout port files (Ok (in_overlay folder v m)) home known = sym home.is
+pinned_on_page layout port {pinned = pinned} files (Ok (in_registry given registry rows)) home known = by given home.is.0
   where
-    by : (given : Given) → IsSet pinned given → is_pinned_by start.overrides port (Ok given) ≡ pinned
+    by : (given : Given) → IsSet pinned given → is_pinned_by layout.overrides port (Ok given) ≡ pinned
     by (overlay v) is = absurd is
     by (override a) is = sym is
     by (baseline a) is = sym is
 
 pub is_pinned_where : (project : Project) (files : Files) (opening : Opening) → opened_of project files ≡ Ok opening → (port : List ℕ)
-    → IsTrue (is_pinned_by (opening.setting []).root.overrides port (page_of opening.start files port).given) ↔ IsPinned opening.start port files
+    → IsTrue (is_pinned_by (opening.setting []).root.overrides port (page_of opening.layout files port).given) ↔ IsPinned opening.layout port files
 is_pinned_where project files opening e port =
     let opened : Each (λ e. Unit {0}) IsOpened (Ok opening) = subst (Each (λ e. Unit {0}) IsOpened) e (opened_has project files) in
-    let start = opening.start in
-    let found = overlay_for start.overlays port files in
-    let set = override_for start.overrides port in
-    let page = page_of start files port in
+    let layout = opening.layout in
+    let found = overlay_for layout.overlays port files in
+    let set = override_for layout.overrides port in
+    let page = page_of layout files port in
     let says : is_pinned_by (opening.setting []).root.overrides port page.given ≡ (is_some found || is_some set) =
     ap (λ overrides. is_pinned_by overrides port page.given) opened.is.sets
-    ∙ pinned_on_page start port files (home_of start port files) (home_is start port files (IfSome found HasVersion) found (λ known. known)) (found_has (has_port port files) start.overlays opened.is.ports) in (
+    ∙ pinned_on_page layout port files (home_of layout port files) (home_is layout port files (IfSome found HasVersion) found (λ known. known)) (found_has (has_port port files) layout.overlays opened.is.ports) in (
       (λ pinned. or_cases (is_some found) (is_some set) (sym says ∙ pinned)),
       (λ either. says ∙ elim either [
         | inl there ↦ or_left (is_some found) (is_some set) there
@@ -325,13 +325,13 @@ is_pinned_where project files opening e port =
 
 -- ---- where a port comes from
 
-pub from_overlay : (start : Start) (port : List ℕ) (files : Files) (o : Overlay) → overlay_for start.overlays port files ≡ Some o → home_of start port files ≡ home_in o port files
-from_overlay start port files o found = ap (λ found. home_by found start port files) found
+pub from_overlay : (layout : Layout) (port : List ℕ) (files : Files) (o : Overlay) → overlay_for layout.overlays port files ≡ Some o → home_of layout port files ≡ home_in o port files
+from_overlay layout port files o found = ap (λ found. home_by found layout port files) found
 
-pub from_registry : (start : Start) (port : List ℕ) (files : Files) (served : Served) (ask : Ask) → overlay_for start.overlays port files ≡ None → served_for start port ≡ Ok served → override_for start.overrides port ≡ Some ask
-    → home_of start port files ≡ home_with (override ask) served port files
+pub from_registry : (layout : Layout) (port : List ℕ) (files : Files) (served : Served) (ask : Ask) → overlay_for layout.overlays port files ≡ None → served_for layout port ≡ Ok served → override_for layout.overrides port ≡ Some ask
+    → home_of layout port files ≡ home_with (override ask) served port files
 unfolding registry_home served_home
-from_registry start port files served ask none is set =
-    ap (λ found. home_by found start port files) none
-    ∙ ap (λ r. r >>= λ s. served_home (override_for start.overrides port) s port files) is
+from_registry layout port files served ask none is set =
+    ap (λ found. home_by found layout port files) none
+    ∙ ap (λ r. r >>= λ s. served_home (override_for layout.overrides port) s port files) is
     ∙ ap (λ o. served_home o served port files) set

@@ -8,7 +8,7 @@ use Rattle.vk_spec.specs.Versions.{Ask}
 use Rattle.vk_files.specs.Within.{paths_after, up_to_first}
 use Rattle.vk_registry.specs.Tables.{Row}
 use Rattle.vk_opening.specs.Projects.{manifest_path}
-use Rattle.vk_opening.specs.Starts.{Overlay, is_port, has_ports, Start}
+use Rattle.vk_opening.specs.Layouts.{Overlay, is_port, has_ports, Layout}
 use Rattle.vk_registry.specs.RegistryFiles.{baseline_path, table_path, port_folder}
 use Rattle.vk_pages.specs.Homes.{Home, in_overlay, in_registry, Served, has_port, overlay_for, served_for, given_by, home_of}
 use Rattle.vk_rules.specs.Overrides.{override_for}
@@ -33,8 +33,8 @@ abbrev pub served_paths : Option Ask → Served → Files → List ℕ → List 
 served_paths set served files port = given_paths set served ++ paths_after (given_by set served port files) (λ given. table_path port served.folder ∷ [])
 
 -- those of the registry that serves the port, if one does
-abbrev pub registry_paths : Start → Files → List ℕ → List Path
-registry_paths start files port = paths_after (served_for start port) (λ served. served_paths (override_for start.overrides port) served files port)
+abbrev pub registry_paths : Layout → Files → List ℕ → List Path
+registry_paths layout files port = paths_after (served_for layout port) (λ served. served_paths (override_for layout.overrides port) served files port)
 
 -- a registry is asked where no overlay has the port
 abbrev pub elsewhere : Option Overlay → List Path → List Path
@@ -42,8 +42,8 @@ elsewhere (Some overlay) paths = []
 elsewhere None paths = paths
 
 -- what is asked for to find where a port's versions are
-abbrev pub home_paths : Start → Files → List ℕ → List Path
-home_paths start files port = overlay_paths start.overlays files port ++ elsewhere (overlay_for start.overlays port files) (registry_paths start files port)
+abbrev pub home_paths : Layout → Files → List ℕ → List Path
+home_paths layout files port = overlay_paths layout.overlays files port ++ elsewhere (overlay_for layout.overlays port files) (registry_paths layout files port)
 
 -- the manifest of a row of a registry's table
 abbrev pub row_path : Path → Row → Path
@@ -56,5 +56,5 @@ manifest_paths (Ok (in_overlay folder v m)) = []
 manifest_paths (Ok (in_registry given registry rows)) = map (row_path registry) rows
 
 -- all that is asked for to answer what concerns a port
-abbrev pub page_paths : Start → Files → List ℕ → List Path
-page_paths start files port = home_paths start files port ++ manifest_paths (home_of start port files)
+abbrev pub page_paths : Layout → Files → List ℕ → List Path
+page_paths layout files port = home_paths layout files port ++ manifest_paths (home_of layout port files)

@@ -17,7 +17,7 @@ use Rattle.vk_files.specs.Readings.{Bad, wrong_of, or_told, is_at, file_at, file
 use Rattle.vk_opening.specs.Projects.{manifest_path}
 use Rattle.vk_rules.specs.Overrides.{override_for}
 use Rattle.vk_opening.specs.Roots.{port_in}
-use Rattle.vk_opening.specs.Starts.{Overlay, is_port, has_ports, Start}
+use Rattle.vk_opening.specs.Layouts.{Overlay, is_port, has_ports, Layout}
 use Rattle.vk_registry.specs.RegistryFiles.{baseline_path, table_path, port_folder}
 use Rattle.vk_registry.specs.Agreement.{named, stated_version}
 
@@ -89,8 +89,8 @@ source_in config None = None
 source_in config (Some place) = source_at config place
 
 -- the registry that serves the port
-abbrev pub served_for : Start → List ℕ → Result Served Wrong
-served_for start port = served_by start.folder (source_in start.config (place_of start.config port))
+abbrev pub served_for : Layout → List ℕ → Result Served Wrong
+served_for layout port = served_by layout.folder (source_in layout.config (place_of layout.config port))
 
 -- the registry's baseline
 abbrev pub baseline_file : Served → Files → Result (List Entry) Bad
@@ -121,20 +121,20 @@ home_with given served port files = table_in served port files >>= λ rows. Ok (
 unfoldable pub served_home : Option Ask → Served → List ℕ → Files → Result Home Wrong
 served_home set served port files = given_by set served port files >>= λ given. home_with given served port files
 
-unfoldable pub registry_home : Start → List ℕ → Files → Result Home Wrong
-registry_home start port files = served_for start port >>= λ served. served_home (override_for start.overrides port) served port files
+unfoldable pub registry_home : Layout → List ℕ → Files → Result Home Wrong
+registry_home layout port files = served_for layout port >>= λ served. served_home (override_for layout.overrides port) served port files
 
 -- ---- both
 
 -- the home in the first overlay that has the port, if one does
-abbrev pub home_by : Option Overlay → Start → List ℕ → Files → Result Home Wrong
-home_by (Some overlay) start port files = home_in overlay port files
-home_by None start port files = registry_home start port files
+abbrev pub home_by : Option Overlay → Layout → List ℕ → Files → Result Home Wrong
+home_by (Some overlay) layout port files = home_in overlay port files
+home_by None layout port files = registry_home layout port files
 
 -- where the port's versions are, or the first thing that is wrong
-abbrev pub home_of : Start → List ℕ → Files → Result Home Wrong
-home_of start port files = home_by (overlay_for start.overlays port files) start port files
+abbrev pub home_of : Layout → List ℕ → Files → Result Home Wrong
+home_of layout port files = home_by (overlay_for layout.overlays port files) layout port files
 
 -- a port is pinned where an overlay has it, or the root manifest has an override for it
-abbrev pub IsPinned : Start → List ℕ → Files → Type 0
-IsPinned start port files = IsSome (overlay_for start.overlays port files) ⊎ IsSome (override_for start.overrides port)
+abbrev pub IsPinned : Layout → List ℕ → Files → Type 0
+IsPinned layout port files = IsSome (overlay_for layout.overlays port files) ⊎ IsSome (override_for layout.overrides port)

@@ -9,7 +9,7 @@ use Rattle.vk_base.specs.Paths.{joined}
 use Rattle.vk_spec.specs.Conditions.{Condition}
 use Rattle.vk_registry.specs.Tables.{Row}
 use Rattle.vk_opening.specs.Projects.{manifest_path}
-use Rattle.vk_opening.specs.Starts.{Start}
+use Rattle.vk_opening.specs.Layouts.{Layout}
 use Rattle.vk_registry.specs.Agreement.{agreeing}
 use Rattle.vk_pages.specs.Homes.{manifest_file, Home, in_overlay, in_registry, home_of}
 
@@ -34,5 +34,5 @@ page_at port files (Ok (in_overlay folder v m)) = record { given = Ok (plain.ove
 page_at port files (Ok (in_registry given registry rows)) = record { given = Ok given; rows = map (page_row port registry files) rows }
 
 -- the page of a port
-abbrev pub page_of : Start → Files → List ℕ → plain.Page Condition
-page_of start files port = page_at port files (home_of start port files)
+abbrev pub page_of : Layout → Files → List ℕ → plain.Page Condition
+page_of layout files port = page_at port files (home_of layout port files)

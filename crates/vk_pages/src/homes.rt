@@ -1,11 +1,12 @@
-//! What is known of a project's ports, and where the versions of one are.
+//! Where the versions of a port are.
 ghost use Rattle.vk_files.specs.Views.{held};
 ghost use Rattle.vk_pages.specs.Homes.{home_of};
 ghost use Rattle.vk_pages.specs.Asked.{home_paths};
 ghost use Rattle.vk_files.specs.Finds.{Finds};
 ghost use Rattle.vk_catalogue.specs.Views.{wrong_view};
 ghost use Rattle.vk_pages.specs.BaselineNotes.{AreBaselines};
-ghost use Rattle.vk_pages.specs.HomeViews.{home_view, layout_view};
+ghost use Rattle.vk_opening.specs.Views.{layout_view};
+ghost use Rattle.vk_pages.specs.HomeViews.{home_view};
 ghost use Rattle.vk_pages.specs.NoteViews.{notes_of};
 
 use crate::baselines::Baselines;
@@ -13,30 +14,15 @@ use crate::overlays::{home_in, overlay_for};
 use crate::registries::registry_home;
 use std::alloc::Global;
 use std::rc::Rc;
-use vk_base::{List, PortName, Stop, TreePath};
+use vk_base::{PortName, Stop, TreePath};
 use vk_catalogue::{Given, Wrong};
-use vk_config::Config;
 use vk_files::FileCache;
 use vk_model::Manifest;
-use vk_opening::Overlay;
+use vk_opening::Layout;
 use vk_registry::Table;
 use vk_rules::Overrides;
 use vk_tree::Tree;
 use vk_version::Version;
-
-/// What is known of a project before any port is looked at: a start without the files that were
-/// read.
-#[derive(Drop)]
-pub struct Layout {
-    /// The project's folder.
-    pub folder: TreePath,
-    /// Its configuration.
-    pub config: Config,
-    /// Its overlays, in order.
-    pub overlays: List<Overlay>,
-    /// The versions that the root manifest sets.
-    pub overrides: Overrides,
-}
 
 /// Where a port's versions are.
 #[derive(Drop)]

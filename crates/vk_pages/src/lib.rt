@@ -14,6 +14,6 @@ mod registries;
 mod served;
 
 pub use baselines::Baselines;
-pub use homes::{Home, Layout, home_of};
+pub use homes::{Home, home_of};
 pub use laws::{overlay_rule, override_rule, page_rule, pinned_rule};
 pub use served::row_folder;

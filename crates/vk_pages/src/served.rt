@@ -5,16 +5,16 @@ ghost use Rattle.vk_config.specs.Views.{config_view, source_view};
 ghost use Rattle.vk_catalogue.specs.Views.{wrong_view};
 ghost use Rattle.vk_base.specs.Stops.{fault_seen, has_failed};
 ghost use Rattle.vk_pages.specs.Homes.{source_at, served_by, served_for};
-ghost use Rattle.vk_pages.specs.HomeViews.{layout_view, served_view};
+ghost use Rattle.vk_opening.specs.Views.{layout_view};
+ghost use Rattle.vk_pages.specs.HomeViews.{served_view};
 ghost use Rattle.vk_pages.specs.Pages.{row_folder};
 ghost use Rattle.vk_registry.specs.TableViews.{row_view};
 
-use crate::homes::Layout;
 use std::alloc::Global;
 use vk_base::{Memory, PortName, SharedText, Stop, TreePath};
 use vk_catalogue::Wrong;
 use vk_config::{Config, Source, registry_of};
-use vk_opening::from_folder;
+use vk_opening::{Layout, from_folder};
 use vk_registry::Row;
 
 /// A registry in a folder.

@@ -25,7 +25,7 @@ fn tell_ready(setting: &Setting, start: &Start, reply: &mut Reply) {
     reply.push(" ");
     reply.push(setting.host.name().as_str());
     reply.push(" ");
-    reply.push_number(start.overlays.len() as u64);
+    reply.push_number(start.layout.overlays.len() as u64);
 }
 
 fn stopped(stop: Outage, reply: &mut Reply) {

@@ -10,7 +10,7 @@ use Rattle.vk_spec.proofs.VersionLemmas.{both_decide, asks_equal, ask_itself}
 use Rattle.vk_files.specs.Notes.{AreRight}
 use Rattle.vk_files.proofs.NoteLemmas.{right_found}
 use Rattle.vk_files.proofs.NotedLemmas.{noted}
-use Rattle.vk_opening.specs.Starts.{Start}
+use Rattle.vk_opening.specs.Layouts.{Layout}
 use Rattle.vk_world.specs.PortAsks.{same_asked}
 use Rattle.vk_world.specs.ManifestNotes.{FoundManifest, manifests_in, manifest_noted, IsManifestOf, IsNoteOf, AreManifests}
 use Rattle.vk_world.specs.declared.manifests.Manifests.{Manifests}
@@ -24,8 +24,8 @@ key_is a b e =
     λ i. record { port = p.0 i; ask = record { text = (p.1 i).text; port = (p.1 i).port } }
 
 -- what is kept for a port and an ask is right of them
-pub note_right : (start : Start) (files : Files) (key : PortAsk) (manifests : Manifests) (found : FoundManifest) → AreManifests start manifests files → manifest_noted key manifests ≡ Some found → IsManifestOf start files key.port (ask_view key.ask) found
-note_right start files key manifests found right noted = right_found (IsNoteOf start files) same_asked key_is (manifests_in manifests) key found right noted
+pub note_right : (layout : Layout) (files : Files) (key : PortAsk) (manifests : Manifests) (found : FoundManifest) → AreManifests layout manifests files → manifest_noted key manifests ≡ Some found → IsManifestOf layout files key.port (ask_view key.ask) found
+note_right layout files key manifests found right noted = right_found (IsNoteOf layout files) same_asked key_is (manifests_in manifests) key found right noted
 
 -- with one note more that is right, or one in the place of another, all are
 pub right_put : {K V W : Type 0} (P : K → W → Type 0) (view : V → W) (eq : K → K → Bool) → ((x y : K) → eq x y ≡ true → x ≡ y)

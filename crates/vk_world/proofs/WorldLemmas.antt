@@ -25,18 +25,18 @@ use Rattle.vk_files.specs.Kept.{Kept, paths_of, IsOf, IsSeen}
 use Rattle.vk_files.specs.Within.{LooksWithin}
 use Rattle.vk_files.specs.Views.{kept_of}
 use Rattle.vk_files.proofs.NoteLemmas.{right_more}
-use Rattle.vk_opening.specs.Starts.{Start}
+use Rattle.vk_opening.specs.Layouts.{Layout}
 use Rattle.vk_files.specs.Finds.{IsLearned}
 use Rattle.vk_pages.specs.Homes.{home_of}
 use Rattle.vk_pages.specs.Pages.{page_of}
 use Rattle.vk_pages.specs.Asked.{page_paths}
 use Rattle.vk_pages.proofs.PageLaws.{is_page}
 use Rattle.vk_world.specs.HomeNotes.{FoundHome}
-use Rattle.vk_world.specs.Libraries.{start_of, IsRight, Serves, SaysFolderAt}
+use Rattle.vk_world.specs.Libraries.{layout_of, IsRight, Serves, SaysFolderAt}
 use Rattle.vk_world.specs.Worlds.{paths_in, opened_in, asked_since, log_before, without_asked, places_in, page_paths_in}
 use Rattle.vk_world.specs.Worlds.{ArePagePaths, origin_on, pages_in, learned_view, world_state, IsSoundOn, IsSound, IsReadSince}
 use Rattle.vk_world.specs.declared.libraries.Library.{Library}
-use Rattle.vk_world.proofs.LibraryLemmas.{start_stays}
+use Rattle.vk_world.proofs.LibraryLemmas.{layout_stays}
 
 -- ---- lists
 
@@ -84,7 +84,7 @@ module _ {X : Type 0} {answer : Result X Outage} {Says : Files → FoundHome →
       ap (λ n. drop n (paths_in (learned_view after))) served.stays.opened ∙ ap (drop before.opened) paths_more ∙ drop-append-le before.opened (paths_in (learned_view before)) more sound.opened
 
   -- what was learned, where the files are told
-  learned : IfSome s.told (λ t. IsLearned (IsRight after t.files) (IfOk answer (Says t.files (home_of (start_of before) port t.files))) (page_paths (start_of before) t.files port) (kept_of before.files) (kept_of after.files))
+  learned : IfSome s.told (λ t. IsLearned (IsRight after t.files) (IfOk answer (Says t.files (home_of (layout_of before) port t.files))) (page_paths (layout_of before) t.files port) (kept_of before.files) (kept_of after.files))
   learned = of_both s.told sound.told served.learns.reads.learned (λ t on learned. learned on.files on.right)
 
   -- the paths that were looked at are of the port's page
@@ -95,13 +95,13 @@ module _ {X : Type 0} {answer : Result X Outage} {Says : Files → FoundHome →
         | inr since ↦ (port, looks.within p (subst (λ kept. Contains (paths_of kept) p) (append_cancel_left (kept_of before.files) served.learns.reads.once.more looks.more (sym served.learns.reads.once.kept ∙ looks.kept)) since))
       ]
 
-  sound_on : (t : Told) → IsSoundOn before t → IsOf t.files served.learns.reads.once.more → IsRight after t.files → LooksWithin (page_paths (start_of before) t.files port) (kept_of before.files) (kept_of after.files) → IsSoundOn after (record { files = t.files; log = t.log ++ more })
+  sound_on : (t : Told) → IsSoundOn before t → IsOf t.files served.learns.reads.once.more → IsRight after t.files → LooksWithin (page_paths (layout_of before) t.files port) (kept_of before.files) (kept_of after.files) → IsSoundOn after (record { files = t.files; log = t.log ++ more })
   sound_on t on of right looks = record {
     files = subst (IsOf t.files) (sym served.learns.reads.once.kept) (right_more (IsSeen t.files) (kept_of before.files) served.learns.reads.once.more on.files of);
     right = right;
     before = on.before;
     log = ap (λ log. log ++ more) on.log ∙ append_assoc on.before was more ∙ ap (λ asked. on.before ++ asked) (sym since_more);
-    within = subst (λ start. ArePagePaths (page_paths start t.files) now) (sym (start_stays served.stays)) (more_paths (page_paths (start_of before) t.files) on.within looks);
+    within = subst (λ layout. ArePagePaths (page_paths layout t.files) now) (sym (layout_stays served.stays)) (more_paths (page_paths (layout_of before) t.files) on.within looks);
   }
 
   -- it stays sound
@@ -114,9 +114,9 @@ module _ {X : Type 0} {answer : Result X Outage} {Says : Files → FoundHome →
             (told_on (IsSoundOn after) more s.told (of_both s.told both learned (λ t both l. sound_on t both.0 both.1 l.right l.within)));
       }
 
-  -- what is told of files by the start stays
-  told_as : {A : Type 0} (f : Start → Option Told → A) → ((start : Start) (t : Told) → f start (Some (record { files = t.files; log = t.log ++ more })) ≡ f start (Some t)) → f (start_of after) s'.told ≡ f (start_of before) s.told
-  told_as f same = ap (λ start. f start s'.told) (start_stays served.stays) ∙ ap (f (start_of before)) served.learns.reads.once.looks.told ∙ files_stay (f (start_of before)) more s.told (same (start_of before))
+  -- what is told of files by the layout stays
+  told_as : {A : Type 0} (f : Layout → Option Told → A) → ((layout : Layout) (t : Told) → f layout (Some (record { files = t.files; log = t.log ++ more })) ≡ f layout (Some t)) → f (layout_of after) s'.told ≡ f (layout_of before) s.told
+  told_as f same = ap (λ layout. f layout s'.told) (layout_stays served.stays) ∙ ap (f (layout_of before)) served.learns.reads.once.looks.told ∙ files_stay (f (layout_of before)) more s.told (same (layout_of before))
 
   -- and so does what the tree told when the world was made
   told_stays : (o p : Option Told) → p ≡ with_asked more o → IfSome o (IsSoundOn before) → option_map (without_asked now) p ≡ option_map (without_asked was) o
@@ -131,13 +131,13 @@ module _ {X : Type 0} {answer : Result X Outage} {Says : Files → FoundHome →
       let looks = served.learns.reads.once.looks in
       let opened = ap (λ n. take n (paths_in (learned_view after))) served.stays.opened ∙ ap (take before.opened) paths_more ∙ take-append-le before.opened (paths_in (learned_view before)) more sound.opened in
       record {
-        pages = told_as pages_in (λ start t. refl);
+        pages = told_as pages_in (λ layout t. refl);
         origin = λ i. record {
           told = told_stays s.told s'.told looks.told sound.told i;
           changes = looks.changes i;
           opened = opened i;
-          places = told_as places_in (λ start t. refl) i;
-          page_paths = told_as page_paths_in (λ start t. refl) i;
+          places = told_as places_in (λ layout t. refl) i;
+          page_paths = told_as page_paths_in (λ layout t. refl) i;
         };
         calls = looks.calls;
         faults = looks.ends.faults;
@@ -147,7 +147,7 @@ module _ {X : Type 0} {answer : Result X Outage} {Says : Files → FoundHome →
 
   -- its answers are what the pages say
   pub asks_served : {A : Type 0} (view : X → A) (PageSays : Page Condition → A → Type 0)
-      → ((t : Told) → s.told ≡ Some t → (x : X) → Says t.files (home_of (start_of before) port t.files) x → PageSays (page_of (start_of before) t.files port) (view x))
+      → ((t : Told) → s.told ≡ Some t → (x : X) → Says t.files (home_of (layout_of before) port t.files) x → PageSays (page_of (layout_of before) t.files port) (view x))
       → Asks port PageSays (seen_by view answer) (world_state s (learned_view before)) (world_state s' (learned_view after))
   asks_served view PageSays page_says = record {
     told = told answer s.told refl (of_both s.told learned learned (λ t l _. l.holds));
@@ -155,28 +155,28 @@ module _ {X : Type 0} {answer : Result X Outage} {Says : Files → FoundHome →
     only = subst (λ failed. OnlyAsked failed (world_state s (learned_view before)) (world_state s' (learned_view after))) (sym (same_failed view answer)) only_asked;
   }
     where
-      kept : (o : Option Told) → IfSome (pages_in (start_of before) o) ArePages
+      kept : (o : Option Told) → IfSome (pages_in (layout_of before) o) ArePages
       kept None = tt
-      kept (Some t) = is_page (start_of before) t.files
+      kept (Some t) = is_page (layout_of before) t.files
 
-      told : (r : Result X Outage) (o : Option Told) → s.told ≡ o → IfSome o (λ t. IfOk r (Says t.files (home_of (start_of before) port t.files))) → IfOk (seen_by view r) (λ x. IfSome (pages_in (start_of before) o) (λ p. PageSays (p port) x))
+      told : (r : Result X Outage) (o : Option Told) → s.told ≡ o → IfSome o (λ t. IfOk r (Says t.files (home_of (layout_of before) port t.files))) → IfOk (seen_by view r) (λ x. IfSome (pages_in (layout_of before) o) (λ p. PageSays (p port) x))
       told (Err e) o is says = tt
       told (Ok x) None is says = tt
       told (Ok x) (Some t) is says = page_says t is x says
 
 -- where the files are told, a version stands where they say
 pub folder_told : {answer : Result (Option Path) Outage} {port : List ℕ} {v : Version} {before after : Library} {s s' : State} → IsSound s before → Serves answer (SaysFolderAt v) port before after s s'
-    → IfOk answer (λ folder. IfSome (pages_in (start_of before) s.told) (λ _. folder ≡ places_in (start_of before) s.told port v))
+    → IfOk answer (λ folder. IfSome (pages_in (layout_of before) s.told) (λ _. folder ≡ places_in (layout_of before) s.told port v))
 folder_told {answer = answer} {port = port} {v = v} {before = before} {s = s} sound served = by answer s.told (of_both s.told (learned sound served) (learned sound served) (λ t l _. l.holds))
   where
-    by : (r : Result (Option Path) Outage) (o : Option Told) → IfSome o (λ t. IfOk r (SaysFolderAt v t.files (home_of (start_of before) port t.files))) → IfOk r (λ folder. IfSome (pages_in (start_of before) o) (λ _. folder ≡ places_in (start_of before) o port v))
+    by : (r : Result (Option Path) Outage) (o : Option Told) → IfSome o (λ t. IfOk r (SaysFolderAt v t.files (home_of (layout_of before) port t.files))) → IfOk r (λ folder. IfSome (pages_in (layout_of before) o) (λ _. folder ≡ places_in (layout_of before) o port v))
     by (Err e) o says = tt
     by (Ok folder) None says = tt
     by (Ok folder) (Some t) says = says
 
 -- what holds on a port's page holds of the page of the files
-pub on_page : (port : List ℕ) (P : Page Condition → Type 0) (lib : Library) (s : State) (t : Told) → s.told ≡ Some t → OnPage port P (world_state s (learned_view lib)) → P (page_of (start_of lib) t.files port)
-on_page port P lib s t is holds = subst (λ (o : Option Told). IfSome (option_map (λ u. page_of (start_of lib) u.files) o) (λ p. P (p port))) is holds
+pub on_page : (port : List ℕ) (P : Page Condition → Type 0) (lib : Library) (s : State) (t : Told) → s.told ≡ Some t → OnPage port P (world_state s (learned_view lib)) → P (page_of (layout_of lib) t.files port)
+on_page port P lib s t is holds = subst (λ (o : Option Told). IfSome (option_map (λ u. page_of (layout_of lib) u.files) o) (λ p. P (p port))) is holds
 
 -- ---- the beginning and the end
 
@@ -198,7 +198,7 @@ sound_on_start lib s opened files right = record { opened = rw (opened, length_p
       right = right t.files;
       before = t.log;
       log = sym (append-nil t.log) ∙ ap (λ asked. t.log ++ asked) (sym (nothing_since lib opened));
-      within = subst (ArePagePaths (page_paths (start_of lib) t.files)) (sym (nothing_since lib opened)) (λ p has. absurd (contains_nothing p has));
+      within = subst (ArePagePaths (page_paths (layout_of lib) t.files)) (sym (nothing_since lib opened)) (λ p has. absurd (contains_nothing p has));
     }
 
 -- what the origin told, and what was looked at since, is what the tree tells
@@ -216,7 +216,7 @@ once_in_all lib distinct = subst NoRepeats (sym (take-append-drop lib.opened (pa
 
 -- each path that was looked at since is one of a port's page
 page_paths_since : (lib : Library) (o : Option Told) → IfSome o (IsSoundOn lib)
-    → IsSome (option_map (without_asked (asked_since (learned_view lib))) o) → ArePagePaths (page_paths_in (start_of lib) o) (asked_since (learned_view lib))
+    → IsSome (option_map (without_asked (asked_since (learned_view lib))) o) → ArePagePaths (page_paths_in (layout_of lib) o) (asked_since (learned_view lib))
 page_paths_since lib None sound some = (cc)
 page_paths_since lib (Some t) sound some = sound.within
 
@@ -239,10 +239,10 @@ told_at_start lib (Some t) nothing =
     (sym (append-nil t.log) ∙ ap (λ asked. t.log ++ asked) (sym nothing)) in
     λ i. Some (record { files = t.files; log = log i })
 
-pub origin_is : (lib : Library) (start : Start) (kept : Kept) (s : State) → lib.opened ≡ length kept
-    → kept_of lib.files ≡ kept → start_of lib ≡ start
-    → (world_state s (learned_view lib)).origin ≡ origin_on start (paths_of kept) s
-origin_is lib start kept s opened is same = λ i. record {
+pub origin_is : (lib : Library) (layout : Layout) (kept : Kept) (s : State) → lib.opened ≡ length kept
+    → kept_of lib.files ≡ kept → layout_of lib ≡ layout
+    → (world_state s (learned_view lib)).origin ≡ origin_on layout (paths_of kept) s
+origin_is lib layout kept s opened is same = λ i. record {
   told = told_at_start lib s.told (nothing_since lib (opened ∙ ap length (sym is))) i;
   changes = s.changes;
   opened = opened_at_start lib kept opened is i;

@@ -7,7 +7,7 @@ use Rattle.vk_spec.specs.Pages as plain
 use Rattle.vk_catalogue.specs.Views.{or_wrong}
 use Rattle.vk_model.specs.declared.wrongs.Wrong.{Wrong}
 use Rattle.vk_files.specs.Notes.{AreRight}
-use Rattle.vk_opening.specs.Starts.{Start}
+use Rattle.vk_opening.specs.Layouts.{Layout}
 use Rattle.vk_pages.specs.Homes as the
 use Rattle.vk_pages.specs.Homes.{home_of}
 use Rattle.vk_pages.specs.HomeViews.{home_view}
@@ -34,10 +34,10 @@ homes_in homes = map (λ e. (e.0, boxed_home e.1)) homes.found.entries
 abbrev pub home_noted : List ℕ → Homes → Option FoundHome
 home_noted port homes = lookup (bytes_eq port) (homes_in homes)
 
-abbrev pub IsHomeOf : Start → Files → List ℕ → FoundHome → Type 0
-IsHomeOf start files port found = found ≡ home_of start port files
+abbrev pub IsHomeOf : Layout → Files → List ℕ → FoundHome → Type 0
+IsHomeOf layout files port found = found ≡ home_of layout port files
 
 -- the baselines are those of the files, and so are the homes
-pub record AreHomes (start : Start) (homes : Homes) (files : Files) : Type 0 where
+pub record AreHomes (layout : Layout) (homes : Homes) (files : Files) : Type 0 where
   pub baselines : AreBaselines (notes_of homes.baselines) files
-  pub found : AreRight (IsHomeOf start files) (homes_in homes)
+  pub found : AreRight (IsHomeOf layout files) (homes_in homes)

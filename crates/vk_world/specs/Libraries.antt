@@ -12,10 +12,10 @@ use Rattle.vk_model.specs.declared.manifests.Manifest.{Manifest}
 use Rattle.std.specs.declared.rc.Rc.{Rc}
 use Rattle.vk_base.specs.declared.stops.Outage.{Outage}
 use Rattle.vk_files.specs.Views.{held}
-use Rattle.vk_opening.specs.Starts.{Start}
+use Rattle.vk_opening.specs.Layouts.{Layout}
 use Rattle.vk_pages.specs.Asked.{page_paths}
 use Rattle.vk_pages.specs.Homes.{home_of}
-use Rattle.vk_pages.specs.HomeViews.{layout_view}
+use Rattle.vk_opening.specs.Views.{layout_view}
 use Rattle.vk_pages.specs.Pages.{page_at}
 use Rattle.vk_world.specs.HomeNotes.{FoundHome, AreHomes}
 use Rattle.vk_world.specs.Learning.{Learns}
@@ -24,13 +24,13 @@ use Rattle.vk_world.specs.VersionFolders.{folder_found}
 use Rattle.vk_world.specs.declared.libraries.Library.{Library}
 
 -- what is known of the project
-abbrev pub start_of : Library → Start
-start_of lib = layout_view lib.layout
+abbrev pub layout_of : Library → Layout
+layout_of lib = layout_view lib.layout
 
 -- all that is kept is right of files
 pub record IsRight (lib : Library) (files : Files) : Type 0 where
-  pub homes : AreHomes (start_of lib) lib.homes files
-  pub manifests : AreManifests (start_of lib) lib.manifests files
+  pub homes : AreHomes (layout_of lib) lib.homes files
+  pub manifests : AreManifests (layout_of lib) lib.manifests files
 
 -- what was known at the start stays
 pub record Stays (before after : Library) : Type 0 where
@@ -39,7 +39,7 @@ pub record Stays (before after : Library) : Type 0 where
 
 -- a call about a port answered what is said of files and of what is found for the port there, only the paths of the port's page were looked at, and what was known at the start stays
 pub record Serves {X : Type 0} (answer : Result X Outage) (Says : Files → FoundHome → X → Type 0) (port : List ℕ) (before after : Library) (s s' : State) : Type 0 where
-  pub learns : Learns answer (λ f. Says f (home_of (start_of before) port f)) (λ f. page_paths (start_of before) f port) (IsRight before) (IsRight after) (held before.files s) (held after.files s')
+  pub learns : Learns answer (λ f. Says f (home_of (layout_of before) port f)) (λ f. page_paths (layout_of before) f port) (IsRight before) (IsRight after) (held before.files s) (held after.files s')
   pub stays : Stays before after
 
 -- ---- what answers say of a port's page, and of where its versions stand

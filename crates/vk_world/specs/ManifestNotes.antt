@@ -15,7 +15,7 @@ use Rattle.vk_model.specs.declared.manifests.Manifest as declared
 use Rattle.std.specs.declared.rc.Rc.{Rc}
 use Rattle.std.specs.declared.boxed.Box.{Box}
 use Rattle.vk_files.specs.Notes.{AreRight}
-use Rattle.vk_opening.specs.Starts.{Start}
+use Rattle.vk_opening.specs.Layouts.{Layout}
 use Rattle.vk_pages.specs.Pages.{page_of}
 use Rattle.vk_world.specs.PortAsks.{same_asked}
 use Rattle.vk_world.specs.declared.manifests.Manifests.{Manifests}
@@ -38,12 +38,12 @@ abbrev pub manifest_noted : PortAsk → Manifests → Option FoundManifest
 manifest_noted key manifests = lookup (same_asked key) (manifests_in manifests)
 
 -- it is what the port's page has for the ask, if a version is there
-abbrev pub IsManifestOf : Start → Files → List ℕ → Ask → FoundManifest → Type 0
-IsManifestOf start files port ask found = IsSome (version_in (page_of start files port) ask) → Some found ≡ manifest_in (page_of start files port) ask
+abbrev pub IsManifestOf : Layout → Files → List ℕ → Ask → FoundManifest → Type 0
+IsManifestOf layout files port ask found = IsSome (version_in (page_of layout files port) ask) → Some found ≡ manifest_in (page_of layout files port) ask
 
-abbrev pub IsNoteOf : Start → Files → PortAsk → FoundManifest → Type 0
-IsNoteOf start files key found = IsManifestOf start files key.port (ask_view key.ask) found
+abbrev pub IsNoteOf : Layout → Files → PortAsk → FoundManifest → Type 0
+IsNoteOf layout files key found = IsManifestOf layout files key.port (ask_view key.ask) found
 
 -- the manifests are those of the files
-abbrev pub AreManifests : Start → Manifests → Files → Type 0
-AreManifests start manifests files = AreRight (IsNoteOf start files) (manifests_in manifests)
+abbrev pub AreManifests : Layout → Manifests → Files → Type 0
+AreManifests layout manifests files = AreRight (IsNoteOf layout files) (manifests_in manifests)

@@ -5,7 +5,7 @@ use Rattle.vk_spec.specs.Paths.{Path}
 use Rattle.vk_spec.specs.Files.{Files}
 use Rattle.vk_spec.specs.Versions.{Version, same_version}
 use Rattle.vk_registry.specs.Tables.{Row}
-use Rattle.vk_opening.specs.Starts.{Start}
+use Rattle.vk_opening.specs.Layouts.{Layout}
 use Rattle.vk_pages.specs.Homes.{Home, in_overlay, in_registry, home_of}
 use Rattle.vk_pages.specs.Pages.{row_folder}
 use Rattle.vk_world.specs.HomeNotes.{FoundHome}
@@ -25,5 +25,5 @@ folder_found (Ok home) v = version_folder home v
 folder_found (Err wrong) v = None
 
 -- where a version of a port stands in files
-abbrev pub place_in : Start → Files → List ℕ → Version → Option Path
-place_in start files port v = folder_found (home_of start port files) v
+abbrev pub place_in : Layout → Files → List ℕ → Version → Option Path
+place_in layout files port v = folder_found (home_of layout port files) v

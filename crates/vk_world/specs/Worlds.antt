@@ -12,39 +12,31 @@ use Rattle.vk_files.specs.Kept.{Kept, IsOf, paths_of}
 use Rattle.vk_files.specs.Views.{kept_of}
 use Rattle.vk_config.specs.Configs.{Config}
 use Rattle.vk_config.specs.Views.{config_view}
-use Rattle.vk_opening.specs.Starts.{Start}
+use Rattle.vk_opening.specs.Layouts.{Layout}
 use Rattle.vk_opening.specs.Views.{overlay_view}
-use Rattle.vk_opening.specs.declared.starts.Overlay.{Overlay}
+use Rattle.vk_opening.specs.declared.layouts.Overlay.{Overlay}
 use Rattle.vk_pages.specs.Pages.{page_of}
 use Rattle.vk_pages.specs.Asked.{page_paths}
-use Rattle.vk_pages.specs.declared.homes.Layout.{Layout}
-use Rattle.vk_world.specs.Libraries.{start_of, IsRight}
+use Rattle.vk_world.specs.Libraries.{layout_of, IsRight}
 use Rattle.vk_world.specs.VersionFolders.{place_in}
 use Rattle.vk_world.specs.declared.libraries.Library.{Library}
 
--- what is known of the project, with its overlays as they are kept
-pub record Ground : Type 0 where
+-- what a world learned: what is known of the project, with its overlays as they are kept, the files
+-- that were read, those of the opening first, and how many these were
+pub record Learned : Type 0 where
   pub folder : Path
   pub config : Config
   pub overlays : List Overlay
   pub overrides : List Override
-
-abbrev pub ground_of : Layout → Ground
-ground_of l = record { folder = l.folder; config = config_view l.config; overlays = l.overlays; overrides = l.overrides }
-
--- what a world learned: the project, the files that were read, those of the opening first, and how
--- many these were
-pub record Learned : Type 0 where
-  pub ground : Ground
   pub kept : Kept
   pub opened : ℕ
 
 abbrev pub learned_view : Library → Learned
-learned_view lib = record { ground = ground_of lib.layout; kept = kept_of lib.files; opened = lib.opened }
+learned_view lib = record { folder = lib.layout.folder; config = config_view lib.layout.config; overlays = lib.layout.overlays; overrides = lib.layout.overrides; kept = kept_of lib.files; opened = lib.opened }
 
 -- what is known of the project
-abbrev pub start_in : Learned → Start
-start_in l = record { folder = l.ground.folder; config = l.ground.config; overlays = map overlay_view l.ground.overlays; overrides = l.ground.overrides }
+abbrev pub layout_in : Learned → Layout
+layout_in l = record { folder = l.folder; config = l.config; overlays = map overlay_view l.overlays; overrides = l.overrides }
 
 -- the paths that were looked at
 abbrev pub paths_in : Learned → List Path
@@ -67,27 +59,27 @@ abbrev pub without_asked : List Path → Told → Told
 without_asked asked t = record { files = t.files; log = log_before asked t.log }
 
 -- where versions stand, by what a tree tells
-abbrev pub places_in : Start → Option Told → Places
-places_in start None port v = None
-places_in start (Some t) port v = place_in start t.files port v
+abbrev pub places_in : Layout → Option Told → Places
+places_in layout None port v = None
+places_in layout (Some t) port v = place_in layout t.files port v
 
 -- the paths of which a port's page may be read, by what a tree tells
-abbrev pub page_paths_in : Start → Option Told → List ℕ → List Path
-page_paths_in start None port = []
-page_paths_in start (Some t) port = page_paths start t.files port
+abbrev pub page_paths_in : Layout → Option Told → List ℕ → List Path
+page_paths_in layout None port = []
+page_paths_in layout (Some t) port = page_paths layout t.files port
 
 -- each of these is one of the paths of some port's page
 abbrev pub ArePagePaths : (List ℕ → List Path) → List Path → Type 0
 ArePagePaths paths asked = (p : Path) → Contains asked p → (port : List ℕ) × Contains (paths port) p
 
--- what a world comes from that is made on this tree with this start, when these paths were read
-abbrev pub origin_on : Start → List Path → State → Origin
-origin_on start opened tree = record {
+-- what a world comes from that is made on this tree with this layout, when these paths were read
+abbrev pub origin_on : Layout → List Path → State → Origin
+origin_on layout opened tree = record {
   told = tree.told;
   changes = tree.changes;
   opened = opened;
-  places = places_in start tree.told;
-  page_paths = page_paths_in start tree.told;
+  places = places_in layout tree.told;
+  page_paths = page_paths_in layout tree.told;
 }
 
 -- files, changes, places and the paths of pages stay as they were when the world was made, and the log was that of now
@@ -97,17 +89,17 @@ origin_of l tree = record {
   told = option_map (without_asked (asked_since l)) tree.told;
   changes = tree.changes;
   opened = opened_in l;
-  places = places_in (start_in l) tree.told;
-  page_paths = page_paths_in (start_in l) tree.told;
+  places = places_in (layout_in l) tree.told;
+  page_paths = page_paths_in (layout_in l) tree.told;
 }
 
 -- the pages are those of the files
-abbrev pub pages_in : Start → Option Told → Option (Pages Condition)
-pages_in start told = option_map (λ t. page_of start t.files) told
+abbrev pub pages_in : Layout → Option Told → Option (Pages Condition)
+pages_in layout told = option_map (λ t. page_of layout t.files) told
 
 abbrev pub world_state : State → Learned → CatalogueState Condition
 world_state tree l = record {
-  pages = pages_in (start_in l) tree.told;
+  pages = pages_in (layout_in l) tree.told;
   origin = origin_of l tree;
   calls = tree.calls;
   faults = tree.faults;
@@ -130,7 +122,7 @@ pub record IsSoundOn (lib : Library) (t : Told) : Type 0 where
   pub right : IsRight lib t.files
   pub before : List Path
   pub log : t.log ≡ before ++ asked_since (learned_view lib)
-  pub within : ArePagePaths (page_paths (start_of lib) t.files) (asked_since (learned_view lib))
+  pub within : ArePagePaths (page_paths (layout_of lib) t.files) (asked_since (learned_view lib))
 
 -- what every world keeps
 pub record IsSound (tree : State) (lib : Library) : Type 0 where

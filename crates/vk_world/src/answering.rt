@@ -1,8 +1,6 @@
 //! Answers from what was found for a port.
-ghost use Rattle.std.specs.Prelude.{◌≡◌, ℕ, List, IfOk, Ok, Some, None, false, option_map};
-ghost use Rattle.std.specs.Prelude.{if◌then◌else◌};
+ghost use Rattle.std.specs.Prelude.{◌≡◌, ℕ, List, IfOk, Ok, false, option_map};
 ghost use Rattle.vk_spec.specs.Files.{Files};
-ghost use Rattle.vk_spec.specs.Versions.{ask_of, same_ask, same_version};
 ghost use Rattle.vk_version.specs.AskViews.{ask_view};
 ghost use Rattle.vk_base.specs.Stops.{was_out};
 ghost use Rattle.vk_pages.specs.HomeViews.{home_view};
@@ -11,7 +9,7 @@ ghost use Rattle.vk_world.specs.Libraries.{SaysGivenAt, SaysVersionAt};
 ghost use Rattle.vk_world.specs.Listed.{row_meant};
 ghost use Rattle.vk_world.specs.VersionFolders.{folder_found, table_folder, version_folder};
 
-use crate::listed::{given_at, row_meant, row_with, same_version};
+use crate::listed::{row_meant, row_with, same_version};
 use std::alloc::Global;
 use vk_base::{Memory, Outage, TreePath};
 use vk_catalogue::{Given, Wrong};
@@ -26,21 +24,10 @@ pub fn answer_given(found: &Result<Home, Wrong>) -> Result<Result<Given, Wrong>,
     ensures calm { was_out result ≡ false }
 {
     match found {
-        Ok(home) => Ok(Ok(given_at(home)?)),
+        Ok(Home::Overlay { version, .. }) => Ok(Ok(Given::Overlay(version.clone()?))),
+        Ok(Home::Registry { given, .. }) => Ok(Ok(given.clone()?)),
         Err(wrong) => Ok(Err(wrong.clone()?)),
     }
-}
-
-// An overlay's version, if it is what an ask means.
-fn own_version(version: &Version, ask: &Ask) -> Result<Option<Version>, Memory>
-    ensures { IfOk result
-        (λ v. v ≡ (if same_ask (ask_of version.now) (ask_view ask.now)
-        then Some version.now else None)) }
-{
-    if version.ask() != ask {
-        return Ok(None);
-    }
-    Ok(Some(version.clone()?))
 }
 
 // The version of a registry's table that an ask means.
@@ -59,7 +46,8 @@ fn version_at(home: &Home, ask: &Ask) -> Result<Option<Version>, Memory>
         → IfOk result (SaysVersionAt port (ask_view ask.now) files (Ok (home_view home.now))) }
 {
     match home {
-        Home::Overlay { version, .. } => own_version(version, ask),
+        Home::Overlay { version, .. } if version.ask() == ask => Ok(Some(version.clone()?)),
+        Home::Overlay { .. } => Ok(None),
         Home::Registry { table, .. } => table_version(table, ask),
     }
 }
@@ -74,21 +62,6 @@ pub fn answer_version(found: &Result<Home, Wrong>, ask: &Ask) -> Result<Option<V
         Ok(home) => Ok(version_at(home, ask)?),
         Err(_) => Ok(None),
     }
-}
-
-// An overlay's folder, if the version is its own.
-fn own_folder(
-    folder: &TreePath,
-    own: &Version,
-    version: &Version,
-) -> Result<Option<TreePath>, Memory>
-    ensures { IfOk result (λ f. f ≡ (if same_version version.now own.now
-        then Some folder.now else None)) }
-{
-    if same_version(version, own) {
-        return Ok(Some(folder.clone()?));
-    }
-    Ok(None)
 }
 
 // Where a registry's table says that a version stands.
@@ -114,7 +87,8 @@ fn folder_at(alloc: Global, home: &Home, version: &Version) -> Result<Option<Tre
             folder,
             version: own,
             ..
-        } => own_folder(folder, own, version),
+        } if same_version(version, own) => Ok(Some(folder.clone()?)),
+        Home::Overlay { .. } => Ok(None),
         Home::Registry { folder, table, .. } => table_folder(alloc, folder, table, version),
     }
 }

@@ -3,12 +3,12 @@ ghost use Rattle.std.specs.Prelude.{◌≡◌, ◌<◌, ◌++◌, ◌∷◌, [],
 ghost use Rattle.std.specs.Prelude.{length, option_map, slice_get};
 ghost use Rattle.indexmap.specs.IndexMap.{spare};
 ghost use Rattle.vk_spec.specs.Files.{Files};
-ghost use Rattle.vk_opening.specs.Starts.{Start};
+ghost use Rattle.vk_opening.specs.Layouts as plain;
 ghost use Rattle.vk_files.specs.Notes.{IsNoteAt};
 ghost use Rattle.vk_files.specs.Views.{held};
 ghost use Rattle.vk_pages.specs.Homes.{home_of};
 ghost use Rattle.vk_pages.specs.Asked.{home_paths};
-ghost use Rattle.vk_pages.specs.HomeViews.{layout_view};
+ghost use Rattle.vk_opening.specs.Views.{layout_view};
 ghost use Rattle.vk_pages.specs.BaselineNotes.{AreBaselines};
 ghost use Rattle.vk_pages.specs.NoteViews.{notes_of};
 ghost use Rattle.vk_world.specs.Learning.{Learns, Means, SaysNothing};
@@ -21,7 +21,8 @@ use std::alloc::Global;
 use vk_base::{Outage, PortName};
 use vk_catalogue::Wrong;
 use vk_files::FileCache;
-use vk_pages::{Baselines, Home, Layout, home_of};
+use vk_opening::Layout;
+use vk_pages::{Baselines, Home, home_of};
 use vk_tree::Tree;
 
 /// Where the versions of ports are, or what is wrong, by port; and the baselines that were read.
@@ -71,7 +72,7 @@ impl Homes {
     /// None was found yet. Takes no memory.
     pub fn new(alloc: Global) -> Homes
         ensures homes { homes_in result ≡ [] }
-        ensures right { (start : Start) (files : Files) → AreHomes start result files }
+        ensures right { (layout : plain.Layout) (files : Files) → AreHomes layout result files }
     {
         Homes {
             baselines: Baselines::new(alloc),

@@ -4,10 +4,10 @@ ghost use Rattle.vk_spec.specs.Files.{Files};
 ghost use Rattle.vk_version.specs.AskViews.{ask_view};
 ghost use Rattle.vk_files.specs.Notes.{IsNoteAt};
 ghost use Rattle.vk_files.specs.Views.{kept_of};
-ghost use Rattle.vk_opening.specs.Views.{start_view, opened_files};
+ghost use Rattle.vk_opening.specs.Views.{layout_view, opened_files};
 ghost use Rattle.vk_world.specs.Learning.{SaysNothing};
 ghost use Rattle.vk_world.specs.HomeNotes.{homes_in};
-ghost use Rattle.vk_world.specs.Libraries.{start_of, IsRight, Serves, SaysGivenAt, SaysVersionAt};
+ghost use Rattle.vk_world.specs.Libraries.{layout_of, IsRight, Serves, SaysGivenAt, SaysVersionAt};
 ghost use Rattle.vk_world.specs.Libraries.{SaysFolderAt, SaysManifestAt};
 
 use crate::answering::{answer_folder, answer_given, answer_version};
@@ -21,8 +21,7 @@ use vk_base::{Outage, PortName, TreePath};
 use vk_catalogue::{Given, Wrong};
 use vk_files::FileCache;
 use vk_model::Manifest;
-use vk_opening::Start;
-use vk_pages::Layout;
+use vk_opening::{Layout, Start};
 use vk_tree::Tree;
 use vk_version::{Ask, Version};
 
@@ -41,27 +40,15 @@ pub struct Library {
 impl Library {
     /// What a start tells, and nothing learned yet. Takes no memory.
     pub fn new(alloc: Global, start: Start) -> Library
-        ensures layout { start_of result ≡ start_view start }
+        ensures layout { layout_of result ≡ layout_view start.layout }
         ensures files { kept_of result.files ≡ opened_files start }
         ensures opened { result.opened ≡ length (opened_files start) }
         ensures right { (files : Files) → IsRight result files }
     {
-        let Start {
-            folder,
-            config,
-            overlays,
-            overrides,
-            files,
-        } = start;
         Library {
-            layout: Layout {
-                folder,
-                config,
-                overlays,
-                overrides,
-            },
-            opened: files.len(),
-            files,
+            layout: start.layout,
+            opened: start.files.len(),
+            files: start.files,
             homes: Homes::new(alloc),
             manifests: Manifests::new(alloc),
         }

@@ -1,33 +1,15 @@
-//! What the home of a port has.
-ghost use Rattle.std.specs.Prelude.{◌≡◌, ℕ, List, IfOk, Ok, option_map, slice_get};
+//! The row of a table that is meant, or that has a version.
+ghost use Rattle.std.specs.Prelude.{◌≡◌, option_map, slice_get};
 ghost use Rattle.std.specs.List.{find};
 ghost use Rattle.std.specs.Option.{option_copied};
-ghost use Rattle.vk_spec.specs.Files.{Files};
 ghost use Rattle.vk_spec.specs.Versions.{same_version};
 ghost use Rattle.vk_registry.specs.Tables.{IsTable};
 ghost use Rattle.vk_registry.specs.TableViews.{row_view};
 ghost use Rattle.vk_version.specs.AskViews.{ask_view};
-ghost use Rattle.vk_catalogue.specs.Views.{given_view};
-ghost use Rattle.vk_pages.specs.HomeViews.{home_view};
-ghost use Rattle.vk_pages.specs.Pages.{page_at};
 ghost use Rattle.vk_world.specs.Listed.{row_meant};
 
-use std::alloc::AllocError;
-use vk_catalogue::Given;
-use vk_pages::Home;
 use vk_registry::{Row, Table, find};
 use vk_version::{Ask, Version};
-
-/// What is given at a home.
-pub fn given_at(home: &Home) -> Result<Given, AllocError>
-    ensures { (port : List ℕ) (files : Files) → IfOk result
-        (λ given. Ok (given_view given) ≡ (page_at port files (Ok (home_view home.now))).given) }
-{
-    match home {
-        Home::Overlay { version, .. } => Ok(Given::Overlay(version.clone()?)),
-        Home::Registry { given, .. } => given.clone(),
-    }
-}
 
 // The row at a place.
 fn row_at(table: &Table, place: usize) -> Option<&Row>

@@ -5,7 +5,7 @@ ghost use Rattle.vk_spec.specs.Files.{Files};
 ghost use Rattle.vk_base.specs.Stops.{was_out};
 ghost use Rattle.vk_version.specs.AskViews.{ask_view};
 ghost use Rattle.vk_catalogue.specs.Views.{manifest_said};
-ghost use Rattle.vk_opening.specs.Starts.{Start};
+ghost use Rattle.vk_opening.specs.Layouts.{Layout};
 ghost use Rattle.vk_world.specs.ManifestNotes.{manifests_in, manifest_noted, AreManifests};
 ghost use Rattle.vk_world.specs.ManifestNotes.{IsManifestOf, kept_manifest};
 
@@ -66,9 +66,9 @@ impl Manifests {
         key: PortAsk,
         found: &Result<Rc<Manifest>, Wrong>,
     ) -> Result<(), Outage>
-        ensures right { (start : Start) (files : Files) → AreManifests start self.old files
-            → IsManifestOf start files key.port (ask_view key.ask) (manifest_said found.now)
-            → AreManifests start self.new files }
+        ensures right { (layout : Layout) (files : Files) → AreManifests layout self.old files
+            → IsManifestOf layout files key.port (ask_view key.ask) (manifest_said found.now)
+            → AreManifests layout self.new files }
         ensures calm { was_out result ≡ false }
     {
         let kept = kept(alloc, found)?;

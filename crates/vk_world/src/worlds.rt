@@ -4,7 +4,7 @@ ghost use Rattle.vk_spec.specs.Catalogues.{OnlyAsked, OnPages};
 ghost use Rattle.vk_base.specs.Stops.{was_out};
 ghost use Rattle.vk_files.specs.Kept.{IsOf, paths_of};
 ghost use Rattle.vk_opening.specs.Opened.{Opens};
-ghost use Rattle.vk_opening.specs.Views.{start_view, opened_files};
+ghost use Rattle.vk_opening.specs.Views.{layout_view, opened_files};
 ghost use Rattle.vk_world.specs.Worlds.{state_of, origin_on, pages_in, IsReadSince};
 
 use crate::libraries::Library;
@@ -79,9 +79,9 @@ impl<T: Tree> World<T> {
     pub fn on(alloc: Global, start: Start, tree: T) -> World<T>
         requires { IfSome (T.state tree).told (λ t. IsOf t.files (opened_files start)) }
         ensures tree { result.tree ≡ tree }
-        ensures pages { (state_of T.state result).pages ≡ pages_in (start_view start)
+        ensures pages { (state_of T.state result).pages ≡ pages_in (layout_view start.layout)
             (T.state tree).told }
-        ensures origin { (state_of T.state result).origin ≡ origin_on (start_view start)
+        ensures origin { (state_of T.state result).origin ≡ origin_on (layout_view start.layout)
             (paths_of (opened_files start)) (T.state tree) }
     {
         World {

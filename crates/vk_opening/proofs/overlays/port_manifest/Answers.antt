@@ -2,7 +2,7 @@ use Rattle.std.proofs.Common.{ap, refl, sym}
 use Rattle.std.specs.Prelude.{Ok}
 use Rattle.vk_model.specs.Views.{manifest_view}
 use Rattle.vk_files.proofs.FindLemmas.{finds_both, finds_ended, finds_here, finds_lacked, finds_lacking}
-use Rattle.vk_opening.specs.Starts.{is_port}
+use Rattle.vk_opening.specs.Layouts.{is_port}
 use Rattle.vk_opening.proofs.overlays.port_manifest.Goals as goal
 
 pub returns-in_err-path : goal.returns-in_err-path

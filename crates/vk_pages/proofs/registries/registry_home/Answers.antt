@@ -4,7 +4,7 @@ use Rattle.vk_catalogue.specs.Views.{wrong_view}
 use Rattle.vk_spec.proofs.ReadingLemmas.{fails_on}
 use Rattle.vk_rules.specs.Overrides.{override_for}
 use Rattle.vk_pages.specs.Homes.{served_home, registry_home}
-use Rattle.vk_pages.specs.HomeViews.{layout_view}
+use Rattle.vk_opening.specs.Views.{layout_view}
 use Rattle.vk_files.proofs.FindLemmas.{finds_here, finds_after}
 use Rattle.vk_pages.proofs.registries.registry_home.Goals as goal
 

@@ -5,7 +5,7 @@ use Rattle.std.proofs.lemmas.Slice.Eq.{bytes_eq-Decides}
 use Rattle.vk_files.specs.Notes.{AreRight}
 use Rattle.vk_files.proofs.NoteLemmas.{right_more}
 use Rattle.vk_files.proofs.NotedLemmas.{noted, length_noted, last_note}
-use Rattle.vk_pages.specs.HomeViews.{layout_view}
+use Rattle.vk_opening.specs.Views.{layout_view}
 use Rattle.vk_pages.specs.BaselineNotes.{AreBaselines}
 use Rattle.vk_pages.specs.NoteViews.{notes_of}
 use Rattle.vk_world.specs.HomeNotes.{IsHomeOf, homes_in, boxed_home}
@@ -27,14 +27,14 @@ returns-in_err-found-clause-learns g c =
 
 pub returns-clause-learns : goal.returns-clause-learns
 returns-clause-learns g c =
-    let start = layout_view c.args.layout.now in
+    let layout = layout_view c.args.layout.now in
     let same : c.in_ok-key.key ≡ c.args.port.now = search rules in
     let kept = c.keep.ensures.homes ∙ ap (λ es. noted boxed_home es ++ (c.in_ok-key.key, boxed_home c.in_ok-found.found) ∷ []) c.reserve.ensures.entries in
     learns_so refl (λ f right. (right.baselines, λ p has. has))
     (λ f before right says. (
       record {
         baselines = subst (λ b. AreBaselines (notes_of b) f) (sym c.keep.ensures.baselines) right;
-        found = subst (AreRight (IsHomeOf start f)) (sym kept) (right_more (IsHomeOf start f) (homes_in c.args.self.now) ((c.in_ok-key.key, boxed_home c.in_ok-found.found) ∷ []) before.found (rw same says, tt));
+        found = subst (AreRight (IsHomeOf layout f)) (sym kept) (right_more (IsHomeOf layout f) (homes_in c.args.self.now) ((c.in_ok-key.key, boxed_home c.in_ok-found.found) ∷ []) before.found (rw same says, tt));
       },
       tt,
     )) c.in_ok-found.ensures

@@ -1,7 +1,7 @@
 use Rattle.std.proofs.Common.{refl}
 use Rattle.std.proofs.lemmas.List.Elements.{Contains-append_left}
 use Rattle.vk_pages.specs.Asked.{home_paths}
-use Rattle.vk_pages.specs.HomeViews.{layout_view}
+use Rattle.vk_opening.specs.Views.{layout_view}
 use Rattle.vk_world.proofs.LearnLemmas.{learns_so}
 use Rattle.vk_world.proofs.libraries.Library.look.Goals as goal
 

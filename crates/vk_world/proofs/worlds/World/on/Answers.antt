@@ -1,7 +1,7 @@
 use Rattle.std.proofs.Common.{◌∙◌, sym, ap, subst, length}
 use Rattle.std.specs.Prelude.{IfSome}
 use Rattle.vk_files.specs.Kept.{IsOf}
-use Rattle.vk_opening.specs.Views.{start_view}
+use Rattle.vk_opening.specs.Views.{layout_view}
 use Rattle.vk_world.specs.Worlds.{pages_in}
 use Rattle.vk_world.proofs.WorldLemmas.{sound_on_start, origin_is}
 use Rattle.vk_world.proofs.worlds.World.on.Goals as goal
@@ -13,7 +13,7 @@ invariant_of-result g c =
 
 pub returns-clause-origin : goal.returns-clause-origin
 returns-clause-origin g c =
-    origin_is c.new.result (start_view c.args.start) _ (g.T.Tree.state c.args.tree) c.new.ensures.opened c.new.ensures.files c.new.ensures.layout
+    origin_is c.new.result (layout_view c.args.start.layout) _ (g.T.Tree.state c.args.tree) c.new.ensures.opened c.new.ensures.files c.new.ensures.layout
 
 pub returns-clause-pages : goal.returns-clause-pages
-returns-clause-pages g c = ap (λ start. pages_in start (g.T.Tree.state c.args.tree).told) c.new.ensures.layout
+returns-clause-pages g c = ap (λ layout. pages_in layout (g.T.Tree.state c.args.tree).told) c.new.ensures.layout

@@ -14,9 +14,9 @@ pub enum Overlay {
     Ports(TreePath),
 }
 
-/// What is known of a project before any port is looked at, and all that was read for it.
+/// What is known of a project before any port is looked at.
 #[derive(Drop)]
-pub struct Start {
+pub struct Layout {
     /// The project's folder.
     pub folder: TreePath,
     /// Its configuration.
@@ -25,6 +25,13 @@ pub struct Start {
     pub overlays: List<Overlay>,
     /// The versions that the root manifest sets.
     pub overrides: Overrides,
+}
+
+/// A layout, and all that was read for it.
+#[derive(Drop)]
+pub struct Start {
+    /// What is known of the project.
+    pub layout: Layout,
     /// All that was read, by path.
     pub files: FileCache,
 }

@@ -11,7 +11,7 @@ pub data Overlay : Type 0 where
   has_ports : Path → Overlay
 
 -- the project's folder, its configuration, its overlays in order, and the overrides of its root manifest
-pub record Start : Type 0 where
+pub record Layout : Type 0 where
   pub folder : Path
   pub config : Config
   pub overlays : List Overlay
