@@ -8,12 +8,14 @@ use Rattle.vk_files.specs.Kept.{Kept, paths_of, IsOf, ReadOnce}
 use Rattle.vk_files.specs.Within.{LooksWithin}
 use Rattle.vk_files.specs.Finds.{ReadsFrom}
 use Rattle.vk_base.specs.declared.stops.Stop.{Stop}
+use Rattle.vk_model.specs.Views.{override_view}
 use Rattle.vk_model.specs.declared.projects.Project.{Project}
 use Rattle.vk_model.specs.declared.projects.Store.{Store}
+use Rattle.vk_config.specs.Configs.{Config}
 use Rattle.vk_opening.specs.Asked.{paths_with}
-use Rattle.vk_opening.specs.Openings.{opened_with}
+use Rattle.vk_opening.specs.Openings.{opening_with, opened_with}
 use Rattle.vk_model.specs.EarlyViews.{early_view}
-use Rattle.vk_opening.specs.OpeningViews.{opening_view, Answers}
+use Rattle.vk_opening.specs.OpeningViews.{opening_found, opening_view, Answers}
 use Rattle.vk_base.specs.declared.instances.Instance.{Instance}
 use Rattle.vk_base.specs.declared.memory.Memory.{Memory}
 use Rattle.vk_base.specs.Stops.{was_out}
@@ -28,7 +30,7 @@ use Rattle.vk_model.specs.Views.{manifest_view}
 use Rattle.vk_model.specs.SettingViews.{setting_view, instance_view}
 use Rattle.vk_rules.specs.RootSettings.{setting_of}
 use Rattle.vk_opening.specs.Opened.{Opens, ListsOwnOff}
-use Rattle.vk_opening.specs.Views.{opened_files}
+use Rattle.vk_opening.specs.Views.{triplets_view, overlay_view, opened_files}
 use Rattle.vk_model.specs.declared.settings.Setting.{Setting}
 use Rattle.vk_opening.specs.declared.layouts.Start.{Start}
 use Rattle.vk_opening.specs.declared.opens.Opened.{Opened}
@@ -39,7 +41,17 @@ use Rattle.std.specs.Result.{IsErrAnd}
 use Rattle.std.proofs.lemmas.Result.{err_from_is_err_and}
 use Rattle.vk_model.specs.declared.earlies.Early.{Early}
 use Rattle.vk_opening.specs.declared.opens.Opening.{Opening}
+use Rattle.vk_opening.specs.declared.opens.Found.{Found}
+use Rattle.vk_model.specs.declared.manifests.Manifest.{Manifest}
 use Rattle.vk_spec.proofs.OptionLemmas.{of_both}
+
+-- what was found is put together
+pub found_is : (project : Project) (root : Manifest) (config : Config) (found : Found)
+    → found.own.folder ≡ project.folder → found.own.overrides ≡ map override_view root.overrides
+    → found.own.features ≡ project.features
+    → opening_with project (manifest_view root) config (triplets_view found.triplets) (map overlay_view found.overlays)
+    ≡ opening_found project (manifest_view root) config found
+found_is project root config found folder overrides features = rw (folder, overrides, features) refl
 
 -- the off list that is made of a setting is its own
 pub lists_own : (setting : Setting) (off : Result (List Instance) Memory)

@@ -5,16 +5,17 @@ ghost use Rattle.vk_files.specs.Finds.{ReadsFrom};
 ghost use Rattle.vk_config.specs.Views.{config_view};
 ghost use Rattle.vk_model.specs.EarlyViews.{early_view};
 ghost use Rattle.vk_model.specs.SettingViews.{setting_view, instance_view};
-ghost use Rattle.vk_model.specs.Views.{manifest_view};
+ghost use Rattle.vk_model.specs.Views.{manifest_view, override_view};
 ghost use Rattle.vk_opening.specs.Projects.{manifest_path};
 ghost use Rattle.vk_opening.specs.Roots.{root_in, early_at};
 ghost use Rattle.vk_opening.specs.Openings.{opened_of, opened_with, triplets_of, overlays_of};
-ghost use Rattle.vk_opening.specs.Openings.{after_config, setting_with, layout_with, opening_with};
+ghost use Rattle.vk_opening.specs.Openings.{after_root, after_config, stored};
 ghost use Rattle.vk_opening.specs.Asked.{triplets_asked, overlays_asked};
-ghost use Rattle.vk_opening.specs.Asked.{found_paths, opening_paths, paths_with};
+ghost use Rattle.vk_opening.specs.Asked.{found_paths, rest_paths, opening_paths};
+ghost use Rattle.vk_opening.specs.Asked.{paths_with, stored_paths};
 ghost use Rattle.vk_opening.specs.Opened.{ListsOwnOff, Opens};
-ghost use Rattle.vk_opening.specs.Views.{root_view, triplets_view, overlay_view, layout_view};
-ghost use Rattle.vk_opening.specs.OpeningViews.{opening_view, Answers};
+ghost use Rattle.vk_opening.specs.Views.{root_view, triplets_view, overlay_view};
+ghost use Rattle.vk_opening.specs.OpeningViews.{opening_view, opening_found, Answers};
 ghost use Rattle.vk_resolution.specs.RootLaws.{with_off};
 
 use crate::configurations::read_configuration;
@@ -25,7 +26,7 @@ use crate::roots::{Root, RootFile};
 use crate::stores::check_store;
 use crate::triplet_files::{Triplets, read_triplets};
 use std::alloc::Global;
-use vk_base::{Instance, List, Memory, Outage, Stop, TreePath};
+use vk_base::{FeatureName, Instance, List, Memory, Outage, Stop, TreePath};
 use vk_config::Config;
 use vk_files::{FileCache, read_file};
 use vk_model::{Early, Manifest, Project, Setting, Store};
@@ -46,6 +47,22 @@ pub enum Opened {
 struct Opening {
     setting: Setting,
     layout: Layout,
+}
+
+// What a setting and a layout take from the words and from the root manifest.
+#[derive(Drop)]
+struct Own {
+    folder: TreePath,
+    overrides: Overrides,
+    features: List<FeatureName>,
+}
+
+// The same, with the triplets and the overlays.
+#[derive(Drop)]
+struct Found {
+    own: Own,
+    triplets: Triplets,
+    overlays: List<Overlay>,
 }
 
 fn read_root<T: Tree>(
@@ -111,82 +128,99 @@ fn overlays_of<T: Tree>(
     read_overlays(alloc, files, tree, folders)
 }
 
-// The setting, as the words, the root manifest and the triplets give it.
-fn setting_with(
-    alloc: Global,
-    project: &Project,
-    root: Manifest,
-    triplets: Triplets,
-) -> Result<Setting, Memory>
-    ensures { IfOk result (λ s. with_off (setting_view s)
-        ≡ setting_with project.now (manifest_view root) (triplets_view triplets)) }
+// What the setting and the layout take from words and root manifest.
+fn own_of(alloc: Global, project: &Project, root: &Manifest) -> Result<Own, Memory>
+    ensures folder { IfOk result (λ o. o.folder ≡ project.now.folder) }
+    ensures overrides { IfOk result
+        (λ o. o.overrides ≡ map override_view root.now.overrides) }
+    ensures features { IfOk result (λ o. o.features ≡ project.now.features) }
 {
-    Ok(Setting {
+    Ok(Own {
+        folder: project.folder.clone()?,
+        overrides: Overrides::of(alloc, &root.overrides)?,
         features: project.features.clone()?,
-        root,
-        target: triplets.target,
-        host: triplets.host,
-        defaults: project.defaults,
-        off: List::new(alloc),
-        max_facts: project.max_facts,
     })
 }
 
-// The layout, as the words, the root manifest, the configuration and the overlays give it.
-fn layout_with(
-    alloc: Global,
-    project: &Project,
-    root: &Manifest,
-    config: Config,
-    overlays: List<Overlay>,
-) -> Result<Layout, Memory>
-    ensures { IfOk result (λ l. layout_view l ≡ layout_with project.now (manifest_view root.now)
-        (config_view config) (map overlay_view overlays)) }
-{
-    let folder = project.folder.clone()?;
-    let overrides = Overrides::of(alloc, &root.overrides)?;
-    Ok(Layout {
-        folder,
-        config,
-        overlays,
-        overrides,
-    })
-}
-
-// All that was read, put together.
-fn opening_with(
-    alloc: Global,
-    project: &Project,
-    root: Manifest,
-    config: Config,
-    triplets: Triplets,
-    overlays: List<Overlay>,
-) -> Result<Opening, Memory>
-    ensures { IfOk result (λ o. opening_view o ≡ opening_with project.now (manifest_view root)
-        (config_view config) (triplets_view triplets) (map overlay_view overlays)) }
-{
-    let layout = layout_with(alloc, project, &root, config, overlays)?;
-    let setting = setting_with(alloc, project, root, triplets)?;
-    Ok(Opening { setting, layout })
-}
-
-// The triplets and the overlays, and all put together.
+// The triplets and the overlays.
 fn read_found<T: Tree>(
     alloc: Global,
     files: &mut FileCache,
     tree: &mut T,
     project: &Project,
-    root: Manifest,
-    config: Config,
-) -> Result<Opening, Stop<Early>>
-    ensures { ReadsFrom early_view opening_view result
-        (after_config project.now (manifest_view root) (config_view config))
-        (found_paths project.now (config_view config)) (held files.old (T.state tree.old))
+    root: &Manifest,
+    config: &Config,
+) -> Result<Found, Stop<Early>>
+    ensures { ReadsFrom early_view
+        (opening_found project.now (manifest_view root.now) (config_view config.now)) result
+        (after_config project.now (manifest_view root.now) (config_view config.now))
+        (found_paths project.now (config_view config.now)) (held files.old (T.state tree.old))
         (held files.new (T.state tree.new)) }
 {
-    let triplets = triplets_of(alloc, files, tree, project, &config)?;
-    let overlays = overlays_of(alloc, files, tree, project, &config)?;
-    Ok(opening_with(alloc, project, root, config, triplets, overlays)?)
+    let own = own_of(alloc, project, root)?;
+    let triplets = triplets_of(alloc, files, tree, project, config)?;
+    let overlays = overlays_of(alloc, files, tree, project, config)?;
+    Ok(Found {
+        own,
+        triplets,
+        overlays,
+    })
+}
+
+// All that was read, put together.
+fn put_together(
+    alloc: Global,
+    project: &Project,
+    root: Manifest,
+    config: Config,
+    found: Found,
+) -> Opening
+    ensures { opening_view result
+        ≡ opening_found project.now (manifest_view root) (config_view config) found }
+{
+    let Found {
+        own,
+        triplets,
+        overlays,
+    } = found;
+    Opening {
+        layout: Layout {
+            folder: own.folder,
+            config,
+            overlays,
+            overrides: own.overrides,
+        },
+        setting: Setting {
+            root,
+            target: triplets.target,
+            host: triplets.host,
+            features: own.features,
+            defaults: project.defaults,
+            off: List::new(alloc),
+            max_facts: project.max_facts,
+        },
+    }
+}
+
+// The configuration, the triplets and the overlays, and all put together.
+fn read_rest<T: Tree>(
+    alloc: Global,
+    files: &mut FileCache,
+    tree: &mut T,
+    project: &Project,
+    root: Root,
+) -> Result<Opening, Stop<Early>>
+    ensures { ReadsFrom early_view opening_view result (after_root project.now (root_view root))
+        (rest_paths project.now (root_view root)) (held files.old (T.state tree.old))
+        (held files.new (T.state tree.new)) }
+{
+    let Root {
+        manifest,
+        configuration,
+    } = root;
+    let config = read_configuration(alloc, files, tree, &project.folder, configuration)?;
+    let found = read_found(alloc, files, tree, project, &manifest, &config)?;
+    Ok(put_together(alloc, project, manifest, config, found))
 }
 
 fn read_opening<T: Tree>(
@@ -200,15 +234,33 @@ fn read_opening<T: Tree>(
         (held files.new (T.state tree.new)) }
 {
     let root = read_root(alloc, files, tree, &project.folder)?;
-    let Root {
-        manifest,
-        configuration,
-    } = root;
-    let config = read_configuration(alloc, files, tree, &project.folder, configuration)?;
-    read_found(alloc, files, tree, project, manifest, config)
+    read_rest(alloc, files, tree, project, root)
 }
 
 // What was opened, where packages can be kept in the store.
+fn stored<T: Tree>(
+    alloc: Global,
+    files: &mut FileCache,
+    tree: &mut T,
+    project: &Project,
+    store: &Store,
+    opening: Opening,
+) -> Result<Opening, Stop<Early>>
+    ensures { ReadsFrom early_view opening_view result
+        (stored project.now store.now (opening_view opening))
+        (stored_paths project.now store.now (config_view opening.layout.config))
+        (held files.old (T.state tree.old)) (held files.new (T.state tree.new)) }
+{
+    match check_store(alloc, files, tree, project, store, &opening.layout.config) {
+        Ok(()) => Ok(opening),
+        Err(stop) => {
+            drop(opening);
+            Err(stop)
+        }
+    }
+}
+
+// What was opened, and then the store.
 fn read_stored<T: Tree>(
     alloc: Global,
     files: &mut FileCache,
@@ -221,8 +273,7 @@ fn read_stored<T: Tree>(
         (held files.new (T.state tree.new)) }
 {
     let opening = read_opening(alloc, files, tree, project)?;
-    check_store(alloc, files, tree, project, store, &opening.layout.config)?;
-    Ok(opening)
+    stored(alloc, files, tree, project, store, opening)
 }
 
 fn read_with<T: Tree>(

@@ -1,0 +1,8 @@
+use Rattle.std.proofs.Common.{refl}
+use Rattle.std.specs.Prelude.{Ok}
+use Rattle.vk_files.proofs.FindLemmas.{finds_both, finds_here}
+use Rattle.vk_opening.specs.OpeningViews.{opening_view}
+use Rattle.vk_opening.proofs.opens.stored.Goals as goal
+
+pub returns-in-Ok : goal.returns-in-Ok
+returns-in-Ok g c = finds_both (λ done f. Ok (opening_view c.args.opening)) (rw c.in-Ok.is at c.check_store.ensures) (finds_here refl (λ f. refl))
