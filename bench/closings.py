@@ -4,7 +4,8 @@
 Rows of `vk_load` in one process close again over memory that the one before has warmed; a plan is
 made once a process. Each round runs every size, so that a machine that gets slower or faster for a
 while does so for all of them. What is told is the least time, the lower quarter and the median of
-each size, and how many times as long each next size takes by each of the three.
+each size, and how many times as long each next size takes by each of the three, and by the median
+of the rounds, each by itself.
 """
 import argparse
 import re
@@ -45,13 +46,14 @@ def times_of(program, shape, sizes, rounds):
 
 def show(title, times, sizes):
     """Prints a row for each size, and one for each step to the next."""
-    print(f"{title:28}{''.join(f'{name:>10}' for name in MEASURES)}")
+    print(f"{title:28}{''.join(f'{name:>10}' for name in MEASURES)}{'rounds':>10}")
     rows = [[of(times[size]) for of in MEASURES.values()] for size in sizes]
     for size, row in zip(sizes, rows):
         print(f"{size:28,}{''.join(f'{time / 1000:>8.1f}ms' for time in row)}")
     for before, after, small, large in zip(sizes, sizes[1:], rows, rows[1:]):
         growth = "".join(f"{b / a:>10.2f}" for a, b in zip(small, large))
-        print(f"{f'{before:,} to {after:,}':>28}{growth}")
+        by_round = statistics.median(b / a for a, b in zip(times[before], times[after]))
+        print(f"{f'{before:,} to {after:,}':>28}{growth}{by_round:>10.2f}")
 
 
 def main():

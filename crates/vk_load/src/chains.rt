@@ -1,45 +1,14 @@
 //! A long chain of ports: each has two versions, of which the lower one is the baseline, and asks
 //! for the next port at the higher one.
 
+use crate::parts::{Making, NoLoad, Parts, Unmade};
 use std::alloc::Global;
 use std::rc::Rc;
-use vk_base::{List, Memory, PortName, SharedText, Unread};
+use vk_base::{List, PortName, Unread};
 use vk_catalogue::{MemCatalogue, Page, PageRow};
 use vk_expr::Expr;
 use vk_model::{Dependency, Given, Manifest};
-use vk_version::{Ask, Scheme, Version, read};
-
-/// What can't be made: a name that is none, or out of memory.
-pub type Unmade = Unread<NoLoad>;
-
-/// A part of the load has no reading.
-#[derive(Clone, Copy, Debug, PartialEq, Eq, Drop)]
-pub struct NoLoad;
-
-// What is read, of a text that has a reading.
-fn made<T, F: Drop>(reading: Result<T, Unread<F>>) -> Result<T, Unmade> {
-    match reading {
-        Ok(value) => Ok(value),
-        Err(Unread::Fault(_)) => Err(Unread::Fault(NoLoad)),
-        Err(Unread::Memory(memory)) => Err(Unread::Memory(memory)),
-    }
-}
-
-fn port_of(alloc: Global, number: u64) -> Result<PortName, Unmade> {
-    let text = format!(in alloc; "p{number:04}")?;
-    made(PortName::read(alloc, text.as_str()))
-}
-
-fn ask_of(alloc: Global, text: &str) -> Result<Ask, Memory> {
-    Ok(Ask {
-        text: SharedText::from_str(alloc, text)?,
-        port: 0,
-    })
-}
-
-fn version_of(alloc: Global, text: &str) -> Result<Version, Unmade> {
-    made(read(alloc, Scheme::Relaxed, text, 0))
-}
+use vk_version::{Ask, Version};
 
 fn dependency(alloc: Global, name: PortName, minimum: Option<Ask>) -> Dependency {
     Dependency {
@@ -53,37 +22,46 @@ fn dependency(alloc: Global, name: PortName, minimum: Option<Ask>) -> Dependency
 }
 
 // A dependency on a port at its higher version.
-fn at_higher(alloc: Global, number: u64) -> Result<Dependency, Unmade> {
-    let name = port_of(alloc, number)?;
-    let minimum = ask_of(alloc, "1.1")?;
+fn at_higher(alloc: Global, parts: &Parts, number: u64) -> Result<Dependency, Unmade> {
+    let name = parts.name(number)?;
+    let minimum = parts.higher()?.ask().clone()?;
     Ok(dependency(alloc, name, Some(minimum)))
 }
 
 /// A dependency on a port.
-pub fn on(alloc: Global, number: u64) -> Result<Dependency, Unmade> {
-    let name = port_of(alloc, number)?;
-    Ok(dependency(alloc, name, None))
+pub fn on(alloc: Global, parts: &Parts, number: u64) -> Result<Dependency, Unmade> {
+    Ok(dependency(alloc, parts.name(number)?, None))
 }
 
 // What the higher version of a port asks for: the next port at its higher version.
-fn higher_asks(alloc: Global, number: u64, size: u64) -> Result<List<Dependency>, Unmade> {
-    let mut asked = List::new(alloc);
+fn higher_asks(
+    alloc: Global,
+    parts: &Parts,
+    number: u64,
+    size: u64,
+) -> Result<List<Dependency>, Unmade> {
+    let mut asked = List::with_capacity(alloc, 1)?;
     if number < size && number + 1 < size {
-        asked.push(at_higher(alloc, number + 1)?)?;
+        asked.push(at_higher(alloc, parts, number + 1)?)?;
     }
     Ok(asked)
 }
 
 // What the lower version of a port asks for: the next port, and one twice as far.
-fn lower_asks(alloc: Global, number: u64, size: u64) -> Result<List<Dependency>, Unmade> {
-    let mut asked = List::new(alloc);
+fn lower_asks(
+    alloc: Global,
+    parts: &Parts,
+    number: u64,
+    size: u64,
+) -> Result<List<Dependency>, Unmade> {
+    let mut asked = List::with_capacity(alloc, 2)?;
     let next = number.saturating_add(1);
     let far = number.saturating_mul(2).saturating_add(1);
     if next < size {
-        asked.push(on(alloc, next)?)?;
+        asked.push(on(alloc, parts, next)?)?;
     }
     if number > 0 && far < size {
-        asked.push(on(alloc, far)?)?;
+        asked.push(on(alloc, parts, far)?)?;
     }
     Ok(asked)
 }
@@ -109,12 +87,10 @@ pub fn manifest_of(
 /// A version of a port, with what its manifest asks for.
 pub fn row_of(
     alloc: Global,
-    number: u64,
-    text: &str,
+    name: PortName,
+    version: Version,
     asked: List<Dependency>,
 ) -> Result<PageRow, Unmade> {
-    let name = port_of(alloc, number)?;
-    let version = version_of(alloc, text)?;
     let own = version.clone()?;
     let manifest = Rc::new(alloc, manifest_of(alloc, Some(name), Some(own), asked))?;
     Ok(PageRow {
@@ -123,23 +99,25 @@ pub fn row_of(
     })
 }
 
-fn rows_of(alloc: Global, number: u64, size: u64) -> Result<List<PageRow>, Unmade> {
-    let mut rows = List::new(alloc);
-    rows.push(row_of(alloc, number, "1.0", lower_asks(alloc, number, size)?)?)?;
-    rows.push(row_of(alloc, number, "1.1", higher_asks(alloc, number, size)?)?)?;
+fn rows_of(alloc: Global, parts: &Parts, number: u64, size: u64) -> Result<List<PageRow>, Unmade> {
+    let mut rows = List::with_capacity(alloc, 2)?;
+    let asked = lower_asks(alloc, parts, number, size)?;
+    rows.push(row_of(alloc, parts.name(number)?, parts.lower()?, asked)?)?;
+    let asked = higher_asks(alloc, parts, number, size)?;
+    rows.push(row_of(alloc, parts.name(number)?, parts.higher()?, asked)?)?;
     Ok(rows)
 }
 
 /// The page of a port with these versions, whose baseline is the lower one.
-pub fn page_with(alloc: Global, number: u64, rows: List<PageRow>) -> Result<Page, Unmade> {
-    let port = port_of(alloc, number)?;
-    let given = Ok(Given::Baseline(ask_of(alloc, "1.0")?));
+pub fn page_with(parts: &Parts, number: u64, rows: List<PageRow>) -> Result<Page, Unmade> {
+    let port = parts.name(number)?;
+    let given = Ok(Given::Baseline(parts.lower()?.ask().clone()?));
     Ok(Page { port, given, rows })
 }
 
-fn page_of(alloc: Global, number: u64, size: u64) -> Result<Page, Unmade> {
-    let rows = rows_of(alloc, number, size)?;
-    page_with(alloc, number, rows)
+fn page_of(alloc: Global, parts: &Parts, number: u64, size: u64) -> Result<Page, Unmade> {
+    let rows = rows_of(alloc, parts, number, size)?;
+    page_with(parts, number, rows)
 }
 
 /// Puts a page into a catalogue.
@@ -152,13 +130,12 @@ pub fn put(pages: &mut MemCatalogue, page: Page) -> Result<(), Unmade> {
 }
 
 /// The catalogue of a chain of so many ports.
-pub fn chain(alloc: Global, size: u32) -> Result<MemCatalogue, Unmade> {
+pub fn chain(alloc: Global, making: Making, size: u32) -> Result<MemCatalogue, Unmade> {
     let mut pages = MemCatalogue::new(alloc)?;
+    let size = u64::from(size);
+    let parts = Parts::of(alloc, making, 0, size)?;
     for number in 0..size {
-        put(
-            &mut pages,
-            page_of(alloc, u64::from(number), u64::from(size))?,
-        )?;
+        put(&mut pages, page_of(alloc, &parts, number, size)?)?;
     }
     Ok(pages)
 }
@@ -166,6 +143,7 @@ pub fn chain(alloc: Global, size: u32) -> Result<MemCatalogue, Unmade> {
 /// A root that asks for the first port of a chain at its higher version.
 pub fn chain_root(alloc: Global) -> Result<Manifest, Unmade> {
     let mut asked = List::new(alloc);
-    asked.push(at_higher(alloc, 0)?)?;
+    let parts = Parts::of(alloc, Making::Once, 0, 1)?;
+    asked.push(at_higher(alloc, &parts, 0)?)?;
     Ok(manifest_of(alloc, None, None, asked))
 }

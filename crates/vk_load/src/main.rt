@@ -1,10 +1,12 @@
 //! Plans large projects over catalogues in memory: reads a shape and a number of ports a line, as
-//! `chain 20`, `side 20` or `ring 20`, and tells how many facts and how many items there are, none
-//! where the project is refused. How long the closing took, and how long the whole plan, goes to
-//! standard error, in microseconds, so that what the program prints is always the same.
+//! `chain 20`, `shared 20`, `side 20` or `ring 20`, and tells how many facts and how many items
+//! there are, none where the project is refused. How long the closing took, and how long the whole
+//! plan, goes to standard error, in microseconds, so that what the program prints is always the
+//! same.
 #![tactic(auto)]
 
 mod chains;
+mod parts;
 mod rings;
 mod runs;
 mod sides;
@@ -115,6 +117,7 @@ fn tell<R: Print + Eprint + Clock>(
 fn shape_of(word: &str) -> Option<Shape> {
     match word {
         "chain" => Some(Shape::Chain),
+        "shared" => Some(Shape::Shared),
         "side" => Some(Shape::Side),
         "ring" => Some(Shape::Ring),
         _ => None,

@@ -1,6 +1,7 @@
 //! A chain of ports that leads to two ports which need each other.
 
-use crate::chains::{Unmade, manifest_of, on, page_with, put, row_of};
+use crate::chains::{manifest_of, on, page_with, put, row_of};
+use crate::parts::{Making, Parts, Unmade};
 use std::alloc::Global;
 use vk_base::List;
 use vk_catalogue::{MemCatalogue, Page};
@@ -18,20 +19,21 @@ fn next_of(number: u64, end: u64) -> u64 {
     }
 }
 
-fn page_of(alloc: Global, number: u64, end: u64) -> Result<Page, Unmade> {
-    let mut asked = List::new(alloc);
-    asked.push(on(alloc, next_of(number, end))?)?;
-    let mut rows = List::new(alloc);
-    rows.push(row_of(alloc, number, "1.0", asked)?)?;
-    page_with(alloc, number, rows)
+fn page_of(alloc: Global, parts: &Parts, number: u64, end: u64) -> Result<Page, Unmade> {
+    let mut asked = List::with_capacity(alloc, 1)?;
+    asked.push(on(alloc, parts, next_of(number, end))?)?;
+    let mut rows = List::with_capacity(alloc, 1)?;
+    rows.push(row_of(alloc, parts.name(number)?, parts.lower()?, asked)?)?;
+    page_with(parts, number, rows)
 }
 
 /// The catalogue of so many ports that lead to a cycle of two more.
 pub fn ring(alloc: Global, size: u32) -> Result<MemCatalogue, Unmade> {
     let mut pages = MemCatalogue::new(alloc)?;
     let end = u64::from(size).saturating_add(FIRST);
+    let parts = Parts::of(alloc, Making::Anew, FIRST, end.saturating_add(2))?;
     for number in FIRST..end.saturating_add(2) {
-        put(&mut pages, page_of(alloc, number, end)?)?;
+        put(&mut pages, page_of(alloc, &parts, number, end)?)?;
     }
     Ok(pages)
 }
@@ -39,6 +41,7 @@ pub fn ring(alloc: Global, size: u32) -> Result<MemCatalogue, Unmade> {
 /// A root that asks for the first of them.
 pub fn ring_root(alloc: Global) -> Result<Manifest, Unmade> {
     let mut asked = List::new(alloc);
-    asked.push(on(alloc, FIRST)?)?;
+    let parts = Parts::of(alloc, Making::Once, FIRST, FIRST + 1)?;
+    asked.push(on(alloc, &parts, FIRST)?)?;
     Ok(manifest_of(alloc, None, None, asked))
 }

@@ -1,7 +1,8 @@
 //! One run over a load, with a count of steps of its own: closing it, or planning it whole.
 ghost use Rattle.std.specs.Prelude.{◌≡◌, ◌<◌};
 
-use crate::chains::{NoLoad, Unmade, chain, chain_root};
+use crate::chains::{chain, chain_root};
+use crate::parts::{Making, NoLoad, Unmade};
 use crate::rings::{ring, ring_root};
 use crate::sides::{side_by_side, side_root};
 use std::alloc::Global;
@@ -22,6 +23,8 @@ const MOST: u32 = 1_000_000;
 pub enum Shape {
     /// Each on the next.
     Chain,
+    /// The same, with each name and version made once and shared.
+    Shared,
     /// None on another.
     Side,
     /// Each on the next, and the last two on each other.
@@ -60,7 +63,7 @@ fn setting_of(alloc: Global, root: Manifest, target: Triplet, host: Triplet) -> 
 
 fn root_of(alloc: Global, shape: Shape, size: u32) -> Result<Manifest, Unmade> {
     match shape {
-        Shape::Chain => chain_root(alloc),
+        Shape::Chain | Shape::Shared => chain_root(alloc),
         Shape::Side => side_root(alloc, size),
         Shape::Ring => ring_root(alloc),
     }
@@ -68,7 +71,8 @@ fn root_of(alloc: Global, shape: Shape, size: u32) -> Result<Manifest, Unmade> {
 
 fn pages_of(alloc: Global, shape: Shape, size: u32) -> Result<MemCatalogue, Unmade> {
     match shape {
-        Shape::Chain => chain(alloc, size),
+        Shape::Chain => chain(alloc, Making::Anew, size),
+        Shape::Shared => chain(alloc, Making::Once, size),
         Shape::Side => side_by_side(alloc, size),
         Shape::Ring => ring(alloc, size),
     }
