@@ -1,5 +1,5 @@
 -- What a floor is looked up for is what the rules say of it.
-use Rattle.std.proofs.Common.{◌≡◌, ℕ, Bool, true, false, ◌&&◌, List, [], map, refl, ap, sym, subst, ◌∙◌}
+use Rattle.std.proofs.Common.{◌≡◌, ℕ, Bool, true, false, ◌&&◌, List, [], refl, ap, sym, subst, ◌∙◌}
 use Rattle.std.specs.Prelude.{Option, Some, None, option_map, Result, Ok, Err, IfSome, IsOk, IsSome, is_some, bytes_eq}
 use Rattle.std.specs.Map.{lookup}
 use Rattle.vk_spec.specs.Versions.{Version, Ask, ask_of, same_ask}

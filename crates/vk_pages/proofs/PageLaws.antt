@@ -16,7 +16,7 @@ use Rattle.vk_spec.specs.Reading.{◌>>=◌, or_fault, read_each}
 use Rattle.vk_spec.specs.Versions.{Version, Ask, ask_of}
 use Rattle.vk_spec.specs.Manifests.{Manifest, Override}
 use Rattle.vk_spec.specs.Pages as the
-use Rattle.vk_spec.specs.Pages.{Wrong, bad_file, disagrees, Given, overlay, override, baseline, Field, has_override, is_overlay_file, is_pinned_by}
+use Rattle.vk_spec.specs.Pages.{Wrong, disagrees, Given, overlay, override, baseline, Field, has_override, is_overlay_file, is_pinned_by}
 use Rattle.vk_spec.specs.Catalogues.{CanBeOfGiven, CanBeOfRow, HasOwnAlone, IsPage}
 use Rattle.vk_spec.specs.Conditions.{Condition}
 use Rattle.vk_spec.proofs.ListLemmas.{contains_nothing}

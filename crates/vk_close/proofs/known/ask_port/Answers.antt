@@ -1,4 +1,4 @@
-use Rattle.std.proofs.Common.{map, ◌≡◌, subst}
+use Rattle.std.proofs.Common.{◌≡◌, subst}
 use Rattle.std.specs.Prelude.{IfSome}
 use Rattle.vk_model.specs.WrongViews.{given_view, given_said}
 use Rattle.vk_close.proofs.KnownLemmas.{pinned_known}

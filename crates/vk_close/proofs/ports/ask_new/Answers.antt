@@ -1,4 +1,4 @@
-use Rattle.std.proofs.Common.{map, refl}
+use Rattle.std.proofs.Common.{refl}
 use Rattle.vk_close.proofs.KnownLemmas.{put_known}
 use Rattle.vk_close.proofs.ports.ask_new.Goals as goal
 

@@ -1,4 +1,3 @@
-use Rattle.std.proofs.Common.{map}
 use Rattle.vk_close.proofs.KnownLemmas.{pinned_here}
 use Rattle.vk_close.proofs.steps.is_pinned.Goals as goal
 
