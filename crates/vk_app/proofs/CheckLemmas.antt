@@ -30,8 +30,6 @@ use Rattle.vk_model.specs.declared.projects.Project.{Project}
 use Rattle.vk_model.specs.SettingViews.{setting_view}
 use Rattle.vk_model.specs.declared.settings.Setting as made_setting
 use Rattle.vk_opening.specs.Layouts.{Layout}
-use Rattle.vk_opening.specs.Views.{layout_view}
-use Rattle.vk_opening.specs.declared.layouts.Start as made_start
 use Rattle.vk_pages.specs.Pages.{page_of}
 use Rattle.vk_pages.proofs.PageLaws.{is_page}
 use Rattle.vk_worklist.specs.Faults.{OnFault}
@@ -193,14 +191,14 @@ shows_judged project bytes setting layout files (Err (stop.Fault (Facts n))) mos
 shows_judged project bytes setting layout files (Err stop.Failed) most h three four = absurd (four refl)
 shows_judged project bytes setting layout files (Err (stop.Memory m)) most h three four = absurd (three refl)
 
-pub judge_ends : (project : Project) (report : Path) (bytes : List ℕ) (setting : made_setting.Setting) (start : made_start.Start) (answer : Result Verdict (Stop CloseFault)) (Reads : Bool → State → State → Type 0) (shown : Shown) (a b : State)
-    → IfSome a.told (λ t. IsReady project setting start t.files)
-    → IfSome a.told (λ t. Judges (setting_view setting) (page_of (layout_view start.layout) t.files) bytes answer)
+pub judge_ends : (project : Project) (report : Path) (bytes : List ℕ) (setting : made_setting.Setting) (layout : Layout) (answer : Result Verdict (Stop CloseFault)) (Reads : Bool → State → State → Type 0) (shown : Shown) (a b : State)
+    → IfSome a.told (λ t. IsReady project setting)
+    → IfSome a.told (λ t. Judges (setting_view setting) (page_of layout t.files) bytes answer)
     → Reads (has_failed answer) a b → EndsWith (shown_judged project answer) shown
-    → EndsFor (Ok (task.Check project report)) (ShowsJudged bytes (setting_view setting) (layout_view start.layout)) Reads shown a b
-judge_ends project report bytes setting start answer Reads shown a b ready judges reads ends =
+    → EndsFor (Ok (task.Check project report)) (ShowsJudged bytes (setting_view setting) layout) Reads shown a b
+judge_ends project report bytes setting layout answer Reads shown a b ready judges reads ends =
     ends_by (task.Check project report) _ Reads (shown_judged project answer) shown (has_failed answer) a b (judged_may_end project report answer) (judged_calm project answer)
-    (of_both a.told ready judges (λ t r h three four. shows_judged project bytes (setting_view setting) (layout_view start.layout) t.files answer r.most h three four))
+    (of_both a.told ready judges (λ t r h three four. shows_judged project bytes (setting_view setting) layout t.files answer r h three four))
     reads ends
 
 -- the report was read, and then judged

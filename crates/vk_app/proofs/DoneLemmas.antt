@@ -2,7 +2,7 @@
 use Rattle.std.proofs.Common.{◌≡◌, ◌≢◌, ◌⊎◌, ◌++◌, inl, inr, Bool, true, false, ℕ, List, [], refl, ap, sym, subst, ◌∙◌}
 use Rattle.std.specs.Prelude.{Option, Some, None, IfSome, IfOk, Result, Ok, Err}
 use Rattle.std.specs.List.{Contains}
-use Rattle.std.proofs.lemmas.List.{append_assoc}
+use Rattle.std.proofs.lemmas.List.{append_assoc, append_cancel_left}
 use Rattle.std.proofs.lemmas.List.Elements.{Contains-append_cases}
 use Rattle.std.proofs.lemmas.Option.{IfSome_then}
 use Rattle.vk_spec.specs.Lists.{NoRepeats, IsWithin}
@@ -31,13 +31,13 @@ use Rattle.vk_model.specs.declared.plans.Outcome.{Outcome}
 use Rattle.vk_model.specs.declared.plans.Outcome.TheVariants as outcome
 use Rattle.vk_model.specs.declared.projects.Project.{Project}
 use Rattle.vk_model.specs.declared.settings.Setting as made
-use Rattle.vk_files.specs.Kept.{Kept, IsOf, paths_of}
+use Rattle.vk_files.specs.Kept.{Held, paths_of}
 use Rattle.vk_opening.specs.Asked.{opening_paths}
 use Rattle.vk_opening.specs.Layouts.{Layout}
-use Rattle.vk_opening.specs.Opened.{Opens, Tells, IsKept}
+use Rattle.vk_opening.specs.Opened.{Opens, Tells}
 use Rattle.vk_opening.specs.Openings.{opened_of}
-use Rattle.vk_opening.specs.Views.{ready_view, layout_view, opened_files}
-use Rattle.vk_opening.specs.declared.layouts.Start as made_start
+use Rattle.vk_opening.specs.Views.{ready_view, layout_view}
+use Rattle.vk_opening.specs.declared.layouts.Layout as made_layout
 use Rattle.vk_opening.specs.declared.opens.Opened.{Opened}
 use Rattle.vk_opening.specs.declared.opens.Opened.TheVariants as opened
 use Rattle.vk_opening.proofs.OpenLemmas as opening
@@ -134,14 +134,14 @@ shows_plan project setting layout files (Err (stop.Fault (Facts n))) most h thre
 shows_plan project setting layout files (Err stop.Failed) most h three four = absurd (four refl)
 shows_plan project setting layout files (Err (stop.Memory m)) most h three four = absurd (three refl)
 
-pub plan_ends : (project : Project) (setting : made.Setting) (start : made_start.Start) (answer : Result Outcome (Stop CloseFault)) (shown : Shown) (a b : State)
-    → IfSome a.told (λ t. IsReady project setting start t.files)
-    → IfSome a.told (λ t. Resolves (Settles (setting_view setting) (page_of (layout_view start.layout) t.files)) answer)
-    → ReadsOnce (IsOfPorts (layout_view start.layout) to_plan) (paths_of (opened_files start)) (has_failed answer) a b → EndsWith (shown_of project answer) shown
-    → EndsFor (Ok (task.Plan project)) (ShowsSettled (task.Plan project) (setting_view setting) (layout_view start.layout)) (ReadsFor (Ok (task.Plan project)) (IsOfPorts (layout_view start.layout)) (paths_of (opened_files start))) shown a b
-plan_ends project setting start answer shown a b ready resolves reads ends =
-    ends_with (task.Plan project) _ (ReadsFor (Ok (task.Plan project)) (IsOfPorts (layout_view start.layout)) (paths_of (opened_files start))) answer shown a b refl
-    (of_both a.told ready resolves (λ t r h three four. shows_plan project (setting_view setting) (layout_view start.layout) t.files answer r.most h three four)) (for_plan _ _ _ reads) ends
+pub plan_ends : (project : Project) (setting : made.Setting) (layout : Layout) (read : List Path) (answer : Result Outcome (Stop CloseFault)) (shown : Shown) (a b : State)
+    → IfSome a.told (λ t. IsReady project setting)
+    → IfSome a.told (λ t. Resolves (Settles (setting_view setting) (page_of layout t.files)) answer)
+    → ReadsOnce (IsOfPorts layout to_plan) read (has_failed answer) a b → EndsWith (shown_of project answer) shown
+    → EndsFor (Ok (task.Plan project)) (ShowsSettled (task.Plan project) (setting_view setting) layout) (ReadsFor (Ok (task.Plan project)) (IsOfPorts layout) read) shown a b
+plan_ends project setting layout read answer shown a b ready resolves reads ends =
+    ends_with (task.Plan project) _ (ReadsFor (Ok (task.Plan project)) (IsOfPorts layout) read) answer shown a b refl
+    (of_both a.told ready resolves (λ t r h three four. shows_plan project (setting_view setting) layout t.files answer r h three four)) (for_plan _ _ _ reads) ends
 
 -- ---- a load
 
@@ -162,35 +162,22 @@ shows_load size project setting layout files (Err (stop.Fault (Facts n))) most h
 shows_load size project setting layout files (Err stop.Failed) most h three four = absurd (four refl)
 shows_load size project setting layout files (Err (stop.Memory m)) most h three four = absurd (three refl)
 
-pub load_ends : (size : ℕ) (project : Project) (setting : made.Setting) (start : made_start.Start) (answer : Result Outcome (Stop CloseFault)) (shown : Shown) (a b : State)
-    → IfSome a.told (λ t. IsReady project setting start t.files)
-    → IfSome a.told (λ t. Resolves (Settles (setting_view setting) (page_of (layout_view start.layout) t.files)) answer)
-    → ReadsOnce (IsOfPorts (layout_view start.layout) to_plan) (paths_of (opened_files start)) (has_failed answer) a b → EndsWith (shown_load size project answer) shown
-    → EndsFor (Ok (task.SelfLoad size project)) (ShowsSettled (task.SelfLoad size project) (setting_view setting) (layout_view start.layout)) (ReadsFor (Ok (task.SelfLoad size project)) (IsOfPorts (layout_view start.layout)) (paths_of (opened_files start))) shown a b
-load_ends size project setting start answer shown a b ready resolves reads ends =
-    ends_by (task.SelfLoad size project) _ (ReadsFor (Ok (task.SelfLoad size project)) (IsOfPorts (layout_view start.layout)) (paths_of (opened_files start))) (shown_load size project answer) shown (has_failed answer) a b (load_may_end size project answer) (load_not_failed size project answer)
-    (of_both a.told ready resolves (λ t r h three four. shows_load size project (setting_view setting) (layout_view start.layout) t.files answer r.most h three four)) (for_plan _ _ _ reads) ends
-
--- the world's tree tells what its setting was opened on
-pub ready_kept : (project : Project) (setting : made.Setting) (start : made_start.Start) (s : State) → IfSome s.told (λ t. IsReady project setting start t.files) → IfSome s.told (λ t. IsOf t.files (opened_files start))
-ready_kept project setting start s ready = IfSome_then s.told ready (λ t r. r.kept)
+pub load_ends : (size : ℕ) (project : Project) (setting : made.Setting) (layout : Layout) (read : List Path) (answer : Result Outcome (Stop CloseFault)) (shown : Shown) (a b : State)
+    → IfSome a.told (λ t. IsReady project setting)
+    → IfSome a.told (λ t. Resolves (Settles (setting_view setting) (page_of layout t.files)) answer)
+    → ReadsOnce (IsOfPorts layout to_plan) read (has_failed answer) a b → EndsWith (shown_load size project answer) shown
+    → EndsFor (Ok (task.SelfLoad size project)) (ShowsSettled (task.SelfLoad size project) (setting_view setting) layout) (ReadsFor (Ok (task.SelfLoad size project)) (IsOfPorts layout) read) shown a b
+load_ends size project setting layout read answer shown a b ready resolves reads ends =
+    ends_by (task.SelfLoad size project) _ (ReadsFor (Ok (task.SelfLoad size project)) (IsOfPorts layout) read) (shown_load size project answer) shown (has_failed answer) a b (load_may_end size project answer) (load_not_failed size project answer)
+    (of_both a.told ready resolves (λ t r h three four. shows_load size project (setting_view setting) layout t.files answer r h three four)) (for_plan _ _ _ reads) ends
 
 -- ---- what was opened
 
 -- what a task shows of its setting is what it shows of what was opened
-pub ends_ready : (task : Task) (o : Opened) (setting : made.Setting) (start : made_start.Start) (shown : Shown) (read : Kept) (a b : State)
-    → o ≡ opened.Ready setting start → IsKept read (Ok o)
-    → EndsFor (Ok task) (ShowsSettled task (setting_view setting) (layout_view start.layout)) (ReadsFor (Ok task) (IsOfPorts (layout_view start.layout)) (paths_of (opened_files start))) shown a b
-    → EndsFor (Ok task) (OpenedShows task o) (ReadsFor (Ok task) (OpenedMayAsk o) (paths_of read)) shown a b
-ends_ready task o setting start shown read a b is kept ends =
-    let same : read ≡ opened_files start = rw is at kept in
-    rw (is, same) ends
-
--- what was opened was read once
-pub opened_once : (o : Opened) (setting : made.Setting) (start : made_start.Start) (read : Kept) → o ≡ opened.Ready setting start → IsKept read (Ok o) → NoRepeats (paths_of read) → NoRepeats (paths_of (opened_files start))
-opened_once o setting start read is kept distinct =
-    let same : read ≡ opened_files start = rw is at kept in
-    subst (λ k. NoRepeats (paths_of k)) same distinct
+pub ends_ready : (task : Task) (o : Opened) (setting : made.Setting) (layout : made_layout.Layout) (shown : Shown) (read : List Path) (a b : State) → o ≡ opened.Ready setting layout
+    → EndsFor (Ok task) (ShowsSettled task (setting_view setting) (layout_view layout)) (ReadsFor (Ok task) (IsOfPorts (layout_view layout)) read) shown a b
+    → EndsFor (Ok task) (OpenedShows task o) (ReadsFor (Ok task) (OpenedMayAsk o) read) shown a b
+ends_ready task o setting layout shown read a b is ends = rw is ends
 
 -- an early line is told
 pub ends_early : (t : Task) (Answers : Files → Shown → Type 0) (e : Early) (shown : Shown) (earlier : List Path) (s : State) → ((files : Files) → Answers files (shown_for (the.early (early_view e)))) → NoRepeats earlier
@@ -207,7 +194,7 @@ ends_refused t o e shown earlier a b is ends = rw is ends
 -- ---- opening, and then the rest
 
 -- what is known of the files before is known of those after
-pub told_after : {failed : Bool} {a b : State} (P : Files → Type 0) → OnlyRead failed a b → IfSome a.told (λ t. P t.files) → IfSome b.told (λ t. P t.files)
+told_after : {failed : Bool} {a b : State} (P : Files → Type 0) → OnlyRead failed a b → IfSome a.told (λ t. P t.files) → IfSome b.told (λ t. P t.files)
 told_after {a = a} {b = b} P r h = by a.told b.told r.looks.told h
   where
     by : (one other : Option Told) → other ≡ with_asked r.asked one → IfSome one (λ t. P t.files) → IfSome other (λ t. P t.files)
@@ -215,30 +202,35 @@ told_after {a = a} {b = b} P r h = by a.told b.told r.looks.told h
     by (Some t) other e h = subst (λ o. IfSome o (λ t. P t.files)) (sym e) h
 
 -- as many requirements are allowed as the words say
-opens_most : (project : Project) (setting : made.Setting) (start : made_start.Start) (files : Files) → opened_of project files ≡ Ok (ready_view setting start) → setting.max_facts ≡ project.max_facts
-opens_most project setting start files e =
-    let form = opening_form project files (ready_view setting start) e in
+opens_most : (project : Project) (setting : made.Setting) (layout : made_layout.Layout) (files : Files) → opened_of project files ≡ Ok (ready_view setting layout) → setting.max_facts ≡ project.max_facts
+opens_most project setting layout files e =
+    let form = opening_form project files (ready_view setting layout) e in
     ap (λ (s : Setting). s.max_facts) (form.settings []) ∙ form.most
 
-pub opened_right : (project : Project) (o : Opened) (before after : State) → Opens project None (Ok o) before after → IfSome after.told (λ t. IsOpenedFor project o t.files)
-opened_right project (opened.Ready setting start) before after opens =
-    told_after (IsReady project setting start) (opening.only_read opens)
-    (of_both before.told (opening.start_right opens) opens.content (λ t kept tells. record { kept = kept; most = opens_most project setting start t.files tells.0 }))
-opened_right project (opened.Refused e) before after opens = of_each after.told (λ t. tt)
+-- what was opened is what the files give
+tells : {project : Project} {answer : Result Opened Outage} {a b : Held} → Opens project None answer a b → IfSome a.tree.told (λ t. Tells answer (opened_of project t.files))
+tells {a = a} opens = IfSome_then a.tree.told opens.reads.learned (λ t learned. (learned tt).holds)
+
+pub opened_right : (project : Project) (o : Opened) (a b : Held) → Opens project None (Ok o) a b → IfSome b.tree.told (λ t. IsOpenedFor project o)
+opened_right project (opened.Ready setting layout) a b opens =
+    told_after (λ f. IsReady project setting) (opening.only_read opens) (IfSome_then a.tree.told (tells opens) (λ t is. opens_most project setting layout t.files is.0))
+opened_right project (opened.Refused e) a b opens = of_each b.tree.told (λ t. tt)
 
 opened_shows : (task : Task) (o : Opened) (files : Files) (shown : Shown) → Tells (Ok o) (opened_of (project_of task) files) → OpenedShows task o files shown → ShowsProject task files shown
-opened_shows task (opened.Ready setting start) files shown tells h =
+opened_shows task (opened.Ready setting layout) files shown tells h =
     subst (λ read. ShowsRead task read files shown) (sym tells.0)
     (record { setting = setting_view setting; is_setting = record { off = (setting_view setting).off; setting_is = refl; lists = tells.1 }; shows = h })
 opened_shows task (opened.Refused e) files shown tells h = subst (λ read. ShowsRead task read files shown) (sym tells) h
 
 -- opening looked at its own paths alone
-opening_listed : {project : Project} {answer : Result Opened Outage} {a b : State} (opens : Opens project None answer a b) → IfSome a.told (λ t. IsWithin (paths_of opens.once.more) (opening_paths project t.files))
-opening_listed {project = project} {a = a} opens = subst (λ kept. IfSome a.told (λ t. IsWithin (paths_of kept) (opening_paths project t.files))) opens.once.kept opens.within
+opening_listed : {project : Project} {answer : Result Opened Outage} {a b : Held} (opens : Opens project None answer a b) → IfSome a.tree.told (λ t. IsWithin (paths_of opens.reads.once.more) (opening_paths project t.files))
+opening_listed {project = project} {a = a} opens = IfSome_then a.tree.told opens.reads.learned (λ t learned.
+    let looks = (learned tt).within in
+    subst (λ more. IsWithin (paths_of more) (opening_paths project t.files)) (append_cancel_left a.kept looks.more opens.reads.once.more (sym looks.kept ∙ opens.reads.once.kept)) looks.within)
 
 -- what is asked for on behalf of the ports of what was opened is asked for by the project
 of_opened : (project : Project) (o : Opened) (purpose : Purpose) (files : Files) (path : Path) → Tells (Ok o) (opened_of project files) → OpenedMayAsk o purpose files path → IsOfOpened (opened_of project files) purpose files path
-of_opened project (opened.Ready setting start) purpose files path tells of = subst (λ read. IsOfOpened read purpose files path) (sym tells.0) of
+of_opened project (opened.Ready setting layout) purpose files path tells of = subst (λ read. IsOfOpened read purpose files path) (sym tells.0) of
 of_opened project (opened.Refused e) purpose files path tells of = absurd of
 
 -- the paths of opening, and then those of the pages
@@ -258,50 +250,57 @@ listed_opened project o first second None tells opening later = tt
 listed_opened project o first second (Some t) tells opening later = listed_in project o t.files first second tells opening later
 
 -- what is read besides is of the project
-own_opened : (task : Task) (o : Opened) (own : List Path) (a b : State) → Opens (project_of task) None (Ok o) a b → AreOwn (Ok task) (OpenedMayAsk o to_tell) own b → AreOwn (Ok task) (IsOfProject (project_of task) to_tell) own a
+own_opened : (task : Task) (o : Opened) (own : List Path) (a b : Held) → Opens (project_of task) None (Ok o) a b → AreOwn (Ok task) (OpenedMayAsk o to_tell) own b.tree → AreOwn (Ok task) (IsOfProject (project_of task) to_tell) own a.tree
 own_opened (task.Plan project) o own a b opens besides = besides
 own_opened (task.Abi project instance) o own a b opens besides =
-    of_both a.told opens.content (told_before (λ f. (path : Path) → Contains own path → OpenedMayAsk o to_tell f path) (opening.only_read opens) besides)
+    of_both a.tree.told (tells opens) (told_before (λ f. (path : Path) → Contains own path → OpenedMayAsk o to_tell f path) (opening.only_read opens) besides)
     (λ t tells h path has. of_opened project o to_tell t.files path tells (h path has))
 own_opened (task.Check project report) o own a b opens besides = besides
 own_opened (task.SelfLoad size project) o own a b opens besides = besides
 
+-- where nothing was kept before, opening looked at all that is kept
+all_opened : {project : Project} {answer : Result Opened Outage} {a b : Held} → a.kept ≡ [] → (opens : Opens project None answer a b) → b.kept ≡ opens.reads.once.more
+all_opened none opens = opens.reads.once.kept ∙ ap (λ kept. kept ++ opens.reads.once.more) none
+
 -- each path once for the plan, opening included
-reads_opened : (task : Task) (o : Opened) {failed : Bool} (a b c : State) (opens : Opens (project_of task) None (Ok o) a b)
-    → ReadsFor (Ok task) (OpenedMayAsk o) (paths_of opens.read) failed b c → ReadsFor (Ok task) (IsOfProject (project_of task)) [] failed a c
-reads_opened task o a b c opens r = record {
-  only = record { asked = paths_of opens.once.more ++ r.only.asked; looks = looks_then opens.once.looks r.only.looks };
-  first = paths_of opens.once.more ++ r.first;
-  own = r.own;
-  rest = r.rest;
-  parts = ap (λ l. paths_of opens.once.more ++ l) r.parts ∙ sym (append_assoc (paths_of opens.once.more) r.first (r.own ++ r.rest));
-  distinct = subst NoRepeats (sym (append_assoc (paths_of opens.once.more) r.first r.rest))
-      (subst (λ kept. NoRepeats (paths_of kept ++ (r.first ++ r.rest))) opens.once.kept r.distinct);
-  listed = subst (λ l. AreListed (IsOfProject (project_of task) to_plan) l a) (sym (append_assoc (paths_of opens.once.more) r.first r.rest))
-      (listed_opened (project_of task) o (paths_of opens.once.more) (r.first ++ r.rest) a.told opens.content (opening_listed opens)
-      (told_before (λ f. (path : Path) → Contains (r.first ++ r.rest) path → OpenedMayAsk o to_plan f path) (opening.only_read opens) r.listed));
-  besides = own_opened task o r.own a b opens r.besides;
-}
+reads_opened : (task : Task) (o : Opened) {failed : Bool} (a b : Held) (c : State) → a.kept ≡ [] → (opens : Opens (project_of task) None (Ok o) a b)
+    → ReadsFor (Ok task) (OpenedMayAsk o) (paths_of b.kept) failed b.tree c → ReadsFor (Ok task) (IsOfProject (project_of task)) [] failed a.tree c
+reads_opened task o a b c none opens r =
+    let more = paths_of opens.reads.once.more in record {
+      only = record { asked = more ++ r.only.asked; looks = looks_then opens.reads.once.looks r.only.looks };
+      first = more ++ r.first;
+      own = r.own;
+      rest = r.rest;
+      parts = ap (λ l. more ++ l) r.parts ∙ sym (append_assoc more r.first (r.own ++ r.rest));
+      distinct = subst NoRepeats (sym (append_assoc more r.first r.rest)) (subst (λ kept. NoRepeats (paths_of kept ++ (r.first ++ r.rest))) (all_opened none opens) r.distinct);
+      listed = subst (λ l. AreListed (IsOfProject (project_of task) to_plan) l a.tree) (sym (append_assoc more r.first r.rest))
+          (listed_opened (project_of task) o more (r.first ++ r.rest) a.tree.told (tells opens) (opening_listed opens)
+          (told_before (λ f. (path : Path) → Contains (r.first ++ r.rest) path → OpenedMayAsk o to_plan f path) (opening.only_read opens) r.listed));
+      besides = own_opened task o r.own a b opens r.besides;
+    }
 
 -- a project that was opened, and what came of it
-pub ends_opened : (task : Task) (o : Opened) (shown : Shown) (a b c : State) (opens : Opens (project_of task) None (Ok o) a b)
-    → EndsFor (Ok task) (OpenedShows task o) (ReadsFor (Ok task) (OpenedMayAsk o) (paths_of opens.read)) shown b c → EndsFor (Ok task) (ShowsProject task) (ReadsFor (Ok task) (IsOfProject (project_of task)) []) shown a c
-ends_opened task o shown a b c opens ends = record {
+pub ends_opened : (task : Task) (o : Opened) (shown : Shown) (a b : Held) (c : State) → a.kept ≡ [] → Opens (project_of task) None (Ok o) a b
+    → EndsFor (Ok task) (OpenedShows task o) (ReadsFor (Ok task) (OpenedMayAsk o) (paths_of b.kept)) shown b.tree c → EndsFor (Ok task) (ShowsProject task) (ReadsFor (Ok task) (IsOfProject (project_of task)) []) shown a.tree c
+ends_opened task o shown a b c none opens ends = record {
   failed = ends.failed;
   may = ends.may;
-  reads = reads_opened task o a b c opens ends.reads;
-  content = of_both a.told opens.content (told_before (λ f. shown.status ≢ 3 → shown.status ≢ 4 → OpenedShows task o f shown) (opening.only_read opens) ends.content)
+  reads = reads_opened task o a b c none opens ends.reads;
+  content = of_both a.tree.told (tells opens) (told_before (λ f. shown.status ≢ 3 → shown.status ≢ 4 → OpenedShows task o f shown) (opening.only_read opens) ends.content)
       (λ t tells h three four. opened_shows task o t.files shown tells (h three four));
 }
 
 -- a project that wasn't opened
-opening_alone : (task : Task) (o : Outage) (a b : State) → Opens (project_of task) None (Err o) a b → ReadsFor (Ok task) (IsOfProject (project_of task)) [] (was_out {A = Opened} (Err o)) a b
-opening_alone task o a b opens = for_plan (Ok task) (IsOfProject (project_of task)) [] (record {
-  only = record { asked = paths_of opens.once.more; looks = opens.once.looks };
-  distinct = opening.none_twice opens;
-  listed = IfSome_then a.told (opening_listed opens) (λ t within path has. inl (within path has));
+opening_alone : (task : Task) (o : Outage) (a b : Held) → a.kept ≡ [] → NoRepeats (paths_of b.kept) → Opens (project_of task) None (Err o) a b → ReadsFor (Ok task) (IsOfProject (project_of task)) [] (was_out {A = Opened} (Err o)) a.tree b.tree
+opening_alone task o a b none distinct opens = for_plan (Ok task) (IsOfProject (project_of task)) [] (record {
+  only = record { asked = paths_of opens.reads.once.more; looks = opens.reads.once.looks };
+  distinct = subst (λ kept. NoRepeats (paths_of kept)) (all_opened none opens) distinct;
+  listed = IfSome_then a.tree.told (opening_listed opens) (λ t within path has. inl (within path has));
 })
 
-pub ends_unopened : (task : Task) (o : Outage) (shown : Shown) (a b : State) → Opens (project_of task) None (Err o) a b → shown ≡ shown_out o → EndsFor (Ok task) (ShowsProject task) (ReadsFor (Ok task) (IsOfProject (project_of task)) []) shown a b
-ends_unopened task outage.Failed shown a b opens is = rw is (record { failed = true; may = broken task; reads = opening_alone task outage.Failed a b opens; content = of_each a.told (λ t three four. absurd (four refl)) })
-ends_unopened task (outage.Memory m) shown a b opens is = rw is (record { failed = false; may = lacking (Ok task); reads = opening_alone task (outage.Memory m) a b opens; content = of_each a.told (λ t three four. absurd (three refl)) })
+pub ends_unopened : (task : Task) (o : Outage) (shown : Shown) (a b : Held) → a.kept ≡ [] → NoRepeats (paths_of b.kept) → Opens (project_of task) None (Err o) a b → shown ≡ shown_out o
+    → EndsFor (Ok task) (ShowsProject task) (ReadsFor (Ok task) (IsOfProject (project_of task)) []) shown a.tree b.tree
+ends_unopened task outage.Failed shown a b none distinct opens is =
+    rw is (record { failed = true; may = broken task; reads = opening_alone task outage.Failed a b none distinct opens; content = of_each a.tree.told (λ t three four. absurd (four refl)) })
+ends_unopened task (outage.Memory m) shown a b none distinct opens is =
+    rw is (record { failed = false; may = lacking (Ok task); reads = opening_alone task (outage.Memory m) a b none distinct opens; content = of_each a.tree.told (λ t three four. absurd (three refl)) })

@@ -94,7 +94,7 @@ place_in p f xs =
 
 -- each version on the pages of a world stands in a folder
 stands_somewhere : {T : Type 0} (state : T → State) (w : WorldView T) (port : List ℕ) (v : Version) → OnPages (λ ps. HasVersion ps port v) (state_of state w) → OnPages (λ ps. (folder : Path) × ((state_of state w).origin.places port v ≡ Some folder)) (state_of state w)
-stands_somewhere state w port v has = by (state w.tree).told has
+stands_somewhere state w port v has = by (state w.archive.tree).told has
   where
     by : (o : Option Told) → IfSome (pages_in (layout_in w.learned) o) (λ ps. HasVersion ps port v) → IfSome (pages_in (layout_in w.learned) o) (λ ps. (folder : Path) × (places_in (layout_in w.learned) o port v ≡ Some folder))
     by None h = tt

@@ -17,6 +17,8 @@ use Rattle.vk_base.specs.declared.stops.Outage.TheVariants as outage
 use Rattle.vk_spec.proofs.OptionLemmas.{of_each}
 use Rattle.vk_spec.proofs.StateLemmas.{looks_nothing, looks_then, told_before}
 use Rattle.vk_spec.proofs.AskLemmas.{asked_then}
+use Rattle.vk_files.specs.Kept.{Held}
+use Rattle.vk_files.specs.Views.{ArchiveView, held}
 use Rattle.vk_opening.specs.Layouts.{Layout}
 use Rattle.vk_world.specs.Worlds.{Learned, WorldView, world_state, state_of, origin_on, page_paths_in, ArePagePaths, IsReadSince}
 use Rattle.vk_app.specs.declared.requests.Task.TheVariants as task
@@ -123,12 +125,12 @@ asked_each true two {a = a} {b = b} {c = c} calm x y =
 -- ---- the tree below a world
 
 -- what only asked a world only read its tree, no path that was read before, and only paths of pages
-only_read_once : {failed : Bool} (layout : Layout) (read : List Path) (before after : State) (l now : Learned)
-    → (world_state before l).origin ≡ origin_on layout read before
-    → OnlyAsked failed (world_state before l) (world_state after now) → IsReadSince (world_state after now).origin after
-    → ReadsOnce (IsOfPorts layout to_plan) read failed before after
+only_read_once : {failed : Bool} (layout : Layout) (read : List Path) (before after : Held) (l now : Learned)
+    → (world_state before l).origin ≡ origin_on layout read before.tree
+    → OnlyAsked failed (world_state before l) (world_state after now) → IsReadSince (world_state after now).origin after.tree
+    → ReadsOnce (IsOfPorts layout to_plan) read failed before.tree after.tree
 only_read_once layout read before after l now fresh only since =
-    let same : (world_state after now).origin ≡ origin_on layout read before = only.origin ∙ fresh in
+    let same : (world_state after now).origin ≡ origin_on layout read before.tree = only.origin ∙ fresh in
     record {
       only = record {
         asked = since.asked;
@@ -140,10 +142,10 @@ only_read_once layout read before after l now fresh only since =
         };
       };
       distinct = subst (λ o. NoRepeats (o.opened ++ since.asked)) same since.distinct;
-      listed = listed_on before.told refl (subst (λ o. IsSome o.told → ArePagePaths o.page_paths since.asked) same since.within);
+      listed = listed_on before.tree.told refl (subst (λ o. IsSome o.told → ArePagePaths o.page_paths since.asked) same since.within);
     }
   where
-    listed_on : (told : Option Told) → before.told ≡ told → (IsSome before.told → ArePagePaths (page_paths_in layout before.told) since.asked)
+    listed_on : (told : Option Told) → before.tree.told ≡ told → (IsSome before.tree.told → ArePagePaths (page_paths_in layout before.tree.told) since.asked)
         → IfSome told (λ t. (path : Path) → Contains since.asked path → IsOfPorts layout to_plan t.files path)
     listed_on None is within = tt
     listed_on (Some t) is within = λ path has. subst (λ told. IsOn told path) is (within (subst IsSome (sym is) refl) path has)
@@ -151,14 +153,14 @@ only_read_once layout read before after l now fresh only since =
         IsOn : Option Told → Path → Type 0
         IsOn told path = (port : _) × Contains (page_paths_in layout told port) path
 
--- the same of a world that was made on a tree, and gave it back
-pub tree_read_once : {T : Type 0} {failed : Bool} (layout : Layout) (read : List Path) (state : T → State) (was now : WorldView T) (tree left : T)
-    → was.tree ≡ tree → left ≡ now.tree → (state_of state was).origin ≡ origin_on layout read (state tree)
+-- the same of a world that was made over an archive, and gave its tree back
+pub tree_read_once : {T : Type 0} {failed : Bool} (layout : Layout) (read : List Path) (state : T → State) (was now : WorldView T) (archive : ArchiveView T) (left : T)
+    → was.archive ≡ archive → left ≡ now.archive.tree → (state_of state was).origin ≡ origin_on layout read (state archive.tree)
     → OnlyAsked failed (state_of state was) (state_of state now) → IsReadSince (state_of state now).origin (state left)
-    → ReadsOnce (IsOfPorts layout to_plan) read failed (state tree) (state left)
-tree_read_once {failed = failed} layout read state was now tree left one two fresh only since =
-    let fresh_there = fresh ∙ ap (λ t. origin_on layout read (state t)) (sym one) in
+    → ReadsOnce (IsOfPorts layout to_plan) read failed (state archive.tree) (state left)
+tree_read_once {failed = failed} layout read state was now archive left one two fresh only since =
+    let fresh_there = fresh ∙ ap (λ a. origin_on layout read (state a.tree)) (sym one) in
     let since_there = subst (λ t. IsReadSince (state_of state now).origin (state t)) two since in
-    let once = only_read_once layout read (state was.tree) (state now.tree) was.learned now.learned fresh_there only since_there in
-    subst (λ t. ReadsOnce (IsOfPorts layout to_plan) read failed (state t) (state left)) one
-    (subst (λ t. ReadsOnce (IsOfPorts layout to_plan) read failed (state was.tree) (state t)) (sym two) once)
+    let once = only_read_once layout read (held state was.archive) (held state now.archive) was.learned now.learned fresh_there only since_there in
+    subst (λ a. ReadsOnce (IsOfPorts layout to_plan) read failed (state a.tree) (state left)) one
+    (subst (λ t. ReadsOnce (IsOfPorts layout to_plan) read failed (state was.archive.tree) (state t)) (sym two) once)

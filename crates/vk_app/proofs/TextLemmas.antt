@@ -35,9 +35,6 @@ use Rattle.vk_model.specs.SettingViews.{instance_view, setting_view}
 use Rattle.vk_model.specs.declared.plans.Outcome.{Outcome}
 use Rattle.vk_model.specs.declared.plans.Outcome.TheVariants as outcome
 use Rattle.vk_opening.specs.Layouts.{Layout}
-use Rattle.vk_opening.specs.Views.{layout_view, opened_files}
-use Rattle.vk_opening.specs.declared.layouts.Start as made_start
-use Rattle.vk_files.specs.Kept.{paths_of}
 use Rattle.vk_pages.specs.Pages.{page_of}
 use Rattle.vk_world.specs.Worlds.{pages_in, places_in}
 use Rattle.vk_world.specs.VersionFolders.{place_in}
@@ -207,24 +204,24 @@ placed_limit wanted items spot e shown a b is limits only (short four) = record 
 
 -- ---- how it ends
 
-module _ (wanted : Wanted) (start : made_start.Start) (a b c : State) where
+module _ (wanted : Wanted) (layout : Layout) (read : List Path) (a b c : State) where
   abbrev Ends : Shown → Type 0
-  Ends shown = EndsFor (Ok (task.Abi wanted.project.now wanted.instance.now)) (ShowsSettled (task.Abi wanted.project.now wanted.instance.now) (setting_view wanted.setting.now) (layout_view start.layout))
-      (ReadsFor (Ok (task.Abi wanted.project.now wanted.instance.now)) (IsOfPorts (layout_view start.layout)) (paths_of (opened_files start))) shown a c
+  Ends shown = EndsFor (Ok (task.Abi wanted.project.now wanted.instance.now)) (ShowsSettled (task.Abi wanted.project.now wanted.instance.now) (setting_view wanted.setting.now) layout)
+      (ReadsFor (Ok (task.Abi wanted.project.now wanted.instance.now)) (IsOfPorts layout) read) shown a c
 
   -- what was read for the plan
   abbrev Reads : Bool → State → State → Type 0
-  Reads = ReadsOnce (IsOfPorts (layout_view start.layout) to_plan) (paths_of (opened_files start))
+  Reads = ReadsOnce (IsOfPorts layout to_plan) read
 
-  plan_reads : (failed : Bool) → Reads failed a b → c ≡ b → ReadsFor (Ok (task.Abi wanted.project.now wanted.instance.now)) (IsOfPorts (layout_view start.layout)) (paths_of (opened_files start)) failed a c
+  plan_reads : (failed : Bool) → Reads failed a b → c ≡ b → ReadsFor (Ok (task.Abi wanted.project.now wanted.instance.now)) (IsOfPorts layout) read failed a c
   plan_reads failed reads same = for_plan _ _ _ (subst (Reads failed a) (sym same) reads)
 
   abbrev ResolvesTo : Result Outcome (Stop CloseFault) → Type 0
-  ResolvesTo answer = IfSome a.told (λ t. Resolves (Settles (setting_view wanted.setting.now) (page_of (layout_view start.layout) t.files)) answer)
+  ResolvesTo answer = IfSome a.told (λ t. Resolves (Settles (setting_view wanted.setting.now) (page_of layout t.files)) answer)
 
   -- nothing was read besides, and this is shown
   still : (first shown : Shown) (failed : Bool) → MayEnd (Ok (task.Abi wanted.project.now wanted.instance.now)) first failed → (first.status ≢ 4 → failed ≡ false)
-      → IfSome a.told (λ t. first.status ≢ 3 → first.status ≢ 4 → ShowsSettled (task.Abi wanted.project.now wanted.instance.now) (setting_view wanted.setting.now) (layout_view start.layout) t.files first)
+      → IfSome a.told (λ t. first.status ≢ 3 → first.status ≢ 4 → ShowsSettled (task.Abi wanted.project.now wanted.instance.now) (setting_view wanted.setting.now) layout t.files first)
       → Reads failed a b → c ≡ b → EndsWith first shown → Ends shown
   still first shown failed may calm content reads same ends = ends_by (task.Abi wanted.project.now wanted.instance.now) _ _ first shown failed a c may calm content (plan_reads failed reads same) ends
 
@@ -235,39 +232,39 @@ module _ (wanted : Wanted) (start : made_start.Start) (a b c : State) where
 
   -- there is no plan
   rest_ends : (answer : Result Outcome (Stop CloseFault)) (found : Result (Option Spot) Outage) (shown : Shown) → HasNoPlan answer → found ≡ Ok None → ResolvesTo answer
-      → IfSome a.told (λ t. IsReady wanted.project.now wanted.setting.now start t.files) → Reads (has_failed answer || was_out found) a b → Untouched (shown_of wanted.project.now answer) shown b c → Ends shown
+      → IfSome a.told (λ t. IsReady wanted.project.now wanted.setting.now) → Reads (has_failed answer || was_out found) a b → Untouched (shown_of wanted.project.now answer) shown b c → Ends shown
   rest_ends answer found shown rest none resolves ready only u =
       let same : has_failed answer || was_out found ≡ has_failed answer = ap (λ f. has_failed answer || was_out f) none ∙ or_false (has_failed answer) in
       ends_with (task.Abi wanted.project.now wanted.instance.now) _ _ answer shown a c (inl refl)
-      (of_both a.told ready resolves (λ t r h three four. shows_rest wanted.project.now wanted.instance.now (setting_view wanted.setting.now) (layout_view start.layout) t.files answer rest r.most h three four))
+      (of_both a.told ready resolves (λ t r h three four. shows_rest wanted.project.now wanted.instance.now (setting_view wanted.setting.now) layout t.files answer rest r h three four))
       (plan_reads (has_failed answer) (subst (λ f. Reads f a b) same only) u.same) u.ends
 
   -- there is one
   plan_ends_so : (plan : Plan) (reasons : List made_reason.Reason) (found : Result (Option Spot) Outage) (shown : Shown) (s : CatalogueState Condition)
-      → s.pages ≡ pages_in (layout_view start.layout) a.told → s.origin.places ≡ places_in (layout_view start.layout) a.told → ResolvesTo (Ok (outcome.Planned plan reasons))
+      → s.pages ≡ pages_in layout a.told → s.origin.places ≡ places_in layout a.told → ResolvesTo (Ok (outcome.Planned plan reasons))
       → FindsIn (instance_view wanted.instance.now) (map item_view plan.items) found s → Reads (was_out found) a b → EndsInPlan wanted (map item_view plan.items) found shown b c → Ends shown
   plan_ends_so plan reasons (Ok None) shown s pages places resolves finds only u =
       still (printed 1 (not_planned (instance_view wanted.instance.now))) shown false (refused (task.Abi wanted.project.now wanted.instance.now) _) (λ four. refl)
-      (IfSome_then a.told resolves (λ t h three four. shows_unplanned wanted.project.now wanted.instance.now (setting_view wanted.setting.now) (layout_view start.layout) t.files (map item_view plan.items) (reasons_view reasons) h finds))
+      (IfSome_then a.told resolves (λ t h three four. shows_unplanned wanted.project.now wanted.instance.now (setting_view wanted.setting.now) layout t.files (map item_view plan.items) (reasons_view reasons) h finds))
       only u.same u.ends
   plan_ends_so plan reasons (Err o) shown s pages places resolves finds only u = out_ends o shown only u
   plan_ends_so plan reasons (Ok (Some spot)) shown s pages places resolves finds only e =
-      let stand = folders_told (layout_view start.layout) a.told (map item_view plan.items) spot.folders s pages places finds.2 in
+      let stand = folders_told layout a.told (map item_view plan.items) spot.folders s pages places finds.2 in
       let texts = told_before (λ f. shown.status ≢ 3 → shown.status ≢ 4 → SpotShows (shared_of wanted.project.now (setting_view wanted.setting.now)) (map item_view plan.items) spot shown f) only.only e.content in
       record {
         failed = e.failed;
         may = e.may;
-        reads = own_after _ _ _ only e.reads.only (IfSome_then a.told stand (λ t st path has. in_folder (layout_view start.layout) t.files (map item_view plan.items) spot.folders path st (e.reads.within path has)));
+        reads = own_after _ _ _ only e.reads.only (IfSome_then a.told stand (λ t st path has. in_folder layout t.files (map item_view plan.items) spot.folders path st (e.reads.within path has)));
         content = of_both a.told (of_both {R = λ t. StandsAndShows t.files plan spot shown} a.told stand texts (λ t st tx. (st, tx))) resolves
-            (λ t both h three four. shows_spot wanted.project.now wanted.instance.now (setting_view wanted.setting.now) (layout_view start.layout) t.files (map item_view plan.items) (reasons_view reasons) spot shown h finds.0 both.0 (both.1 three four));
+            (λ t both h three four. shows_spot wanted.project.now wanted.instance.now (setting_view wanted.setting.now) layout t.files (map item_view plan.items) (reasons_view reasons) spot shown h finds.0 both.0 (both.1 three four));
       }
     where
       StandsAndShows : Files → Plan → Spot → Shown → Type 0
-      StandsAndShows files plan spot shown = AreFolders (layout_view start.layout) files (map item_view plan.items) spot.folders
+      StandsAndShows files plan spot shown = AreFolders layout files (map item_view plan.items) spot.folders
           × (shown.status ≢ 3 → shown.status ≢ 4 → SpotShows (shared_of wanted.project.now (setting_view wanted.setting.now)) (map item_view plan.items) spot shown files)
 
   pub text_ends : (answer : Result Outcome (Stop CloseFault)) (found : Result (Option Spot) Outage) (shown : Shown) (s : CatalogueState Condition)
-      → s.pages ≡ pages_in (layout_view start.layout) a.told → s.origin.places ≡ places_in (layout_view start.layout) a.told → ResolvesTo answer → IfSome a.told (λ t. IsReady wanted.project.now wanted.setting.now start t.files)
+      → s.pages ≡ pages_in layout a.told → s.origin.places ≡ places_in layout a.told → ResolvesTo answer → IfSome a.told (λ t. IsReady wanted.project.now wanted.setting.now)
       → Finds (instance_view wanted.instance.now) answer found s → Reads (has_failed answer || was_out found) a b → EndsFound wanted answer found shown b c → Ends shown
   text_ends (Ok (outcome.Planned plan reasons)) found shown s pages places resolves ready finds only ends = plan_ends_so plan reasons found shown s pages places resolves finds only ends
   text_ends (Ok (outcome.Refused faults reasons)) found shown s pages places resolves ready finds only ends = rest_ends (Ok (outcome.Refused faults reasons)) found shown (tt {0}) finds resolves ready only ends

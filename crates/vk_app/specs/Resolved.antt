@@ -6,12 +6,11 @@ use Rattle.vk_spec.specs.Earlies.{Early}
 use Rattle.vk_resolution.specs.Outcomes as plain
 use Rattle.vk_base.specs.declared.stops.Stop.{Stop}
 use Rattle.vk_base.specs.declared.stops.Stop.TheVariants as stop
-use Rattle.vk_files.specs.Kept.{IsOf}
 use Rattle.vk_model.specs.FaultViews.{outcome_view}
 use Rattle.vk_model.specs.EarlyViews.{early_view}
 use Rattle.vk_model.specs.SettingViews.{setting_view}
 use Rattle.vk_model.specs.declared.plans.Outcome.{Outcome}
-use Rattle.vk_opening.specs.Views.{opened_files, layout_view}
+use Rattle.vk_opening.specs.Views.{layout_view}
 use Rattle.vk_opening.specs.declared.opens.Opened.{Opened}
 use Rattle.vk_opening.specs.declared.opens.Opened.TheVariants as opened
 use Rattle.vk_worklist.specs.declared.faults.CloseFault.{CloseFault}
@@ -23,7 +22,6 @@ use Rattle.vk_app.specs.Answers.{ShowsSettled, ShowsEarly}
 use Rattle.vk_app.specs.declared.requests.Task.{Task}
 use Rattle.vk_model.specs.declared.projects.Project.{Project}
 use Rattle.vk_model.specs.declared.settings.Setting.{Setting}
-use Rattle.vk_opening.specs.declared.layouts.Start.{Start}
 
 -- an outcome or an early line as what files come to
 abbrev pub resolution_of : Result plain.Outcome Early → Resolution
@@ -39,19 +37,18 @@ Resolves P (Err (stop.Memory m)) = Unit {0}
 
 -- what a task shows of what was opened: its early line, or what it shows under its setting
 abbrev pub OpenedShows : Task → Opened → Files → Shown → Type 0
-OpenedShows task (opened.Ready setting start) files shown = ShowsSettled task (setting_view setting) (layout_view start.layout) files shown
+OpenedShows task (opened.Ready setting layout) files shown = ShowsSettled task (setting_view setting) (layout_view layout) files shown
 OpenedShows task (opened.Refused e) files shown = ShowsEarly task (early_view e) files shown
 
 -- what is asked for then: on the ports' behalf, or nothing
 abbrev pub OpenedMayAsk : Opened → Purpose → Files → Path → Type 0
-OpenedMayAsk (opened.Ready setting start) purpose files path = IsOfPorts (layout_view start.layout) purpose files path
+OpenedMayAsk (opened.Ready setting layout) purpose files path = IsOfPorts (layout_view layout) purpose files path
 OpenedMayAsk (opened.Refused e) purpose files path = AsksNothing purpose files path
 
--- what was kept of files is theirs, and as many requirements are allowed as the words say
-pub record IsReady (project : Project) (setting : Setting) (start : Start) (files : Files) : Type 0 where
-  pub kept : IsOf files (opened_files start)
-  pub most : setting.max_facts ≡ project.max_facts
+-- as many requirements are allowed as the words say
+abbrev pub IsReady : Project → Setting → Type 0
+IsReady project setting = setting.max_facts ≡ project.max_facts
 
-abbrev pub IsOpenedFor : Project → Opened → Files → Type 0
-IsOpenedFor project (opened.Ready setting start) files = IsReady project setting start files
-IsOpenedFor project (opened.Refused e) files = Unit {0}
+abbrev pub IsOpenedFor : Project → Opened → Type 0
+IsOpenedFor project (opened.Ready setting layout) = IsReady project setting
+IsOpenedFor project (opened.Refused e) = Unit {0}

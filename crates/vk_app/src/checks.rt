@@ -11,7 +11,7 @@ ghost use Rattle.vk_model.specs.EarlyViews.{early_view};
 ghost use Rattle.vk_model.specs.FaultViews.{outcome_view};
 ghost use Rattle.vk_model.specs.SettingViews.{setting_view};
 ghost use Rattle.vk_model.specs.declared.projects.Project.{Project};
-ghost use Rattle.vk_opening.specs.Views.{layout_view, opened_files};
+ghost use Rattle.vk_opening.specs.Views.{layout_view};
 ghost use Rattle.vk_world.specs.Worlds.{state_of};
 ghost use Rattle.vk_check.specs.declared.verdicts.Verdict.TheVariants as the_verdict;
 ghost use Rattle.vk_app.specs.declared.requests.Task.TheVariants as task;
@@ -32,10 +32,11 @@ use std::marker::Brand;
 use std::sync::ledger::{Blank, Ledger};
 use vk_base::{List, Memory, Steps, Stop, Text, TreePath};
 use vk_check::{Verdict, check, compare};
+use vk_files::Archive;
 use vk_json::Why;
 use vk_model::lines::early_line;
 use vk_model::{Early, Outcome, Project, Setting};
-use vk_opening::Start;
+use vk_opening::Layout;
 use vk_report::report_bytes;
 use vk_tree::{ReadFault, Tree};
 use vk_worklist::CloseFault;
@@ -45,13 +46,17 @@ use vk_world::{Parts, World};
 const MOST_REPORT: u64 = 268_435_456;
 
 // The bytes of the report at a path.
-fn read_report<T: Tree>(tree: &mut T, path: &TreePath) -> Result<List<u8>, Stop<ReadFault>>
-    ensures seen { OnFiles (ReportIs path.now result) (T.state tree.old) }
+fn read_report<T: Tree>(
+    archive: &mut Archive<T>,
+    path: &TreePath,
+) -> Result<List<u8>, Stop<ReadFault>>
+    ensures seen { OnFiles (ReportIs path.now result) (T.state archive.old.tree) }
     ensures small { IfOk result (λ bytes. length bytes ≤ most_report) }
-    ensures reads { ReadsReport path.now (has_failed result) (T.state tree.old)
-        (T.state tree.new) }
+    ensures reads { ReadsReport path.now (has_failed result) (T.state archive.old.tree)
+        (T.state archive.new.tree) }
+    ensures kept { archive.new.kept ≡ archive.old.kept }
 {
-    tree.read(path, MOST_REPORT)
+    archive.read_apart(path, MOST_REPORT)
 }
 
 // The line of a report that isn't as it has to be.
@@ -189,18 +194,18 @@ fn judge_on<T: Tree>(
     checked: Checked<'_>,
     bytes: &[u8],
     setting: &Setting,
-    start: Start,
-    tree: T,
+    layout: Layout,
+    archive: Archive<T>,
 ) -> Ended<T>
-    requires ready { IfSome (T.state tree).told
-        (λ t. IsReady checked.project.now setting.now start t.files) }
+    requires ready { IfSome (T.state archive.tree).told
+        (λ t. IsReady checked.project.now setting.now) }
     requires small { length bytes.now ≤ most_report }
     ensures { EndsFor (Ok (task.Check checked.entry.project.now checked.entry.report.now))
-        (ShowsJudged bytes.now (setting_view setting.now) (layout_view start.layout))
-        (ReadsOnce (IsOfPorts (layout_view start.layout) to_plan) (paths_of (opened_files start)))
-        (end_view result.end) (T.state tree) (T.state result.tree) }
+        (ShowsJudged bytes.now (setting_view setting.now) (layout_view layout))
+        (ReadsOnce (IsOfPorts (layout_view layout) to_plan) (paths_of archive.kept))
+        (end_view result.end) (T.state archive.tree) (T.state result.tree) }
 {
-    let mut world = World::on(alloc, start, tree);
+    let mut world = World::on(archive, layout);
     let answer = judged_by::<T, Brand>(alloc, bytes, setting, &mut world, Blank::new(1));
     let Parts { tree, read } = world.into_parts();
     Ended {
@@ -216,24 +221,24 @@ pub fn check_on<T: Tree>(
     alloc: Global,
     checked: Checked<'_>,
     setting: &Setting,
-    start: Start,
-    mut tree: T,
+    layout: Layout,
+    mut archive: Archive<T>,
 ) -> Ended<T>
-    requires { IfSome (T.state tree).told
-        (λ t. IsReady checked.project.now setting.now start t.files) }
-    ensures { NoRepeats (paths_of (opened_files start))
+    requires { IfSome (T.state archive.tree).told
+        (λ t. IsReady checked.project.now setting.now) }
+    ensures { NoRepeats (paths_of archive.kept)
         → EndsFor (Ok (task.Check checked.entry.project.now checked.entry.report.now))
         (ShowsSettled (task.Check checked.entry.project.now checked.entry.report.now)
-        (setting_view setting.now) (layout_view start.layout))
+        (setting_view setting.now) (layout_view layout))
         (ReadsFor (Ok (task.Check checked.entry.project.now checked.entry.report.now))
-        (IsOfPorts (layout_view start.layout)) (paths_of (opened_files start)))
-        (end_view result.end) (T.state tree) (T.state result.tree) }
+        (IsOfPorts (layout_view layout)) (paths_of archive.kept))
+        (end_view result.end) (T.state archive.tree) (T.state result.tree) }
 {
-    match read_report(&mut tree, checked.report) {
-        Ok(bytes) => judge_on(alloc, checked, bytes.as_slice(), setting, start, tree),
+    match read_report(&mut archive, checked.report) {
+        Ok(bytes) => judge_on(alloc, checked, bytes.as_slice(), setting, layout, archive),
         Err(stop) => Ended {
             end: end_of_unread(alloc, checked.report, &stop),
-            tree,
+            tree: archive.into_tree(),
             read: None,
             outcome: None,
         },
@@ -245,25 +250,25 @@ pub fn check_refused<T: Tree>(
     alloc: Global,
     report: &TreePath,
     early: Early,
-    mut tree: T,
+    mut archive: Archive<T>,
 ) -> Ended<T>
     ensures { (project : Project) (earlier : List Path) → NoRepeats earlier →
         EndsFor (Ok (task.Check project report.now))
         (ShowsEarly (task.Check project report.now) (early_view early))
         (ReadsFor (Ok (task.Check project report.now)) AsksNothing earlier)
-        (end_view result.end) (T.state tree) (T.state result.tree) }
+        (end_view result.end) (T.state archive.tree) (T.state result.tree) }
 {
     let outcome = Outcome::Early(early);
-    match read_report(&mut tree, report) {
+    match read_report(&mut archive, report) {
         Ok(bytes) => Ended {
             end: end_against(alloc, bytes.as_slice(), &outcome),
-            tree,
+            tree: archive.into_tree(),
             read: None,
             outcome: Some(Ok(outcome)),
         },
         Err(stop) => Ended {
             end: end_of_unread(alloc, report, &stop),
-            tree,
+            tree: archive.into_tree(),
             read: None,
             outcome: Some(Ok(outcome)),
         },

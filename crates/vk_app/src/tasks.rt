@@ -1,14 +1,13 @@
 //! What is done for a task, over a tree.
-ghost use Rattle.std.specs.Prelude.{◌≡◌, ◌<◌, ◌≤◌, [], IfOk, IfSome, List, Ok, true};
+ghost use Rattle.std.specs.Prelude.{◌≡◌, ◌<◌, ◌≤◌, [], IfOk, IfSome, List, Ok};
 ghost use Rattle.vk_spec.specs.Lists.{NoRepeats};
 ghost use Rattle.vk_spec.specs.Catalogues.{OnlyAsked, OnPages};
 ghost use Rattle.vk_base.specs.Stops.{has_failed};
 ghost use Rattle.vk_spec.specs.Paths.{Path};
-ghost use Rattle.vk_files.specs.Kept.{IsOf, Kept, paths_of};
+ghost use Rattle.vk_files.specs.Kept.{paths_of};
 ghost use Rattle.vk_model.specs.EarlyViews.{early_view};
 ghost use Rattle.vk_model.specs.SettingViews.{setting_view};
-ghost use Rattle.vk_opening.specs.Opened.{IsKept};
-ghost use Rattle.vk_opening.specs.Views.{layout_view, opened_files};
+ghost use Rattle.vk_opening.specs.Views.{layout_view};
 ghost use Rattle.vk_world.specs.Worlds.{state_of};
 ghost use Rattle.vk_app.specs.declared.requests.Task.TheVariants as task;
 ghost use Rattle.vk_pages.specs.Pages.{page_of};
@@ -33,9 +32,10 @@ use std::alloc::Global;
 use std::marker::Brand;
 use std::sync::ledger::{Blank, Ledger};
 use vk_base::{Memory, Steps, Stop};
+use vk_files::Archive;
 use vk_gen::generate;
 use vk_model::{Early, Outcome, Project, Setting};
-use vk_opening::{Opened, Start};
+use vk_opening::{Layout, Opened};
 use vk_resolve::resolve;
 use vk_tree::{MemTree, Tree};
 use vk_worklist::CloseFault;
@@ -69,15 +69,19 @@ struct Resolved<T> {
 }
 
 // What a setting comes to, over the tree on which it was opened.
-fn resolved_on<T: Tree>(alloc: Global, setting: &Setting, start: Start, tree: T) -> Resolved<T>
-    requires { IfSome (T.state tree).told (λ t. IsOf t.files (opened_files start)) }
-    ensures content { IfSome (T.state tree).told (λ t. Resolves (Settles (setting_view setting.now)
-        (page_of (layout_view start.layout) t.files)) result.outcome) }
-    ensures reads { ReadsOnce (IsOfPorts (layout_view start.layout) to_plan)
-        (paths_of (opened_files start)) (has_failed result.outcome) (T.state tree)
+fn resolved_on<T: Tree>(
+    alloc: Global,
+    setting: &Setting,
+    layout: Layout,
+    archive: Archive<T>,
+) -> Resolved<T>
+    ensures content { IfSome (T.state archive.tree).told (λ t. Resolves (Settles (setting_view setting.now)
+        (page_of (layout_view layout) t.files)) result.outcome) }
+    ensures reads { ReadsOnce (IsOfPorts (layout_view layout) to_plan)
+        (paths_of archive.kept) (has_failed result.outcome) (T.state archive.tree)
         (T.state result.tree) }
 {
-    let mut world = World::on(alloc, start, tree);
+    let mut world = World::on(archive, layout);
     let outcome = resolved_by::<T, Brand>(alloc, setting, &mut world, Blank::new(1));
     let Parts { tree, read } = world.into_parts();
     Resolved {
@@ -92,18 +96,18 @@ fn plan_on<T: Tree>(
     alloc: Global,
     project: &Project,
     setting: &Setting,
-    start: Start,
-    tree: T,
+    layout: Layout,
+    archive: Archive<T>,
 ) -> Ended<T>
-    requires { IfSome (T.state tree).told
-        (λ t. IsReady project.now setting.now start t.files) }
+    requires { IfSome (T.state archive.tree).told
+        (λ t. IsReady project.now setting.now) }
     ensures { EndsFor (Ok (task.Plan project.now))
-        (ShowsSettled (task.Plan project.now) (setting_view setting.now) (layout_view start.layout))
+        (ShowsSettled (task.Plan project.now) (setting_view setting.now) (layout_view layout))
         (ReadsFor (Ok (task.Plan project.now))
-        (IsOfPorts (layout_view start.layout)) (paths_of (opened_files start)))
-        (end_view result.end) (T.state tree) (T.state result.tree) }
+        (IsOfPorts (layout_view layout)) (paths_of archive.kept))
+        (end_view result.end) (T.state archive.tree) (T.state result.tree) }
 {
-    let found = resolved_on(alloc, setting, start, tree);
+    let found = resolved_on(alloc, setting, layout, archive);
     Ended {
         end: end_of_resolved(alloc, project, &found.outcome),
         tree: found.tree,
@@ -118,19 +122,19 @@ fn load_on<T: Tree>(
     size: u32,
     project: &Project,
     setting: &Setting,
-    start: Start,
-    tree: T,
+    layout: Layout,
+    archive: Archive<T>,
 ) -> Ended<T>
-    requires { IfSome (T.state tree).told
-        (λ t. IsReady project.now setting.now start t.files) }
+    requires { IfSome (T.state archive.tree).told
+        (λ t. IsReady project.now setting.now) }
     ensures { EndsFor (Ok (task.SelfLoad size project.now))
         (ShowsSettled (task.SelfLoad size project.now) (setting_view setting.now)
-        (layout_view start.layout))
+        (layout_view layout))
         (ReadsFor (Ok (task.SelfLoad size project.now))
-        (IsOfPorts (layout_view start.layout)) (paths_of (opened_files start)))
-        (end_view result.end) (T.state tree) (T.state result.tree) }
+        (IsOfPorts (layout_view layout)) (paths_of archive.kept))
+        (end_view result.end) (T.state archive.tree) (T.state result.tree) }
 {
-    let found = resolved_on(alloc, setting, start, tree);
+    let found = resolved_on(alloc, setting, layout, archive);
     Ended {
         end: end_of_load(alloc, size, project, &found.outcome),
         tree: found.tree,
@@ -140,17 +144,22 @@ fn load_on<T: Tree>(
 }
 
 // Writes the ABI text that is wanted, over the tree on which its setting was opened.
-fn text_on<T: Tree>(alloc: Global, wanted: Wanted<'_>, start: Start, tree: T) -> Ended<T>
-    requires { IfSome (T.state tree).told
-        (λ t. IsReady wanted.project.now wanted.setting.now start t.files) }
+fn text_on<T: Tree>(
+    alloc: Global,
+    wanted: Wanted<'_>,
+    layout: Layout,
+    archive: Archive<T>,
+) -> Ended<T>
+    requires { IfSome (T.state archive.tree).told
+        (λ t. IsReady wanted.project.now wanted.setting.now) }
     ensures { EndsFor (Ok (task.Abi wanted.entry.project.now wanted.entry.instance.now))
         (ShowsSettled (task.Abi wanted.entry.project.now wanted.entry.instance.now)
-        (setting_view wanted.entry.setting.now) (layout_view start.layout))
+        (setting_view wanted.entry.setting.now) (layout_view layout))
         (ReadsFor (Ok (task.Abi wanted.entry.project.now wanted.entry.instance.now))
-        (IsOfPorts (layout_view start.layout)) (paths_of (opened_files start)))
-        (end_view result.end) (T.state tree) (T.state result.tree) }
+        (IsOfPorts (layout_view layout)) (paths_of archive.kept))
+        (end_view result.end) (T.state archive.tree) (T.state result.tree) }
 {
-    let mut world = World::on(alloc, start, tree);
+    let mut world = World::on(archive, layout);
     let outcome = resolved_by::<T, Brand>(alloc, wanted.setting, &mut world, Blank::new(1));
     let found = find_spot(alloc, &mut world, wanted, &outcome);
     let Parts { mut tree, read } = world.into_parts();
@@ -167,32 +176,32 @@ fn done_on<T: Tree>(
     alloc: Global,
     task: &Task,
     setting: &Setting,
-    start: Start,
-    tree: T,
+    layout: Layout,
+    archive: Archive<T>,
 ) -> Ended<T>
-    requires { IfSome (T.state tree).told
-        (λ t. IsReady (project_of task.now) setting.now start t.files) }
-    ensures { NoRepeats (paths_of (opened_files start)) → EndsFor (Ok task.now)
-        (ShowsSettled task.now (setting_view setting.now) (layout_view start.layout))
-        (ReadsFor (Ok task.now) (IsOfPorts (layout_view start.layout))
-        (paths_of (opened_files start)))
-        (end_view result.end) (T.state tree) (T.state result.tree) }
+    requires { IfSome (T.state archive.tree).told
+        (λ t. IsReady (project_of task.now) setting.now) }
+    ensures { NoRepeats (paths_of archive.kept) → EndsFor (Ok task.now)
+        (ShowsSettled task.now (setting_view setting.now) (layout_view layout))
+        (ReadsFor (Ok task.now) (IsOfPorts (layout_view layout))
+        (paths_of archive.kept))
+        (end_view result.end) (T.state archive.tree) (T.state result.tree) }
 {
     match task {
-        Task::Plan(project) => plan_on(alloc, project, setting, start, tree),
+        Task::Plan(project) => plan_on(alloc, project, setting, layout, archive),
         Task::Abi(project, instance) => {
             let wanted = Wanted {
                 project,
                 instance,
                 setting,
             };
-            text_on(alloc, wanted, start, tree)
+            text_on(alloc, wanted, layout, archive)
         }
         Task::Check(project, report) => {
             let checked = Checked { project, report };
-            check_on(alloc, checked, setting, start, tree)
+            check_on(alloc, checked, setting, layout, archive)
         }
-        Task::SelfLoad(size, project) => load_on(alloc, *size, project, setting, start, tree),
+        Task::SelfLoad(size, project) => load_on(alloc, *size, project, setting, layout, archive),
     }
 }
 
@@ -211,45 +220,47 @@ fn refused<T>(alloc: Global, outcome: Outcome, tree: T) -> Ended<T>
 }
 
 // Does a task for a project that didn't open, by its early line.
-fn done_refused<T: Tree>(alloc: Global, task: &Task, early: Early, tree: T) -> Ended<T>
+fn done_refused<T: Tree>(alloc: Global, task: &Task, early: Early, archive: Archive<T>) -> Ended<T>
     ensures { (earlier : List Path) → NoRepeats earlier →
         EndsFor (Ok task.now) (ShowsEarly task.now (early_view early))
-        (ReadsFor (Ok task.now) AsksNothing earlier) (end_view result.end) (T.state tree)
-        (T.state result.tree) }
+        (ReadsFor (Ok task.now) AsksNothing earlier) (end_view result.end)
+        (T.state archive.tree) (T.state result.tree) }
 {
     match task {
-        Task::Plan(_) => refused(alloc, Outcome::Early(early), tree),
-        Task::Abi(_, _) => refused(alloc, Outcome::Early(early), tree),
-        Task::Check(_, report) => check_refused(alloc, report, early, tree),
-        Task::SelfLoad(_, _) => refused(alloc, Outcome::Early(early), tree),
+        Task::Plan(_) => refused(alloc, Outcome::Early(early), archive.into_tree()),
+        Task::Abi(_, _) => refused(alloc, Outcome::Early(early), archive.into_tree()),
+        Task::Check(_, report) => check_refused(alloc, report, early, archive),
+        Task::SelfLoad(_, _) => refused(alloc, Outcome::Early(early), archive.into_tree()),
     }
 }
 
 // Does a task for a project that was opened, or tells the early line.
-fn done_opened<T: Tree>(alloc: Global, task: &Task, opened: Opened, tree: T) -> Ended<T>
-    requires { IfSome (T.state tree).told (λ t. IsOpenedFor (project_of task.now) opened t.files) }
-    ensures { (read : Kept) → IsKept read (Ok opened) → NoRepeats (paths_of read)
-        → EndsFor (Ok task.now) (OpenedShows task.now opened)
-        (ReadsFor (Ok task.now) (OpenedMayAsk opened) (paths_of read)) (end_view result.end)
-        (T.state tree) (T.state result.tree) }
+fn done_opened<T: Tree>(alloc: Global, task: &Task, opened: Opened, archive: Archive<T>) -> Ended<T>
+    requires { IfSome (T.state archive.tree).told (λ t. IsOpenedFor (project_of task.now) opened) }
+    ensures { NoRepeats (paths_of archive.kept) → EndsFor (Ok task.now) (OpenedShows task.now opened)
+        (ReadsFor (Ok task.now) (OpenedMayAsk opened) (paths_of archive.kept))
+        (end_view result.end) (T.state archive.tree) (T.state result.tree) }
 {
     match opened {
-        Opened::Ready { setting, start } => done_on(alloc, task, &setting, start, tree),
-        Opened::Refused(early) => done_refused(alloc, task, early, tree),
+        Opened::Ready { setting, layout } => done_on(alloc, task, &setting, layout, archive),
+        Opened::Refused(early) => done_refused(alloc, task, early, archive),
     }
 }
 
 // Does a task over the files of a tree: opens its project and shows what it comes to.
-fn done_over<T: Tree>(alloc: Global, task: &Task, mut tree: T) -> Ended<T>
+fn done_over<T: Tree>(alloc: Global, task: &Task, tree: T) -> Ended<T>
     ensures { EndsFor (Ok task.now) (ShowsProject task.now)
         (ReadsFor (Ok task.now) (IsOfProject (project_of task.now)) []) (end_view result.end)
         (T.state tree) (T.state result.tree) }
 {
-    match World::open(alloc, &mut tree, task.project(), None) {
-        Ok(opened) => done_opened(alloc, task, opened, tree),
+    let mut archive = Archive::new(alloc, tree);
+    let opened = World::open(&mut archive, task.project(), None);
+    archive.known();
+    match opened {
+        Ok(opened) => done_opened(alloc, task, opened, archive),
         Err(outage) => Ended {
             end: end_of_outage(&outage),
-            tree,
+            tree: archive.into_tree(),
             read: None,
             outcome: None,
         },

@@ -1,11 +1,11 @@
 -- What is kept in a cache: looking a path up, and keeping one more.
 use Rattle.std.proofs.Common.{◌≡◌, true, false, List, [], ◌∷◌, refl, ap}
-use Rattle.std.specs.Prelude.{None}
+use Rattle.std.specs.Prelude.{Some, None, IsSome, Result, Ok, Err, IfOk}
 use Rattle.std.specs.Option.{is_some}
 use Rattle.std.specs.Map.{lookup, keys_of}
 use Rattle.std.proofs.lemmas.Slice.Eq.{slice_eq-Decides, bytes_eq-Decides}
 use Rattle.vk_spec.specs.Paths.{Path}
-use Rattle.vk_files.specs.Kept.{Kept, paths_of}
+use Rattle.vk_files.specs.Kept.{Seen, Kept, paths_of}
 use Rattle.vk_files.specs.Views.{same_path, seen_view, kept_at}
 use Rattle.vk_files.specs.declared.found.Found.{Found}
 use Rattle.vk_files.proofs.NotedLemmas.{noted, none_noted}
@@ -26,3 +26,11 @@ same_self path = (slice_eq-Decides bytes_eq-Decides path path _ refl).1 refl
 pub paths_kept : (es : List (Path × Found)) → paths_of (entries_kept es) ≡ keys_of es
 paths_kept [] = refl
 paths_kept (e ∷ es) = ap (λ ks. e.0 ∷ ks) (paths_kept es)
+
+-- what is found in what is kept is kept, whatever is answered of it
+pub kept_so : {kept now : Kept} {seen : Seen} (path : Path) → now ≡ kept → kept_at path kept ≡ Some seen → IsSome (kept_at path now)
+kept_so path same found = rw (same, found) refl
+
+pub ok_each : {A E P : Type 0} (r : Result A E) → P → IfOk r (λ x. P)
+ok_each (Ok x) p = p
+ok_each (Err e) p = tt

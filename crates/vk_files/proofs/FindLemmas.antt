@@ -15,7 +15,7 @@ use Rattle.vk_base.specs.Stops.{fault_seen, has_failed, is_failure, stop_fault_i
 use Rattle.vk_base.specs.declared.memory.Memory.{Memory}
 use Rattle.vk_base.specs.declared.stops.Stop.{Stop}
 use Rattle.vk_base.specs.declared.stops.Stop.TheVariants as stop
-use Rattle.vk_files.specs.Kept.{Seen, Kept, seen_at, Held, ReadOnce}
+use Rattle.vk_files.specs.Kept.{Seen, Kept, seen_at, Held, ReadOnce, IsFaithful}
 use Rattle.vk_files.specs.Views.{kept_at}
 use Rattle.vk_files.specs.Within.{LooksWithin, paths_after}
 use Rattle.vk_files.specs.Finds.{IsLearned, Reads, Finds, NothingKnown, ReadsFrom}
@@ -28,7 +28,7 @@ pub learned_here : {failed : Bool} {Holds : Files → Type 0} {paths : Files →
     → ((f : Files) → Before f → After f × Holds f) → Reads failed Holds paths Before After h h
 learned_here {paths = paths} {h = h} calm holds = record {
   once = rw calm (nothing_read h);
-  learned = of_each h.tree.told (λ t old before. let both = holds t.files before in record { right = both.0; holds = both.1; within = nothing_since (paths t.files) h.kept });
+  learned = of_each h.tree.told (λ t before. let both = holds t.files before in record { right = both.0; holds = both.1; within = nothing_since (paths t.files) h.kept });
 }
 
 -- the same in other words, where as much was known before, and of more paths
@@ -37,9 +37,9 @@ pub learned_so : {failed other : Bool} {Holds OtherHolds : Files → Type 0} {pa
     → Reads failed Holds paths Before After a b → Reads other OtherHolds others OtherBefore OtherAfter a b
 learned_so {a = a} same earlier later one = record {
   once = rw same one.once;
-  learned = of_both a.tree.told one.learned one.learned (λ t one _ old before.
+  learned = of_both a.tree.told one.learned one.learned (λ t one _ before.
       let start = earlier t.files before in
-      let found = one old start.0 in
+      let found = one start.0 in
       let both = later t.files before found.right found.holds in
       record { right = both.0; holds = both.1; within = within_wider start.1 found.within });
 }
@@ -50,10 +50,10 @@ pub learned_then : {failed : Bool} {First Next Holds : Files → Type 0} {first 
     → ((f : Files) → Between f → First f → Known f × IsWithin (first f) (paths f) × IsWithin (next f) (paths f) × (Next f → Holds f)) → Reads failed Holds paths Before After a c
 learned_then {Next = Next} {next = next} {Known = Known} {After = After} {a = a} {b = b} {c = c} one then join = record {
   once = once_then one.once then.once;
-  learned = of_both a.tree.told one.learned (known_before (λ f. Known f → IsLearned (After f) (Next f) (next f) b.kept c.kept) one.once then.learned) (λ t one then old before.
-      let first = one old before in
+  learned = of_both a.tree.told one.learned (known_before (λ f. Known f → IsLearned (After f) (Next f) (next f) b.kept c.kept) one.once then.learned) (λ t one then before.
+      let first = one before in
       let joins = join t.files first.right first.holds in
-      let next = then old joins.0 in
+      let next = then joins.0 in
       record { right = next.right; holds = joins.3 next.holds; within = within_then (within_wider joins.1 first.within) (within_wider joins.2 next.within) });
 }
 
@@ -143,12 +143,12 @@ module _ {X Y Z F P : Type 0} {refusal : F → P} {view : X → Y} {next_view : 
 
 module _ {X Y F P : Type 0} {refusal : F → P} {view : X → Y} {answer : Result X (Stop F)} {path : Path} where
   -- a path was looked at, and the answer goes by what was seen there
-  pub finds_seen : (meaning : Seen → Result Y P) (seen : Seen) {a b : Held} → ReadOnce false a b → LooksWithin (path ∷ []) a.kept b.kept → kept_at path b.kept ≡ Some seen → has_failed answer ≡ false → Gives view (fault_seen refusal) answer (meaning seen)
+  pub finds_seen : (meaning : Seen → Result Y P) (seen : Seen) {a b : Held} → IsFaithful a → ReadOnce false a b → LooksWithin (path ∷ []) a.kept b.kept → kept_at path b.kept ≡ Some seen → has_failed answer ≡ false → Gives view (fault_seen refusal) answer (meaning seen)
       → ReadsFrom refusal view answer (λ f. meaning (seen_at path f)) (λ f. path ∷ []) a b
-  finds_seen meaning seen {a = a} {b = b} once looks found calm gives = record {
+  finds_seen meaning seen {a = a} {b = b} faithful once looks found calm gives = record {
     reads = record {
       once = rw calm once;
-      learned = of_both a.tree.told (still_right once) (still_right once) (λ t right _ old known.
+      learned = of_both a.tree.told faithful (still_right once) (λ t old right known.
           let is = seen_there path seen t.files b.kept (right old) found in
           record { right = tt; holds = subst (λ x. Gives view (fault_seen refusal) answer (meaning x)) is gives; within = looks });
     };
@@ -158,7 +158,7 @@ module _ {X Y F P : Type 0} {refusal : F → P} {view : X → Y} {answer : Resul
   pub finds_unseen : (s : Stop F) {meaning : Files → Result Y P} {a b : Held} → ReadOnce (is_failure s) a b → LooksWithin (path ∷ []) a.kept b.kept → stop_fault_in s ≡ None → IsErrAnd answer (λ e. e ≡ s) → ReadsFrom refusal view answer meaning (λ f. path ∷ []) a b
   finds_unseen s {meaning = meaning} {a = a} once looks no_fault is =
       let p = err_from_is_err_and answer is in
-      rw (p.1, p.2) (record { reads = record { once = once; learned = of_each a.tree.told (λ t old known. record { right = tt; holds = fails s no_fault (meaning t.files); within = looks }) } })
+      rw (p.1, p.2) (record { reads = record { once = once; learned = of_each a.tree.told (λ t known. record { right = tt; holds = fails s no_fault (meaning t.files); within = looks }) } })
     where
       fails : (s : Stop F) → stop_fault_in s ≡ None → (r : Result Y P) → Fails (fault_seen refusal s) r
       fails (stop.Fault f) none r = (cc)

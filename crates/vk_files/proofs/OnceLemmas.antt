@@ -6,19 +6,19 @@ use Rattle.std.proofs.lemmas.List.{append-nil, append_assoc, map-append}
 use Rattle.vk_spec.specs.Paths.{Path}
 use Rattle.vk_spec.specs.Standing.{Disk, disk_of}
 use Rattle.vk_spec.specs.Calls.{Answer, Made, Says, refuses, read_of, is_failed, noted}
-use Rattle.vk_spec.proofs.CallLemmas.{looks_of, says_of}
+use Rattle.vk_spec.proofs.CallLemmas.{looks_of, narrow_of, says_of}
 use Rattle.vk_tree.specs.declared.trees.ReadFault.{ReadFault}
 use Rattle.vk_tree.specs.declared.trees.ReadFault.TheVariants as read
 use Rattle.vk_tree.specs.Answers.{read_refusal}
 use Rattle.vk_files.specs.ReadFaults.{seen_by}
 use Rattle.vk_spec.specs.States.{Told, State, Looks}
 use Rattle.vk_spec.proofs.OptionLemmas.{of_each, of_both}
-use Rattle.vk_spec.proofs.StateLemmas.{looks_nothing, looks_then, told_before}
+use Rattle.vk_spec.proofs.StateLemmas.{looks_nothing, looks_then, narrow_nothing, narrow_then, told_before}
 use Rattle.vk_files.specs.Kept.{Seen, too_large, Kept, seen_in, paths_of, IsOf, IsSeen, Held, ReadOnce, most_bytes}
 use Rattle.vk_files.proofs.NoteLemmas.{right_more}
 
 pub nothing_read : (h : Held) → ReadOnce false h h
-nothing_read h = record { more = []; kept = sym (append-nil h.kept); looks = looks_nothing h.tree; right = of_each h.tree.told (λ t. tt) }
+nothing_read h = record { more = []; kept = sym (append-nil h.kept); looks = looks_nothing h.tree; narrow = narrow_nothing most_bytes h.tree; right = of_each h.tree.told (λ t. tt) }
 
 -- nothing was done, by what is kept and by the answer
 pub still_read : {failed : Bool} {kept now : Kept} {s : State} → failed ≡ false → now ≡ kept → ReadOnce failed (record { kept = kept; tree = s }) (record { kept = now; tree = s })
@@ -35,6 +35,7 @@ found_read {path = path} {answer = answer} {a = a} {b = b} seen r is_noted calm 
   more = (path, seen) ∷ [];
   kept = is;
   looks = subst (λ f. Looks (path ∷ []) f a b) calm (subst (λ asked. Looks asked (is_failed answer) a b) is_noted (looks_of refl r));
+  narrow = narrow_of r;
   right = one_right path seen a.told right;
 }
 
@@ -45,6 +46,7 @@ nothing_found {answer = answer} {a = a} {b = b} {kept = kept} r is_noted is = re
   more = [];
   kept = sym (append-nil kept);
   looks = subst (λ f. Looks [] f a b) is (subst (λ asked. Looks asked (is_failed answer) a b) is_noted (looks_of refl r));
+  narrow = narrow_of r;
   right = of_each a.told (λ t. tt);
 }
 
@@ -75,5 +77,6 @@ once_then {failed = failed} {a = a} {b = b} {c = c} x y = record {
   more = x.more ++ y.more;
   kept = y.kept ∙ ap (λ k. k ++ y.more) x.kept ∙ append_assoc a.kept x.more y.more;
   looks = subst (λ asked. Looks asked failed a.tree c.tree) (sym (map-append (λ e. e.0) x.more y.more)) (looks_then x.looks y.looks);
+  narrow = narrow_then x.narrow y.narrow;
   right = both_right x.more y.more a.tree.told x.right (told_before (λ f. IsOf f y.more) (record { asked = paths_of x.more; looks = x.looks }) y.right);
 }

@@ -3,7 +3,7 @@ use Rattle.std.specs.Prelude.{◌≡◌, ◌++◌, ℕ, Bool, List, length, map,
 use Rattle.std.specs.FinMap as files_map
 use Rattle.vk_spec.specs.Paths.{Path}
 use Rattle.vk_spec.specs.Files.{Files}
-use Rattle.vk_spec.specs.States.{State, Looks}
+use Rattle.vk_spec.specs.States.{State, Looks, IsNarrow}
 use Rattle.vk_files.specs.Notes.{AreRight}
 
 -- the longest file that is read, in bytes
@@ -42,9 +42,14 @@ pub record Held : Type 0 where
   pub kept : Kept
   pub tree : State
 
--- these paths were found, and what stands there is kept after what was kept before; nothing else was done. That none of them was kept before is what every cache keeps (`FileCache::known`)
+-- what is kept is what the tree has, where it tells its files
+abbrev pub IsFaithful : Held → Type 0
+IsFaithful held = IfSome held.tree.told (λ t. IsOf t.files held.kept)
+
+-- these paths were found, and what stands there is kept after what was kept before; no call was to give more bytes than the longest file has, and nothing else was done. That none of them was kept before is what every archive keeps (`Archive::known`)
 pub record ReadOnce (failed : Bool) (before after : Held) : Type 0 where
   pub more : Kept
   pub kept : after.kept ≡ before.kept ++ more
   pub looks : Looks (paths_of more) failed before.tree after.tree
+  pub narrow : IsNarrow most_bytes before.tree after.tree
   pub right : IfSome before.tree.told (λ t. IsOf t.files more)

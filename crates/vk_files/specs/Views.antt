@@ -1,4 +1,4 @@
--- What contracts see of what is kept, and of why a file gave nothing.
+-- What contracts see of what is kept, and of an archive.
 use Rattle.std.specs.Prelude.{Bool, map, Option}
 use Rattle.std.specs.Cmp.Lexicographic.{pointwise}
 use Rattle.std.specs.Str.{bytes_eq}
@@ -27,6 +27,15 @@ kept_of cache = map (λ e. (e.0, seen_view e.1)) cache.found.entries
 abbrev pub kept_at : Path → Kept → Option Seen
 kept_at path kept = lookup (same_path path) kept
 
--- a tree, with what is kept of it
-abbrev pub held : FileCache → State → Held
-held cache tree = record { kept = kept_of cache; tree = tree }
+-- a tree, with what a cache keeps of it
+abbrev pub cached : FileCache → State → Held
+cached cache tree = record { kept = kept_of cache; tree = tree }
+
+-- what contracts see of an archive: what was read, by path, and the tree
+pub record ArchiveView (T : Type 0) : Type 0 where
+  pub kept : Kept
+  pub tree : T
+
+-- the same, by what is known of the tree
+abbrev pub held : {T : Type 0} → (T → State) → ArchiveView T → Held
+held state archive = record { kept = archive.kept; tree = state archive.tree }

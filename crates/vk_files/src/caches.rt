@@ -9,7 +9,7 @@ ghost use Rattle.vk_spec.specs.Calls.{Says, NoLonger, read_of, noted};
 ghost use Rattle.vk_tree.specs.Answers.{read_answer, read_failed};
 ghost use Rattle.vk_files.specs.Kept.{ReadOnce, most_bytes, paths_of, seen_in};
 ghost use Rattle.vk_files.specs.Notes.{IsNoteAt};
-ghost use Rattle.vk_files.specs.Views.{held, kept_of, kept_at, same_path, seen_view};
+ghost use Rattle.vk_files.specs.Views.{cached, kept_of, kept_at, same_path, seen_view};
 ghost use Rattle.vk_files.specs.Within.{LooksWithin};
 ghost use Rattle.vk_base.specs.Stops.{has_failed, stop_fault_in};
 ghost use Rattle.vk_files.specs.StopViews.{noted_by};
@@ -22,7 +22,7 @@ use vk_base::{List, Stop, TreePath};
 use vk_json::Scratch;
 use vk_tree::{ReadFault, Tree};
 
-/// The longest file that is read, in bytes.
+/// The longest file that is kept, in bytes.
 pub const MOST_BYTES: u64 = 16_777_216;
 
 /// What was read of a tree, by path. What stands at a path is kept, so that no path is read twice.
@@ -63,7 +63,7 @@ fn found_in<F>(read: Result<List<u8>, Stop<ReadFault>>) -> Result<Found, Stop<F>
 
 impl FileCache {
     /// Nothing was read yet. Takes no memory.
-    pub fn new(alloc: Global) -> FileCache
+    pub(crate) fn new(alloc: Global) -> FileCache
         ensures { kept_of result ≡ [] }
     {
         FileCache {
@@ -73,14 +73,14 @@ impl FileCache {
     }
 
     /// Tells a caller what every cache keeps: no path stands twice.
-    pub fn known(&self)
+    pub(crate) fn known(&self)
         ensures { NoRepeats (paths_of (kept_of self.now)) }
     {
         let _ = self.found.len();
     }
 
     /// How many paths were looked at.
-    pub fn len(&self) -> usize
+    pub(crate) fn len(&self) -> usize
         ensures { result ≡ length (kept_of self.now) }
     {
         self.found.len()
@@ -100,8 +100,8 @@ impl FileCache {
     #[tactic(auto, using(crate::proofs::OnceLemmas::still_read, crate::proofs::OnceLemmas::found_read, crate::proofs::OnceLemmas::nothing_found, crate::proofs::OnceLemmas::seen_told, crate::proofs::WithinLemmas::none_since, crate::proofs::WithinLemmas::one_since))]
     fn ask<T: Tree, F>(&mut self, tree: &mut T, path: &TreePath) -> Result<usize, Stop<F>>
         requires { kept_at path.now (kept_of self.old) ≡ None }
-        ensures once { ReadOnce (has_failed result) (held self.old (T.state tree.old))
-            (held self.new (T.state tree.new)) }
+        ensures once { ReadOnce (has_failed result) (cached self.old (T.state tree.old))
+            (cached self.new (T.state tree.new)) }
         ensures within { LooksWithin (path.now ∷ []) (kept_of self.old) (kept_of self.new) }
         ensures there { IfOk result (IsNoteAt (same_path path.now) (kept_of self.new)) }
         ensures no_fault { IfErr result (λ e. stop_fault_in e ≡ None) }
@@ -118,9 +118,13 @@ impl FileCache {
     /// what stands there, counted from 0. It finds no fault, of whatever type the caller's faults
     /// are.
     #[tactic(auto, using(crate::proofs::WithinLemmas::nothing_since))]
-    pub fn look<T: Tree, F>(&mut self, tree: &mut T, path: &TreePath) -> Result<usize, Stop<F>>
-        ensures once { ReadOnce (has_failed result) (held self.old (T.state tree.old))
-            (held self.new (T.state tree.new)) }
+    pub(crate) fn look<T: Tree, F>(
+        &mut self,
+        tree: &mut T,
+        path: &TreePath,
+    ) -> Result<usize, Stop<F>>
+        ensures once { ReadOnce (has_failed result) (cached self.old (T.state tree.old))
+            (cached self.new (T.state tree.new)) }
         ensures within { LooksWithin (path.now ∷ []) (kept_of self.old) (kept_of self.new) }
         ensures there { IfOk result (IsNoteAt (same_path path.now) (kept_of self.new)) }
         ensures no_fault { IfErr result (λ e. stop_fault_in e ≡ None) }
@@ -132,7 +136,7 @@ impl FileCache {
     }
 
     /// What stands at the path with this place.
-    pub fn at(&self, place: usize) -> &Found
+    pub(crate) fn at(&self, place: usize) -> &Found
         requires { place < length (kept_of self.now) }
         ensures { option_map (λ e. e.1) (slice_get (kept_of self.now) place)
             ≡ Some (seen_view result.now) }

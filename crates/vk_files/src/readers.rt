@@ -1,11 +1,11 @@
 //! Readers of files, how a file stands, and the first that is there.
-ghost use Rattle.std.specs.Prelude.{◌≡◌, ◌<◌, ◌^◌, ◌∷◌, [], List, ℕ, Ok, Result, IfSome};
+ghost use Rattle.std.specs.Prelude.{◌≡◌, ◌<◌, ◌^◌, ◌∷◌, [], List, ℕ, Ok, Result, IfOk, IfSome, IsSome, Some};
 ghost use Rattle.std.specs.Prelude.{length, false, option_map, slice_get};
 ghost use Rattle.std.specs.List.{find};
 ghost use Rattle.vk_spec.specs.Reading.{Gives};
 ghost use Rattle.vk_base.specs.Stops.{fault_in, has_failed, is_failure};
 ghost use Rattle.vk_json.specs.declared.faults.FileFault as faults;
-ghost use Rattle.vk_files.specs.Views.{held, kept_of, seen_view};
+ghost use Rattle.vk_files.specs.Views.{held, kept_at, kept_of, seen_view};
 ghost use Rattle.vk_files.specs.Finds.{ReadsFrom};
 ghost use Rattle.vk_files.specs.Within.{LooksWithin, up_to_first};
 ghost use Rattle.vk_base.specs.Stops.{fault_seen};
@@ -13,6 +13,7 @@ ghost use Rattle.vk_files.specs.Readings.{IsFaultOf, told_at, or_told, file_as, 
 ghost use Rattle.vk_files.specs.Readings.{standing_at, standing_by, is_there, is_at};
 ghost use Rattle.vk_files.specs.StandingViews.{standing_view};
 
+use crate::archives::Archive;
 use crate::bad_files::{BadFile, TellsBadFile};
 use crate::caches::FileCache;
 use crate::found::Found;
@@ -132,24 +133,6 @@ impl FileCache {
     }
 }
 
-/// What the file at a path means to a reader. `Fault` tells the place and the word of the first
-/// fault: the file is absent or too long, or what the reader says of its bytes.
-pub fn read_file<T: Tree, R: FileReader, F: TellsBadFile>(
-    alloc: Global,
-    files: &mut FileCache,
-    tree: &mut T,
-    path: &TreePath,
-    reader: &R,
-) -> Result<R::Out, Stop<F>>
-    ensures reads { ReadsFrom F.plain R.plain result
-        (file_as F.told (R.reads reader.now) path.now) (λ f. path.now ∷ [])
-        (held files.old (T.state tree.old)) (held files.new (T.state tree.new)) }
-    ensures within { LooksWithin (path.now ∷ []) (kept_of files.old) (kept_of files.new) }
-{
-    let place = files.look::<T, F>(tree, path)?;
-    told::<R, F>(path, files.read_at(alloc, place, reader))
-}
-
 fn standing_of(found: &Found) -> Standing
     ensures { standing_view result ≡ standing_by (seen_view found.now) }
 {
@@ -160,50 +143,61 @@ fn standing_of(found: &Found) -> Standing
     }
 }
 
-/// How the file at a path stands. It finds no fault.
-pub fn file_standing<T: Tree, F: TellsBadFile>(
-    files: &mut FileCache,
-    tree: &mut T,
-    path: &TreePath,
-) -> Result<Standing, Stop<F>>
-    ensures reads { ReadsFrom F.plain standing_view result (λ f. Ok (standing_at path.now f))
-        (λ f. path.now ∷ []) (held files.old (T.state tree.old))
-        (held files.new (T.state tree.new)) }
-    ensures within { LooksWithin (path.now ∷ []) (kept_of files.old) (kept_of files.new) }
-{
-    let place = files.look::<T, F>(tree, path)?;
-    Ok(standing_of(files.at(place)))
-}
-
-/// Whether a file stands at a path, be it too long or not. It finds no fault.
-pub fn file_is_at<T: Tree, F: TellsBadFile>(
-    files: &mut FileCache,
-    tree: &mut T,
-    path: &TreePath,
-) -> Result<bool, Stop<F>>
-    ensures { ReadsFrom F.plain (λ there. there) result (λ files. Ok (is_at files path.now))
-        (λ f. path.now ∷ []) (held files.old (T.state tree.old))
-        (held files.new (T.state tree.new)) }
-{
-    let standing = file_standing::<T, F>(files, tree, path)?;
-    Ok(standing.is_there())
-}
-
-/// The first of the paths at which a file stands; `None` exactly where none stands at any. No path
-/// after the first is looked at. It finds no fault.
-pub fn first_file<'a, T: Tree, F: TellsBadFile>(
-    files: &mut FileCache,
-    tree: &mut T,
-    paths: &'a [TreePath],
-) -> Result<Option<&'a TreePath>, Stop<F>>
-    ensures { ReadsFrom F.plain (option_map (λ path. path.now)) result
-        (λ files. Ok (find (is_at files) paths.now)) (λ files. up_to_first (is_at files) paths.now)
-        (held files.old (T.state tree.old)) (held files.new (T.state tree.new)) }
-{
-    for path in paths {
-        if file_is_at::<T, F>(files, tree, path)? {
-            return Ok(Some(path));
-        }
+impl<T: Tree> Archive<T> {
+    /// What the file at a path means to a reader; the file is kept. `Fault` tells the place and the word of the first
+    /// fault: the file is absent or too long, or what the reader says of its bytes.
+    pub fn read<R: FileReader, F: TellsBadFile>(
+        &mut self,
+        path: &TreePath,
+        reader: &R,
+    ) -> Result<R::Out, Stop<F>>
+        ensures reads { ReadsFrom F.plain R.plain result
+            (file_as F.told (R.reads reader.now) path.now) (λ f. path.now ∷ [])
+            (held T.state self.old) (held T.state self.new) }
+        ensures within { LooksWithin (path.now ∷ []) self.old.kept self.new.kept }
+        ensures there { IfOk result (λ _. IsSome (kept_at path.now self.new.kept)) }
+    {
+        let place = self.files.look::<T, F>(&mut self.tree, path)?;
+        told::<R, F>(path, self.files.read_at(self.alloc, place, reader))
     }
-    Ok(None)
+
+    /// How the file at a path stands, which is kept.
+    pub fn standing<F: TellsBadFile>(&mut self, path: &TreePath) -> Result<Standing, Stop<F>>
+        ensures reads { ReadsFrom F.plain standing_view result (λ f. Ok (standing_at path.now f))
+            (λ f. path.now ∷ []) (held T.state self.old) (held T.state self.new) }
+        ensures within { LooksWithin (path.now ∷ []) self.old.kept self.new.kept }
+        ensures there { IfOk result (λ standing. option_map standing_by
+            (kept_at path.now self.new.kept) ≡ Some (standing_view standing)) }
+    {
+        let place = self.files.look::<T, F>(&mut self.tree, path)?;
+        Ok(standing_of(self.files.at(place)))
+    }
+
+    /// Whether a file stands at a path, be it too long or not. No fault is told.
+    pub fn is_at<F: TellsBadFile>(&mut self, path: &TreePath) -> Result<bool, Stop<F>>
+        ensures { ReadsFrom F.plain (λ there. there) result (λ files. Ok (is_at files path.now))
+            (λ f. path.now ∷ []) (held T.state self.old) (held T.state self.new) }
+    {
+        let standing = self.standing::<F>(path)?;
+        Ok(standing.is_there())
+    }
+
+    /// The first of the paths at which a file stands; `None` exactly where none stands at any. No
+    /// path after the first is looked at. No fault is told.
+    pub fn first<'a, F: TellsBadFile>(
+        &mut self,
+        paths: &'a [TreePath],
+    ) -> Result<Option<&'a TreePath>, Stop<F>>
+        ensures { ReadsFrom F.plain (option_map (λ path. path.now)) result
+            (λ files. Ok (find (is_at files) paths.now))
+            (λ files. up_to_first (is_at files) paths.now)
+            (held T.state self.old) (held T.state self.new) }
+    {
+        for path in paths {
+            if self.is_at::<F>(path)? {
+                return Ok(Some(path));
+            }
+        }
+        Ok(None)
+    }
 }

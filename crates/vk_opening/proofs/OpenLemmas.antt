@@ -1,12 +1,10 @@
 -- What was read of a project is what is answered.
-use Rattle.std.proofs.Common.{◌≡◌, ℕ, List, [], ◌++◌, map, refl, ap, sym, subst, ◌∙◌}
-use Rattle.std.specs.Prelude.{IfSome, IfOk, Option, Result, Ok, Err}
-use Rattle.vk_spec.specs.Paths.{Path}
-use Rattle.vk_spec.specs.Lists.{NoRepeats, IsWithin}
-use Rattle.vk_spec.specs.States.{State, OnlyRead}
-use Rattle.vk_files.specs.Kept.{Kept, paths_of, IsOf, ReadOnce}
-use Rattle.vk_files.specs.Within.{LooksWithin}
+use Rattle.std.proofs.Common.{◌≡◌, ℕ, List, map, refl, sym}
+use Rattle.std.specs.Prelude.{IfOk, Option, Result, Ok, Err}
+use Rattle.vk_spec.specs.States.{OnlyRead}
+use Rattle.vk_files.specs.Kept.{Held, paths_of}
 use Rattle.vk_files.specs.Finds.{ReadsFrom}
+use Rattle.vk_files.proofs.FindLemmas.{learned_so}
 use Rattle.vk_base.specs.declared.stops.Stop.{Stop}
 use Rattle.vk_model.specs.Views.{override_view}
 use Rattle.vk_model.specs.declared.projects.Project.{Project}
@@ -30,11 +28,9 @@ use Rattle.vk_model.specs.Views.{manifest_view}
 use Rattle.vk_model.specs.SettingViews.{setting_view, instance_view}
 use Rattle.vk_rules.specs.RootSettings.{setting_of}
 use Rattle.vk_opening.specs.Opened.{Opens, ListsOwnOff}
-use Rattle.vk_opening.specs.Views.{triplets_view, overlay_view, opened_files}
+use Rattle.vk_opening.specs.Views.{triplets_view, overlay_view}
 use Rattle.vk_model.specs.declared.settings.Setting.{Setting}
-use Rattle.vk_opening.specs.declared.layouts.Start.{Start}
 use Rattle.vk_opening.specs.declared.opens.Opened.{Opened}
-use Rattle.vk_opening.specs.declared.opens.Opened.TheVariants as opened
 use Rattle.vk_base.specs.declared.stops.Outage.{Outage}
 use Rattle.vk_base.specs.declared.stops.Outage.TheVariants as outage
 use Rattle.std.specs.Result.{IsErrAnd}
@@ -43,7 +39,6 @@ use Rattle.vk_model.specs.declared.earlies.Early.{Early}
 use Rattle.vk_opening.specs.declared.opens.Opening.{Opening}
 use Rattle.vk_opening.specs.declared.opens.Found.{Found}
 use Rattle.vk_model.specs.declared.manifests.Manifest.{Manifest}
-use Rattle.vk_spec.proofs.OptionLemmas.{of_both}
 
 -- what was found is put together
 pub found_is : (project : Project) (root : Manifest) (config : Config) (found : Found)
@@ -61,34 +56,17 @@ lists_own setting (Ok l) lists = lists (map instance_view l) setting.max_facts
 lists_own setting (Err m) lists = tt
 
 -- memory ran out at the last
-pub answers_lacking : {opening : Opening} {kept : Kept} {answer : Result Opened Outage} {m : Memory} → IsErrAnd answer (λ e. e ≡ outage.Memory m) → Answers (Ok opening) kept answer
+pub answers_lacking : {opening : Opening} {answer : Result Opened Outage} {m : Memory} → IsErrAnd answer (λ e. e ≡ outage.Memory m) → Answers (Ok opening) answer
 answers_lacking {answer = answer} is =
     let p = err_from_is_err_and answer is in
-    rw (p.1, p.2) (record { failed = refl; keeps = tt; tells = λ given gives. tt })
+    rw (p.1, p.2) (record { failed = refl; tells = λ given gives. tt })
 
--- all that was kept was looked at since nothing was
-all_within : (paths : List Path) (kept now : Kept) → kept ≡ [] → LooksWithin paths kept now → IsWithin (paths_of now) paths
-all_within paths kept now none looks = subst (λ k. IsWithin (paths_of k) paths) (sym (looks.kept ∙ ap (λ k. k ++ looks.more) none)) looks.within
+-- what was read is answered
+pub opens_with : {project : Project} {store : Option Store} {read : Result Opening (Stop Early)} {answer : Result Opened Outage} {a b : Held}
+    → ReadsFrom early_view opening_view read (opened_with project store) (paths_with project store) a b → Answers read answer → Opens project store answer a b
+opens_with {project = project} {store = store} r answers =
+    record { reads = learned_so (sym answers.failed) (λ f known. (known, λ p has. has)) (λ f known after gives. (after, answers.tells (opened_with project store f) gives)) r.reads }
 
-pub opens_with : (project : Project) (store : Option Store) (read : Result Opening (Stop Early)) (answer : Result Opened Outage) (before after : State) (kept now : Kept) → kept ≡ [] → NoRepeats (paths_of now)
-    → ReadsFrom early_view opening_view read (opened_with project store) (paths_with project store) (record { kept = kept; tree = before }) (record { kept = now; tree = after })
-    → Answers read now answer → Opens project store answer before after
-opens_with project store read answer before after kept now none distinct r a =
-    let learned = of_both before.told r.reads.learned r.reads.learned (λ t all _. all (rw none tt) tt) in record {
-      read = now;
-      once = subst (λ f. ReadOnce f (record { kept = []; tree = before }) (record { kept = now; tree = after })) a.failed (rw none at r.reads.once);
-      distinct = distinct;
-      within = of_both before.told learned learned (λ t all _. all_within (paths_with project store t.files) kept now none all.within);
-      kept = a.keeps;
-      content = of_both before.told learned learned (λ t all _. a.tells (opened_with project store t.files) all.holds);
-    }
-
--- what a caller has of it: nothing but reading was done, no path twice, and what was read is the files'
-pub only_read : {project : Project} {store : Option Store} {answer : Result Opened Outage} {before after : State} → Opens project store answer before after → OnlyRead (was_out answer) before after
-only_read o = record { asked = paths_of o.once.more; looks = o.once.looks }
-
-pub none_twice : {project : Project} {store : Option Store} {answer : Result Opened Outage} {before after : State} (o : Opens project store answer before after) → NoRepeats (paths_of o.once.more)
-none_twice o = subst (λ kept. NoRepeats (paths_of kept)) o.once.kept o.distinct
-
-pub start_right : {project : Project} {store : Option Store} {setting : Setting} {start : Start} {before after : State} → Opens project store (Ok (opened.Ready setting start)) before after → IfSome before.told (λ t. IsOf t.files (opened_files start))
-start_right {before = before} o = of_both before.told o.once.right o.once.right (λ t right _. subst (IsOf t.files) (sym o.once.kept ∙ o.kept) right)
+-- what a caller has of it: nothing but reading was done
+pub only_read : {project : Project} {store : Option Store} {answer : Result Opened Outage} {before after : Held} → Opens project store answer before after → OnlyRead (was_out answer) before.tree after.tree
+only_read o = record { asked = paths_of o.reads.once.more; looks = o.reads.once.looks }

@@ -7,8 +7,6 @@ use Rattle.vk_resolution.specs.RootLaws.{with_off}
 use Rattle.vk_config.specs.Configs as plain_config
 use Rattle.vk_config.specs.Views.{config_view, embedded_view}
 use Rattle.vk_config.specs.declared.configs.Embedded.{Embedded}
-use Rattle.vk_files.specs.Kept.{Kept}
-use Rattle.vk_files.specs.Views.{kept_of}
 use Rattle.vk_opening.specs.Layouts as plain
 use Rattle.vk_opening.specs.Roots as plain_root
 use Rattle.vk_opening.specs.TripletFiles as plain_triplets
@@ -16,7 +14,6 @@ use Rattle.vk_opening.specs.Openings as plain_opening
 use Rattle.vk_opening.specs.declared.layouts.Overlay.{Overlay}
 use Rattle.vk_opening.specs.declared.layouts.Overlay.TheVariants as overlay
 use Rattle.vk_opening.specs.declared.layouts.Layout.{Layout}
-use Rattle.vk_opening.specs.declared.layouts.Start.{Start}
 use Rattle.vk_model.specs.declared.settings.Setting.{Setting}
 use Rattle.vk_opening.specs.declared.roots.OwnConfiguration.{OwnConfiguration}
 use Rattle.vk_opening.specs.declared.roots.Root.{Root}
@@ -43,9 +40,5 @@ abbrev pub triplets_view : Triplets → plain_triplets.Triplets
 triplets_view t = record { target = t.target; host = t.host }
 
 -- a setting, whatever is off in it, and a layout, together
-abbrev pub ready_view : Setting → Start → plain_opening.Opening
-ready_view setting start = record { setting = with_off (setting_view setting); layout = layout_view start.layout }
-
--- what opening read, by path
-abbrev pub opened_files : Start → Kept
-opened_files s = kept_of s.files
+abbrev pub ready_view : Setting → Layout → plain_opening.Opening
+ready_view setting layout = record { setting = with_off (setting_view setting); layout = layout_view layout }

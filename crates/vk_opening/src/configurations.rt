@@ -22,7 +22,7 @@ use crate::roots::OwnConfiguration;
 use std::alloc::Global;
 use vk_base::{Stop, TreePath, Unread};
 use vk_config::{Config, Embedded, read_config};
-use vk_files::{FileCache, FileReader, Standing, file_standing, read_file};
+use vk_files::{Archive, FileReader, Standing};
 use vk_json::{FileFault, Scratch};
 use vk_model::Early;
 use vk_tree::Tree;
@@ -94,72 +94,59 @@ fn embedded_in(
 }
 
 // The configuration file's configuration.
-fn config_file<T: Tree>(
-    alloc: Global,
-    files: &mut FileCache,
-    tree: &mut T,
-    folder: &TreePath,
-) -> Result<Config, Stop<Early>>
+fn config_file<T: Tree>(archive: &mut Archive<T>, folder: &TreePath) -> Result<Config, Stop<Early>>
     ensures { ReadsFrom early_view config_view result (early_at config_of (config_path folder.now))
-        (λ f. config_path folder.now ∷ []) (held files.old (T.state tree.old))
-        (held files.new (T.state tree.new)) }
+        (λ f. config_path folder.now ∷ []) (held T.state archive.old) (held T.state archive.new) }
 {
-    let path = config_path(alloc, folder)?;
-    read_file(alloc, files, tree, &path, &ConfigFile)
+    let path = config_path(archive.alloc(), folder)?;
+    archive.read(&path, &ConfigFile)
 }
 
 // The configuration file's configuration, unless the root manifest has one too.
 fn alone_in<T: Tree>(
-    alloc: Global,
-    files: &mut FileCache,
-    tree: &mut T,
+    archive: &mut Archive<T>,
     folder: &TreePath,
     own: &OwnConfiguration,
 ) -> Result<Config, Stop<Early>>
     ensures { ReadsFrom early_view config_view result
         (alone_in folder.now (configuration_view own.now)) (λ f. config_path folder.now ∷ [])
-        (held files.old (T.state tree.old)) (held files.new (T.state tree.new)) }
+        (held T.state archive.old) (held T.state archive.new) }
 {
     if own.is_there {
         return Err(Stop::Fault(Early::TwoConfigurations));
     }
-    config_file(alloc, files, tree, folder)
+    config_file(archive, folder)
 }
 
 // The configuration, by how its file stands.
 fn config_by<T: Tree>(
-    alloc: Global,
-    files: &mut FileCache,
-    tree: &mut T,
+    archive: &mut Archive<T>,
     standing: Standing,
     folder: &TreePath,
     own: OwnConfiguration,
 ) -> Result<Config, Stop<Early>>
     ensures { ReadsFrom early_view config_view result
         (config_by (standing_view standing) folder.now (configuration_view own))
-        (λ f. config_path folder.now ∷ []) (held files.old (T.state tree.old))
-        (held files.new (T.state tree.new)) }
+        (λ f. config_path folder.now ∷ []) (held T.state archive.old) (held T.state archive.new) }
 {
     match standing {
-        Standing::Missing => embedded_in(alloc, folder, own),
-        Standing::TooLong => config_file(alloc, files, tree, folder),
-        Standing::Readable => alone_in(alloc, files, tree, folder, &own),
+        Standing::Missing => embedded_in(archive.alloc(), folder, own),
+        Standing::TooLong => config_file(archive, folder),
+        Standing::Readable => alone_in(archive, folder, &own),
     }
 }
 
 /// The configuration of the project in a folder, by what its root manifest has of one.
 pub fn read_configuration<T: Tree>(
-    alloc: Global,
-    files: &mut FileCache,
-    tree: &mut T,
+    archive: &mut Archive<T>,
     folder: &TreePath,
     own: OwnConfiguration,
 ) -> Result<Config, Stop<Early>>
     ensures { ReadsFrom early_view config_view result
         (config_in folder.now (configuration_view own)) (λ f. config_path folder.now ∷ [])
-        (held files.old (T.state tree.old)) (held files.new (T.state tree.new)) }
+        (held T.state archive.old) (held T.state archive.new) }
 {
-    let path = config_path(alloc, folder)?;
-    let standing = file_standing::<T, Early>(files, tree, &path)?;
-    config_by(alloc, files, tree, standing, folder, own)
+    let path = config_path(archive.alloc(), folder)?;
+    let standing = archive.standing::<Early>(&path)?;
+    config_by(archive, standing, folder, own)
 }

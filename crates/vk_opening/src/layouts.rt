@@ -1,7 +1,6 @@
 use std::rc::Rc;
 use vk_base::{List, TreePath};
 use vk_config::Config;
-use vk_files::FileCache;
 use vk_model::Manifest;
 use vk_rules::Overrides;
 
@@ -25,13 +24,4 @@ pub struct Layout {
     pub overlays: List<Overlay>,
     /// The versions that the root manifest sets.
     pub overrides: Overrides,
-}
-
-/// A layout, and all that was read for it.
-#[derive(Drop)]
-pub struct Start {
-    /// What is known of the project.
-    pub layout: Layout,
-    /// All that was read, by path.
-    pub files: FileCache,
 }

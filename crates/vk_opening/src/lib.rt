@@ -14,7 +14,7 @@ mod stores;
 mod triplet_files;
 
 pub use laws::{early_files, first_triplet, kept_apart, two_places};
-pub use layouts::{Layout, Overlay, Start};
+pub use layouts::{Layout, Overlay};
 pub use opens::{Opened, open};
 pub use projects::{from_folder, manifest_path};
 pub use roots::PortFile;

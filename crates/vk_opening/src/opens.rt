@@ -1,6 +1,6 @@
 //! Opening a project.
 ghost use Rattle.std.specs.Prelude.{◌≡◌, ◌∷◌, [], IfOk, Ok, Some, map, option_map};
-ghost use Rattle.vk_files.specs.Views.{held, kept_of};
+ghost use Rattle.vk_files.specs.Views.{held};
 ghost use Rattle.vk_files.specs.Finds.{ReadsFrom};
 ghost use Rattle.vk_config.specs.Views.{config_view};
 ghost use Rattle.vk_model.specs.EarlyViews.{early_view};
@@ -19,7 +19,7 @@ ghost use Rattle.vk_opening.specs.OpeningViews.{opening_view, opening_found, Ans
 ghost use Rattle.vk_resolution.specs.RootLaws.{with_off};
 
 use crate::configurations::read_configuration;
-use crate::layouts::{Layout, Overlay, Start};
+use crate::layouts::{Layout, Overlay};
 use crate::overlays::read_overlays;
 use crate::projects::{folders, manifest_path};
 use crate::roots::{Root, RootFile};
@@ -28,7 +28,7 @@ use crate::triplet_files::{Triplets, read_triplets};
 use std::alloc::Global;
 use vk_base::{FeatureName, Instance, List, Memory, Outage, Stop, TreePath};
 use vk_config::Config;
-use vk_files::{FileCache, read_file};
+use vk_files::Archive;
 use vk_model::{Early, Manifest, Project, Setting, Store};
 use vk_rules::{Overrides, off_list};
 use vk_tree::Tree;
@@ -36,13 +36,13 @@ use vk_tree::Tree;
 /// What the early files of a project give.
 #[derive(Drop)]
 pub enum Opened {
-    /// What a plan is made under, and what is known before any port is looked at.
-    Ready { setting: Setting, start: Start },
+    /// What a plan is made under, and what is known of the project before any port is looked at.
+    Ready { setting: Setting, layout: Layout },
     /// The first early line.
     Refused(Early),
 }
 
-// A setting, in which nothing is off yet, and a layout.
+// A setting, whatever is off in it, and a layout.
 #[derive(Drop)]
 struct Opening {
     setting: Setting,
@@ -65,67 +65,48 @@ struct Found {
     overlays: List<Overlay>,
 }
 
-fn read_root<T: Tree>(
-    alloc: Global,
-    files: &mut FileCache,
-    tree: &mut T,
-    folder: &TreePath,
-) -> Result<Root, Stop<Early>>
+fn read_root<T: Tree>(archive: &mut Archive<T>, folder: &TreePath) -> Result<Root, Stop<Early>>
     ensures { ReadsFrom early_view root_view result (early_at root_in (manifest_path folder.now))
-        (λ f. manifest_path folder.now ∷ []) (held files.old (T.state tree.old))
-        (held files.new (T.state tree.new)) }
+        (λ f. manifest_path folder.now ∷ []) (held T.state archive.old) (held T.state archive.new) }
 {
-    let path = manifest_path(alloc, folder)?;
-    read_file(alloc, files, tree, &path, &RootFile)
+    let path = manifest_path(archive.alloc(), folder)?;
+    archive.read(&path, &RootFile)
 }
 
 // The two triplets, in the folders of the words and of the configuration.
 fn triplets_of<T: Tree>(
-    alloc: Global,
-    files: &mut FileCache,
-    tree: &mut T,
+    archive: &mut Archive<T>,
     project: &Project,
     config: &Config,
 ) -> Result<Triplets, Stop<Early>>
     ensures { ReadsFrom early_view triplets_view result
         (triplets_of project.now (config_view config.now))
-        (triplets_asked project.now (config_view config.now)) (held files.old (T.state tree.old))
-        (held files.new (T.state tree.new)) }
+        (triplets_asked project.now (config_view config.now)) (held T.state archive.old) (held T.state archive.new) }
 {
     let configured = config.overlay_triplets.as_slice();
     let folders = folders(
-        alloc,
+        archive.alloc(),
         &project.folder,
         project.overlay_triplets.as_slice(),
         configured,
     )?;
-    read_triplets(
-        alloc,
-        files,
-        tree,
-        &project.target,
-        &project.host,
-        folders.as_slice(),
-    )
+    read_triplets(archive, &project.target, &project.host, folders.as_slice())
 }
 
 // The overlays, those of the words and then those of the configuration.
 fn overlays_of<T: Tree>(
-    alloc: Global,
-    files: &mut FileCache,
-    tree: &mut T,
+    archive: &mut Archive<T>,
     project: &Project,
     config: &Config,
 ) -> Result<List<Overlay>, Stop<Early>>
     ensures { ReadsFrom early_view (λ l. map overlay_view l) result
         (overlays_of project.now (config_view config.now))
-        (overlays_asked project.now (config_view config.now)) (held files.old (T.state tree.old))
-        (held files.new (T.state tree.new)) }
+        (overlays_asked project.now (config_view config.now)) (held T.state archive.old) (held T.state archive.new) }
 {
     let configured = config.overlay_ports.as_slice();
     let words = project.overlay_ports.as_slice();
-    let folders = folders(alloc, &project.folder, words, configured)?;
-    read_overlays(alloc, files, tree, folders)
+    let folders = folders(archive.alloc(), &project.folder, words, configured)?;
+    read_overlays(archive, folders)
 }
 
 // What the setting and the layout take from words and root manifest.
@@ -144,9 +125,7 @@ fn own_of(alloc: Global, project: &Project, root: &Manifest) -> Result<Own, Memo
 
 // The triplets and the overlays.
 fn read_found<T: Tree>(
-    alloc: Global,
-    files: &mut FileCache,
-    tree: &mut T,
+    archive: &mut Archive<T>,
     project: &Project,
     root: &Manifest,
     config: &Config,
@@ -154,12 +133,11 @@ fn read_found<T: Tree>(
     ensures { ReadsFrom early_view
         (opening_found project.now (manifest_view root.now) (config_view config.now)) result
         (after_config project.now (manifest_view root.now) (config_view config.now))
-        (found_paths project.now (config_view config.now)) (held files.old (T.state tree.old))
-        (held files.new (T.state tree.new)) }
+        (found_paths project.now (config_view config.now)) (held T.state archive.old) (held T.state archive.new) }
 {
-    let own = own_of(alloc, project, root)?;
-    let triplets = triplets_of(alloc, files, tree, project, config)?;
-    let overlays = overlays_of(alloc, files, tree, project, config)?;
+    let own = own_of(archive.alloc(), project, root)?;
+    let triplets = triplets_of(archive, project, config)?;
+    let overlays = overlays_of(archive, project, config)?;
     Ok(Found {
         own,
         triplets,
@@ -204,44 +182,36 @@ fn put_together(
 
 // The configuration, the triplets and the overlays, and all put together.
 fn read_rest<T: Tree>(
-    alloc: Global,
-    files: &mut FileCache,
-    tree: &mut T,
+    archive: &mut Archive<T>,
     project: &Project,
     root: Root,
 ) -> Result<Opening, Stop<Early>>
     ensures { ReadsFrom early_view opening_view result (after_root project.now (root_view root))
-        (rest_paths project.now (root_view root)) (held files.old (T.state tree.old))
-        (held files.new (T.state tree.new)) }
+        (rest_paths project.now (root_view root)) (held T.state archive.old) (held T.state archive.new) }
 {
     let Root {
         manifest,
         configuration,
     } = root;
-    let config = read_configuration(alloc, files, tree, &project.folder, configuration)?;
-    let found = read_found(alloc, files, tree, project, &manifest, &config)?;
-    Ok(put_together(alloc, project, manifest, config, found))
+    let config = read_configuration(archive, &project.folder, configuration)?;
+    let found = read_found(archive, project, &manifest, &config)?;
+    Ok(put_together(archive.alloc(), project, manifest, config, found))
 }
 
 fn read_opening<T: Tree>(
-    alloc: Global,
-    files: &mut FileCache,
-    tree: &mut T,
+    archive: &mut Archive<T>,
     project: &Project,
 ) -> Result<Opening, Stop<Early>>
     ensures { ReadsFrom early_view opening_view result (opened_of project.now)
-        (opening_paths project.now) (held files.old (T.state tree.old))
-        (held files.new (T.state tree.new)) }
+        (opening_paths project.now) (held T.state archive.old) (held T.state archive.new) }
 {
-    let root = read_root(alloc, files, tree, &project.folder)?;
-    read_rest(alloc, files, tree, project, root)
+    let root = read_root(archive, &project.folder)?;
+    read_rest(archive, project, root)
 }
 
 // What was opened, where packages can be kept in the store.
 fn stored<T: Tree>(
-    alloc: Global,
-    files: &mut FileCache,
-    tree: &mut T,
+    archive: &mut Archive<T>,
     project: &Project,
     store: &Store,
     opening: Opening,
@@ -249,9 +219,9 @@ fn stored<T: Tree>(
     ensures { ReadsFrom early_view opening_view result
         (stored project.now store.now (opening_view opening))
         (stored_paths project.now store.now (config_view opening.layout.config))
-        (held files.old (T.state tree.old)) (held files.new (T.state tree.new)) }
+        (held T.state archive.old) (held T.state archive.new) }
 {
-    match check_store(alloc, files, tree, project, store, &opening.layout.config) {
+    match check_store(archive, project, store, &opening.layout.config) {
         Ok(()) => Ok(opening),
         Err(stop) => {
             drop(opening);
@@ -262,35 +232,30 @@ fn stored<T: Tree>(
 
 // What was opened, and then the store.
 fn read_stored<T: Tree>(
-    alloc: Global,
-    files: &mut FileCache,
-    tree: &mut T,
+    archive: &mut Archive<T>,
     project: &Project,
     store: &Store,
 ) -> Result<Opening, Stop<Early>>
     ensures { ReadsFrom early_view opening_view result (opened_with project.now (Some store.now))
-        (paths_with project.now (Some store.now)) (held files.old (T.state tree.old))
-        (held files.new (T.state tree.new)) }
+        (paths_with project.now (Some store.now)) (held T.state archive.old) (held T.state archive.new) }
 {
-    let opening = read_opening(alloc, files, tree, project)?;
-    stored(alloc, files, tree, project, store, opening)
+    let opening = read_opening(archive, project)?;
+    stored(archive, project, store, opening)
 }
 
 fn read_with<T: Tree>(
-    alloc: Global,
-    files: &mut FileCache,
-    tree: &mut T,
+    archive: &mut Archive<T>,
     project: &Project,
     store: Option<&Store>,
 ) -> Result<Opening, Stop<Early>>
     ensures { ReadsFrom early_view opening_view result
         (opened_with project.now (option_map (λ s. s.now) store.entry))
         (paths_with project.now (option_map (λ s. s.now) store.entry))
-        (held files.old (T.state tree.old)) (held files.new (T.state tree.new)) }
+        (held T.state archive.old) (held T.state archive.new) }
 {
     match store {
-        Some(store) => read_stored(alloc, files, tree, project, store),
-        None => read_opening(alloc, files, tree, project),
+        Some(store) => read_stored(archive, project, store),
+        None => read_opening(archive, project),
     }
 }
 
@@ -308,30 +273,23 @@ fn off_of(alloc: Global, setting: &Setting) -> Result<List<Instance>, Memory>
     )
 }
 
-// An opening with what is off in it, and the files that were read.
-fn ready(alloc: Global, opening: Opening, files: FileCache) -> Result<Opened, Outage>
-    ensures { Answers (Ok opening) (kept_of files) result }
+// An opening with what is off in it.
+fn ready(alloc: Global, opening: Opening) -> Result<Opened, Outage>
+    ensures { Answers (Ok opening) result }
 {
     let Opening {
         mut setting,
         layout,
     } = opening;
     setting.off = off_of(alloc, &setting)?;
-    Ok(Opened::Ready {
-        setting,
-        start: Start { layout, files },
-    })
+    Ok(Opened::Ready { setting, layout })
 }
 
-fn answer(
-    alloc: Global,
-    read: Result<Opening, Stop<Early>>,
-    files: FileCache,
-) -> Result<Opened, Outage>
-    ensures { Answers read (kept_of files) result }
+fn answer(alloc: Global, read: Result<Opening, Stop<Early>>) -> Result<Opened, Outage>
+    ensures { Answers read result }
 {
     match read {
-        Ok(opening) => ready(alloc, opening, files),
+        Ok(opening) => ready(alloc, opening),
         Err(Stop::Fault(early)) => Ok(Opened::Refused(early)),
         Err(Stop::Failed) => Err(Outage::Failed),
         Err(Stop::Memory(memory)) => Err(Outage::Memory(memory)),
@@ -343,16 +301,13 @@ fn answer(
 /// the instances whose default features the root turns off. `Refused` exactly where files or store
 /// have a fault, with the first in this order; `Failed` exactly where a call of the tree failed.
 pub fn open<T: Tree>(
-    alloc: Global,
-    tree: &mut T,
+    archive: &mut Archive<T>,
     project: &Project,
     store: Option<&Store>,
 ) -> Result<Opened, Outage>
     ensures { Opens project.now (option_map (λ s. s.now) store.entry) result
-        (T.state tree.old) (T.state tree.new) }
+        (held T.state archive.old) (held T.state archive.new) }
 {
-    let mut files = FileCache::new(alloc);
-    let read = read_with(alloc, &mut files, tree, project, store);
-    files.known();
-    answer(alloc, read, files)
+    let read = read_with(archive, project, store);
+    answer(archive.alloc(), read)
 }

@@ -14,92 +14,71 @@ ghost use Rattle.vk_opening.specs.Views.{overlay_view};
 use crate::layouts::Overlay;
 use crate::projects::manifest_path;
 use crate::roots::PortFile;
-use std::alloc::Global;
 use std::rc::Rc;
 use vk_base::{List, Stop, TreePath};
-use vk_files::{FileCache, Standing, file_standing, read_file};
+use vk_files::{Archive, Standing};
 use vk_model::{Early, Manifest};
 use vk_tree::Tree;
 
 // The manifest in a folder that is a port.
 fn port_manifest<T: Tree>(
-    alloc: Global,
-    files: &mut FileCache,
-    tree: &mut T,
+    archive: &mut Archive<T>,
     folder: &TreePath,
 ) -> Result<Rc<Manifest>, Stop<Early>>
     ensures { ReadsFrom early_view (λ m. is_port folder.now (manifest_view m.value)) result
         (port_at folder.now) (λ f. manifest_path folder.now ∷ [])
-        (held files.old (T.state tree.old)) (held files.new (T.state tree.new)) }
+        (held T.state archive.old) (held T.state archive.new) }
 {
-    let path = manifest_path(alloc, folder)?;
-    let manifest = read_file::<T, PortFile, Early>(alloc, files, tree, &path, &PortFile)?;
-    Ok(Rc::new(alloc, manifest)?)
+    let path = manifest_path(archive.alloc(), folder)?;
+    let manifest = archive.read::<PortFile, Early>(&path, &PortFile)?;
+    Ok(Rc::new(archive.alloc(), manifest)?)
 }
 
 // A folder that is a port, with its manifest.
-fn port_at<T: Tree>(
-    alloc: Global,
-    files: &mut FileCache,
-    tree: &mut T,
-    folder: TreePath,
-) -> Result<Overlay, Stop<Early>>
+fn port_at<T: Tree>(archive: &mut Archive<T>, folder: TreePath) -> Result<Overlay, Stop<Early>>
     ensures { ReadsFrom early_view overlay_view result (port_at folder)
-        (λ f. manifest_path folder ∷ []) (held files.old (T.state tree.old))
-        (held files.new (T.state tree.new)) }
+        (λ f. manifest_path folder ∷ []) (held T.state archive.old) (held T.state archive.new) }
 {
-    let manifest = port_manifest(alloc, files, tree, &folder)?;
+    let manifest = port_manifest(archive, &folder)?;
     Ok(Overlay::Port(folder, manifest))
 }
 
 // A folder, by how the manifest in it stands.
 fn overlay_by<T: Tree>(
-    alloc: Global,
-    files: &mut FileCache,
-    tree: &mut T,
+    archive: &mut Archive<T>,
     standing: Standing,
     folder: TreePath,
 ) -> Result<Overlay, Stop<Early>>
     ensures { ReadsFrom early_view overlay_view result (overlay_by (standing_view standing) folder)
-        (λ f. manifest_path folder ∷ []) (held files.old (T.state tree.old))
-        (held files.new (T.state tree.new)) }
+        (λ f. manifest_path folder ∷ []) (held T.state archive.old) (held T.state archive.new) }
 {
     match standing {
         Standing::Missing => Ok(Overlay::Ports(folder)),
-        Standing::TooLong => port_at(alloc, files, tree, folder),
-        Standing::Readable => port_at(alloc, files, tree, folder),
+        Standing::TooLong => port_at(archive, folder),
+        Standing::Readable => port_at(archive, folder),
     }
 }
 
-fn overlay_at<T: Tree>(
-    alloc: Global,
-    files: &mut FileCache,
-    tree: &mut T,
-    folder: TreePath,
-) -> Result<Overlay, Stop<Early>>
+fn overlay_at<T: Tree>(archive: &mut Archive<T>, folder: TreePath) -> Result<Overlay, Stop<Early>>
     ensures { ReadsFrom early_view overlay_view result (overlay_at folder)
-        (λ f. manifest_path folder ∷ []) (held files.old (T.state tree.old))
-        (held files.new (T.state tree.new)) }
+        (λ f. manifest_path folder ∷ []) (held T.state archive.old) (held T.state archive.new) }
 {
-    let path = manifest_path(alloc, &folder)?;
-    let standing = file_standing::<T, Early>(files, tree, &path)?;
-    overlay_by(alloc, files, tree, standing, folder)
+    let path = manifest_path(archive.alloc(), &folder)?;
+    let standing = archive.standing::<Early>(&path)?;
+    overlay_by(archive, standing, folder)
 }
 
 /// What each of the folders is, in their order.
 pub fn read_overlays<T: Tree>(
-    alloc: Global,
-    files: &mut FileCache,
-    tree: &mut T,
+    archive: &mut Archive<T>,
     folders: List<TreePath>,
 ) -> Result<List<Overlay>, Stop<Early>>
     ensures { ReadsFrom early_view (λ l. map overlay_view l) result (overlays_at folders)
-        (overlay_paths folders) (held files.old (T.state tree.old))
-        (held files.new (T.state tree.new)) }
+        (overlay_paths folders) (held T.state archive.old) (held T.state archive.new) }
 {
-    let mut overlays = List::new(alloc);
+    let mut overlays = List::new(archive.alloc());
     for folder in folders.into_vec() {
-        let overlay = overlay_at(alloc, files, tree, folder)?;
+        let overlay = overlay_at(archive, folder)?;
         overlays.push(overlay)?;
     }
     Ok(overlays)

@@ -21,7 +21,7 @@ use crate::projects::{from_folder, push_folders};
 use std::alloc::Global;
 use vk_base::{List, Memory, Stop, TreePath};
 use vk_config::{Config, Registry, Source};
-use vk_files::{FileCache, first_file};
+use vk_files::Archive;
 use vk_model::{Early, Project, Store};
 use vk_tree::Tree;
 
@@ -237,17 +237,12 @@ fn blocked(path: &TreePath) -> Result<Early, Memory>
 }
 
 // That no file stands at these paths, or else the line of the first at which one does.
-fn unblocked<T: Tree>(
-    files: &mut FileCache,
-    tree: &mut T,
-    places: &[TreePath],
-) -> Result<(), Stop<Early>>
+fn unblocked<T: Tree>(archive: &mut Archive<T>, places: &[TreePath]) -> Result<(), Stop<Early>>
     ensures { ReadsFrom early_view (λ done. tt) result
         (λ files. unblocked (find (is_at files) places.now))
-        (λ files. up_to_first (is_at files) places.now) (held files.old (T.state tree.old))
-        (held files.new (T.state tree.new)) }
+        (λ files. up_to_first (is_at files) places.now) (held T.state archive.old) (held T.state archive.new) }
 {
-    match first_file::<T, Early>(files, tree, places)? {
+    match archive.first::<Early>(places)? {
         Some(path) => Err(Stop::Fault(blocked(path)?)),
         None => Ok(()),
     }
@@ -257,9 +252,7 @@ fn unblocked<T: Tree>(
 /// from all folders that the project names, have no project in them, and no file stands where they
 /// need a folder. `Fault` has the first line that says otherwise.
 pub fn check_store<T: Tree>(
-    alloc: Global,
-    files: &mut FileCache,
-    tree: &mut T,
+    archive: &mut Archive<T>,
     project: &Project,
     store: &Store,
     config: &Config,
@@ -267,9 +260,9 @@ pub fn check_store<T: Tree>(
     ensures { ReadsFrom early_view (λ done. tt) result
         (stored_at project.now store.now (config_view config.now))
         (stored_paths project.now store.now (config_view config.now))
-        (held files.old (T.state tree.old)) (held files.new (T.state tree.new)) }
+        (held T.state archive.old) (held T.state archive.new) }
 {
-    apart(alloc, project, store, config)?;
-    let places = store_folders(alloc, store)?;
-    unblocked(files, tree, places.as_slice())
+    apart(archive.alloc(), project, store, config)?;
+    let places = store_folders(archive.alloc(), store)?;
+    unblocked(archive, places.as_slice())
 }

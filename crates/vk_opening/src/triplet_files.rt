@@ -20,7 +20,7 @@ ghost use Rattle.vk_opening.specs.Views.{triplets_view};
 use crate::projects::triplet_path;
 use std::alloc::Global;
 use vk_base::{List, Memory, Stop, TreePath, TripletName, Unread};
-use vk_files::{FileCache, FileReader, first_file, read_file};
+use vk_files::{Archive, FileReader};
 use vk_json::{FileFault, Scratch, Why, wrong};
 use vk_model::Early;
 use vk_tree::Tree;
@@ -92,37 +92,31 @@ fn no_triplet(name: &TripletName) -> Stop<Early>
 
 // The triplet of a name in the first of these files that is there.
 fn first_triplet<T: Tree>(
-    alloc: Global,
-    files: &mut FileCache,
-    tree: &mut T,
+    archive: &mut Archive<T>,
     name: &TripletName,
     paths: &[TreePath],
 ) -> Result<Triplet, Stop<Early>>
     ensures { ReadsFrom early_view (λ t. t) result
         (λ files. triplet_from name.now (find (is_at files) paths.now) files)
-        (λ files. up_to_first (is_at files) paths.now) (held files.old (T.state tree.old))
-        (held files.new (T.state tree.new)) }
+        (λ files. up_to_first (is_at files) paths.now) (held T.state archive.old) (held T.state archive.new) }
 {
-    match first_file::<T, Early>(files, tree, paths)? {
-        Some(path) => read_file(alloc, files, tree, path, &TripletFile(name)),
+    match archive.first::<Early>(paths)? {
+        Some(path) => archive.read(path, &TripletFile(name)),
         None => Err(no_triplet(name)),
     }
 }
 
 // The triplet of a name in folders.
 fn read_triplet<T: Tree>(
-    alloc: Global,
-    files: &mut FileCache,
-    tree: &mut T,
+    archive: &mut Archive<T>,
     name: &TripletName,
     folders: &[TreePath],
 ) -> Result<Triplet, Stop<Early>>
     ensures { ReadsFrom early_view (λ t. t) result (triplet_at name.now folders.now)
-        (tried_paths name.now folders.now) (held files.old (T.state tree.old))
-        (held files.new (T.state tree.new)) }
+        (tried_paths name.now folders.now) (held T.state archive.old) (held T.state archive.new) }
 {
-    let paths = triplet_paths(alloc, name, folders)?;
-    first_triplet(alloc, files, tree, name, paths.as_slice())
+    let paths = triplet_paths(archive.alloc(), name, folders)?;
+    first_triplet(archive, name, paths.as_slice())
 }
 
 /// The triplet that is built for, and that of the machine that builds.
@@ -135,18 +129,16 @@ pub struct Triplets {
 /// The two triplets of these names in folders. Where the names are one, so is the file, which is
 /// read once.
 pub fn read_triplets<T: Tree>(
-    alloc: Global,
-    files: &mut FileCache,
-    tree: &mut T,
+    archive: &mut Archive<T>,
     target: &TripletName,
     host: &TripletName,
     folders: &[TreePath],
 ) -> Result<Triplets, Stop<Early>>
     ensures { ReadsFrom early_view triplets_view result
         (triplets_at target.now host.now folders.now) (both_paths target.now host.now folders.now)
-        (held files.old (T.state tree.old)) (held files.new (T.state tree.new)) }
+        (held T.state archive.old) (held T.state archive.new) }
 {
-    let target = read_triplet(alloc, files, tree, target, folders)?;
-    let host = read_triplet(alloc, files, tree, host, folders)?;
+    let target = read_triplet(archive, target, folders)?;
+    let host = read_triplet(archive, host, folders)?;
     Ok(Triplets { target, host })
 }

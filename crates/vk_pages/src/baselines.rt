@@ -24,7 +24,7 @@ use indexmap::IndexMap;
 use std::alloc::Global;
 use vk_base::{PortName, Stop};
 use vk_catalogue::{Given, Wrong};
-use vk_files::{BadFile, FileCache, TellsBadFile, read_file};
+use vk_files::{Archive, BadFile, TellsBadFile};
 use vk_registry::{Baseline, baseline_of, baseline_path};
 use vk_tree::Tree;
 
@@ -52,21 +52,18 @@ fn or_bad(read: Result<Baseline, Stop<BadFile>>) -> Result<Result<Baseline, BadF
 
 // The baseline of a registry, or its bad file.
 fn read_baseline<T: Tree>(
-    alloc: Global,
-    files: &mut FileCache,
-    tree: &mut T,
+    archive: &mut Archive<T>,
     served: &Served,
 ) -> Result<Result<Baseline, BadFile>, Stop<Wrong>>
     ensures { ReadsFrom wrong_view read_view result
         (λ f. Ok (baseline_file (served_view served.now) f))
-        (λ f. baseline_path served.now.folder ∷ []) (held files.old (T.state tree.old))
-        (held files.new (T.state tree.new)) }
+        (λ f. baseline_path served.now.folder ∷ []) (held T.state archive.old) (held T.state archive.new) }
 {
-    let path = baseline_path(alloc, &served.folder)?;
+    let path = baseline_path(archive.alloc(), &served.folder)?;
     let reader = NamedBaseline {
         name: &served.baseline,
     };
-    or_bad(read_file(alloc, files, tree, &path, &reader))
+    or_bad(archive.read(&path, &reader))
 }
 
 // What a baseline has for a port.
@@ -116,21 +113,19 @@ impl Baselines {
     // that were read. The room for it is taken first, so that nothing that was read is forgotten.
     fn note<T: Tree>(
         &mut self,
-        alloc: Global,
-        files: &mut FileCache,
-        tree: &mut T,
+        archive: &mut Archive<T>,
         served: &Served,
     ) -> Result<usize, Stop<Wrong>>
         requires { baseline_noted served.now (notes_of self.old) ≡ None }
         ensures noted { Finds wrong_view (λ done. tt) result nothing_said
             (λ f. baseline_path served.now.folder ∷ [])
             (AreBaselines (notes_of self.old)) (AreBaselines (notes_of self.new))
-            (held files.old (T.state tree.old)) (held files.new (T.state tree.new)) }
+            (held T.state archive.old) (held T.state archive.new) }
         ensures there { IfOk result (IsNoteAt (same_served served.now) (notes_of self.new)) }
     {
         let key = served.clone()?;
         self.read.reserve(1)?;
-        let read = read_baseline(alloc, files, tree, served)?;
+        let read = read_baseline(archive, served)?;
         let place = self.read.len();
         self.keep(key, read);
         Ok(place)
@@ -140,20 +135,18 @@ impl Baselines {
     // that were read, counted from 0.
     fn look<T: Tree>(
         &mut self,
-        alloc: Global,
-        files: &mut FileCache,
-        tree: &mut T,
+        archive: &mut Archive<T>,
         served: &Served,
     ) -> Result<usize, Stop<Wrong>>
         ensures noted { Finds wrong_view (λ done. tt) result nothing_said
             (λ f. baseline_path served.now.folder ∷ [])
             (AreBaselines (notes_of self.old)) (AreBaselines (notes_of self.new))
-            (held files.old (T.state tree.old)) (held files.new (T.state tree.new)) }
+            (held T.state archive.old) (held T.state archive.new) }
         ensures there { IfOk result (IsNoteAt (same_served served.now) (notes_of self.new)) }
     {
         match self.read.get_index_of(served) {
             Some(place) => Ok(place),
-            None => self.note(alloc, files, tree, served),
+            None => self.note(archive, served),
         }
     }
 
@@ -170,9 +163,7 @@ impl Baselines {
     // wrong with its file, which is the only one that is looked at.
     pub(crate) fn given<T: Tree>(
         &mut self,
-        alloc: Global,
-        files: &mut FileCache,
-        tree: &mut T,
+        archive: &mut Archive<T>,
         served: &Served,
         port: &PortName,
     ) -> Result<Given, Stop<Wrong>>
@@ -180,9 +171,9 @@ impl Baselines {
             (baseline_for (served_view served.now) port.now)
             (λ f. baseline_path served.now.folder ∷ [])
             (AreBaselines (notes_of self.old)) (AreBaselines (notes_of self.new))
-            (held files.old (T.state tree.old)) (held files.new (T.state tree.new)) }
+            (held T.state archive.old) (held T.state archive.new) }
     {
-        let place = self.look(alloc, files, tree, served)?;
+        let place = self.look(archive, served)?;
         given_in(self.at(place), port)
     }
 }

@@ -12,15 +12,13 @@ ghost use Rattle.vk_pages.specs.NoteViews.{notes_of};
 use crate::baselines::Baselines;
 use crate::overlays::{home_in, overlay_for};
 use crate::registries::registry_home;
-use std::alloc::Global;
 use std::rc::Rc;
 use vk_base::{PortName, Stop, TreePath};
 use vk_catalogue::{Given, Wrong};
-use vk_files::FileCache;
+use vk_files::Archive;
 use vk_model::Manifest;
 use vk_opening::Layout;
 use vk_registry::Table;
-use vk_rules::Overrides;
 use vk_tree::Tree;
 use vk_version::Version;
 
@@ -52,20 +50,18 @@ pub enum Home {
 /// wrong. A file that was read before isn't read again, and no path is looked at but those that are
 /// needed for the answer.
 pub fn home_of<T: Tree>(
-    alloc: Global,
+    archive: &mut Archive<T>,
     layout: &Layout,
-    files: &mut FileCache,
     baselines: &mut Baselines,
-    tree: &mut T,
     port: &PortName,
 ) -> Result<Home, Stop<Wrong>>
     ensures { Finds wrong_view home_view result (home_of (layout_view layout.now) port.now)
         (λ f. home_paths (layout_view layout.now) f port.now)
         (AreBaselines (notes_of baselines.old)) (AreBaselines (notes_of baselines.new))
-        (held files.old (T.state tree.old)) (held files.new (T.state tree.new)) }
+        (held T.state archive.old) (held T.state archive.new) }
 {
-    match overlay_for(alloc, layout.overlays.as_slice(), files, tree, port)? {
-        Some(overlay) => home_in(alloc, files, tree, overlay, port),
-        None => registry_home(alloc, layout, files, baselines, tree, port),
+    match overlay_for(archive, layout.overlays.as_slice(), port)? {
+        Some(overlay) => home_in(archive, overlay, port),
+        None => registry_home(archive, layout, baselines, port),
     }
 }

@@ -21,7 +21,7 @@ use std::alloc::Global;
 use std::rc::Rc;
 use vk_base::{PortName, Stop, TreePath};
 use vk_catalogue::Wrong;
-use vk_files::{FileCache, file_is_at, read_file};
+use vk_files::Archive;
 use vk_model::Manifest;
 use vk_opening::{Overlay, PortFile, manifest_path};
 use vk_registry::{named, port_folder, stated_version};
@@ -39,56 +39,49 @@ fn is_named(manifest: &Manifest, port: &PortName) -> bool
 
 // Whether a folder of ports has this one.
 fn holds_port<T: Tree>(
-    alloc: Global,
-    files: &mut FileCache,
-    tree: &mut T,
+    archive: &mut Archive<T>,
     folder: &TreePath,
     port: &PortName,
 ) -> Result<bool, Stop<Wrong>>
     ensures { ReadsFrom wrong_view (λ b. b) result
         (λ f. Ok (is_at f (manifest_path (port_folder folder.now port.now))))
         (λ f. manifest_path (port_folder folder.now port.now) ∷ [])
-        (held files.old (T.state tree.old)) (held files.new (T.state tree.new)) }
+        (held T.state archive.old) (held T.state archive.new) }
 {
-    let folder = port_folder(alloc, folder, port)?;
-    let path = manifest_path(alloc, &folder)?;
-    file_is_at(files, tree, &path)
+    let folder = port_folder(archive.alloc(), folder, port)?;
+    let path = manifest_path(archive.alloc(), &folder)?;
+    archive.is_at(&path)
 }
 
 fn has_port<T: Tree>(
-    alloc: Global,
-    files: &mut FileCache,
-    tree: &mut T,
+    archive: &mut Archive<T>,
     overlay: &Overlay,
     port: &PortName,
 ) -> Result<bool, Stop<Wrong>>
     ensures { ReadsFrom wrong_view (λ b. b) result
         (λ f. Ok (has_port port.now f (overlay_view overlay.now)))
-        (λ f. overlay_path port.now (overlay_view overlay.now)) (held files.old (T.state tree.old))
-        (held files.new (T.state tree.new)) }
+        (λ f. overlay_path port.now (overlay_view overlay.now)) (held T.state archive.old) (held T.state archive.new) }
 {
     match overlay {
         Overlay::Port(_, manifest) => Ok(is_named(manifest, port)),
-        Overlay::Ports(folder) => holds_port(alloc, files, tree, folder, port),
+        Overlay::Ports(folder) => holds_port(archive, folder, port),
     }
 }
 
 /// The first overlay that has a port; `None` exactly where none has it. It refuses nothing, and no
 /// overlay after the first is looked at.
 pub fn overlay_for<'a, T: Tree>(
-    alloc: Global,
+    archive: &mut Archive<T>,
     overlays: &'a [Overlay],
-    files: &mut FileCache,
-    tree: &mut T,
     port: &PortName,
 ) -> Result<Option<&'a Overlay>, Stop<Wrong>>
     ensures { ReadsFrom wrong_view (option_map (λ o. overlay_view o.now)) result
         (λ f. Ok (overlay_for (map overlay_view overlays.now) port.now f))
         (λ f. overlay_paths (map overlay_view overlays.now) f port.now)
-        (held files.old (T.state tree.old)) (held files.new (T.state tree.new)) }
+        (held T.state archive.old) (held T.state archive.new) }
 {
     for overlay in overlays {
-        if has_port(alloc, files, tree, overlay, port)? {
+        if has_port(archive, overlay, port)? {
             return Ok(Some(overlay));
         }
     }
@@ -141,40 +134,39 @@ fn named_own(
 
 // The manifest in a folder, which has to have the port's name.
 fn named_manifest<T: Tree>(
-    alloc: Global,
-    files: &mut FileCache,
-    tree: &mut T,
+    archive: &mut Archive<T>,
     folder: &TreePath,
     port: &PortName,
 ) -> Result<Rc<Manifest>, Stop<Wrong>>
     ensures { ReadsFrom wrong_view (λ m. manifest_view m.value) result
         (named_manifest port.now folder.now) (λ f. manifest_path folder.now ∷ [])
-        (held files.old (T.state tree.old)) (held files.new (T.state tree.new)) }
+        (held T.state archive.old) (held T.state archive.new) }
 {
-    let path = manifest_path(alloc, folder)?;
-    let manifest = read_file::<T, PortFile, Wrong>(alloc, files, tree, &path, &PortFile)?;
-    named_own(alloc, &path, port, manifest)
+    let path = manifest_path(archive.alloc(), folder)?;
+    let manifest = archive.read::<PortFile, Wrong>(&path, &PortFile)?;
+    named_own(archive.alloc(), &path, port, manifest)
 }
 
 /// The home of a port that an overlay has. `Fault` has what is wrong with its manifest, which is
 /// the only file that is looked at.
 pub fn home_in<T: Tree>(
-    alloc: Global,
-    files: &mut FileCache,
-    tree: &mut T,
+    archive: &mut Archive<T>,
     overlay: &Overlay,
     port: &PortName,
 ) -> Result<Home, Stop<Wrong>>
     ensures { ReadsFrom wrong_view home_view result (home_in (overlay_view overlay.now) port.now)
-        (λ f. overlay_path port.now (overlay_view overlay.now)) (held files.old (T.state tree.old))
-        (held files.new (T.state tree.new)) }
+        (λ f. overlay_path port.now (overlay_view overlay.now)) (held T.state archive.old) (held T.state archive.new) }
 {
     match overlay {
-        Overlay::Port(folder, manifest) => port_home(alloc, folder.clone()?, manifest.clone()?),
+        Overlay::Port(folder, manifest) => port_home(
+            archive.alloc(),
+            folder.clone()?,
+            manifest.clone()?,
+        ),
         Overlay::Ports(folder) => {
-            let folder = port_folder(alloc, folder, port)?;
-            let manifest = named_manifest(alloc, files, tree, &folder, port)?;
-            port_home(alloc, folder, manifest)
+            let folder = port_folder(archive.alloc(), folder, port)?;
+            let manifest = named_manifest(archive, &folder, port)?;
+            port_home(archive.alloc(), folder, manifest)
         }
     }
 }

@@ -20,10 +20,9 @@ use crate::baselines::Baselines;
 use crate::contents::PortTable;
 use crate::homes::Home;
 use crate::served::{Served, served_for};
-use std::alloc::Global;
 use vk_base::{PortName, Stop};
 use vk_catalogue::{Given, Wrong};
-use vk_files::{FileCache, read_file};
+use vk_files::Archive;
 use vk_opening::Layout;
 use vk_registry::{Table, table_path};
 use vk_tree::Tree;
@@ -39,60 +38,53 @@ fn override_given(ask: &Ask) -> Result<Given, Stop<Wrong>>
 
 // What is given for a port: what is set for it, or what the registry's baseline has.
 fn given_by<T: Tree>(
-    alloc: Global,
+    archive: &mut Archive<T>,
     set: Option<&Ask>,
     served: &Served,
-    files: &mut FileCache,
     baselines: &mut Baselines,
-    tree: &mut T,
     port: &PortName,
 ) -> Result<Given, Stop<Wrong>>
     ensures { Finds wrong_view given_view result
         (given_by (option_map (λ a. ask_view a.now) set.entry) (served_view served.now) port.now)
         (λ f. given_paths (option_map (λ a. ask_view a.now) set.entry) (served_view served.now))
         (AreBaselines (notes_of baselines.old)) (AreBaselines (notes_of baselines.new))
-        (held files.old (T.state tree.old)) (held files.new (T.state tree.new)) }
+        (held T.state archive.old) (held T.state archive.new) }
 {
     match set {
         Some(ask) => override_given(ask),
-        None => baselines.given(alloc, files, tree, served, port),
+        None => baselines.given(archive, served, port),
     }
 }
 
 // The versions file of a port in a registry.
 fn table_in<T: Tree>(
-    alloc: Global,
+    archive: &mut Archive<T>,
     served: &Served,
-    files: &mut FileCache,
-    tree: &mut T,
     port: &PortName,
 ) -> Result<Table, Stop<Wrong>>
     ensures { ReadsFrom wrong_view (λ t. t) result (table_in (served_view served.now) port.now)
-        (λ f. table_path port.now served.now.folder ∷ []) (held files.old (T.state tree.old))
-        (held files.new (T.state tree.new)) }
+        (λ f. table_path port.now served.now.folder ∷ []) (held T.state archive.old) (held T.state archive.new) }
 {
-    let path = table_path(alloc, &served.folder, port)?;
-    read_file(alloc, files, tree, &path, &PortTable)
+    let path = table_path(archive.alloc(), &served.folder, port)?;
+    archive.read(&path, &PortTable)
 }
 
 // A port in a registry, for which something may be set.
 fn served_home<T: Tree>(
-    alloc: Global,
+    archive: &mut Archive<T>,
     set: Option<&Ask>,
     served: Served,
-    files: &mut FileCache,
     baselines: &mut Baselines,
-    tree: &mut T,
     port: &PortName,
 ) -> Result<Home, Stop<Wrong>>
     ensures { Finds wrong_view home_view result
         (served_home (option_map (λ a. ask_view a.now) set.entry) (served_view served) port.now)
         (λ f. served_paths (option_map (λ a. ask_view a.now) set.entry) (served_view served)
         f port.now) (AreBaselines (notes_of baselines.old)) (AreBaselines (notes_of baselines.new))
-        (held files.old (T.state tree.old)) (held files.new (T.state tree.new)) }
+        (held T.state archive.old) (held T.state archive.new) }
 {
-    let given = given_by(alloc, set, &served, files, baselines, tree, port)?;
-    let table = table_in(alloc, &served, files, tree, port)?;
+    let given = given_by(archive, set, &served, baselines, port)?;
+    let table = table_in(archive, &served, port)?;
     Ok(Home::Registry {
         given,
         folder: served.folder,
@@ -104,19 +96,17 @@ fn served_home<T: Tree>(
 /// baseline has nothing for the port, or which of the two files is wrong. The baseline file isn't
 /// looked at where the root manifest sets a version, nor the versions file where nothing is given.
 pub fn registry_home<T: Tree>(
-    alloc: Global,
+    archive: &mut Archive<T>,
     layout: &Layout,
-    files: &mut FileCache,
     baselines: &mut Baselines,
-    tree: &mut T,
     port: &PortName,
 ) -> Result<Home, Stop<Wrong>>
     ensures { Finds wrong_view home_view result (registry_home (layout_view layout.now) port.now)
         (λ f. registry_paths (layout_view layout.now) f port.now)
         (AreBaselines (notes_of baselines.old)) (AreBaselines (notes_of baselines.new))
-        (held files.old (T.state tree.old)) (held files.new (T.state tree.new)) }
+        (held T.state archive.old) (held T.state archive.new) }
 {
-    let served = served_for(alloc, layout, port)?;
+    let served = served_for(archive.alloc(), layout, port)?;
     let set = layout.overrides.ask_for(port);
-    served_home(alloc, set, served, files, baselines, tree, port)
+    served_home(archive, set, served, baselines, port)
 }

@@ -3,9 +3,10 @@
 use crate::projects::{port_of, version_of};
 use std::alloc::Global;
 use vk_base::{Outage, PortName};
+use vk_files::Archive;
 use vk_model::lines::early_line;
 use vk_model::{Project, Setting, Store};
-use vk_opening::{Opened, Start};
+use vk_opening::{Layout, Opened};
 use vk_row_text::{Reply, cut};
 use vk_tree::MemTree;
 use vk_version::Version;
@@ -19,13 +20,13 @@ pub enum Opening {
 }
 
 // Tells that a project is opened: both triplets, and how many overlays there are.
-fn tell_ready(setting: &Setting, start: &Start, reply: &mut Reply) {
+fn tell_ready(setting: &Setting, layout: &Layout, reply: &mut Reply) {
     reply.push("ready ");
     reply.push(setting.target.name().as_str());
     reply.push(" ");
     reply.push(setting.host.name().as_str());
     reply.push(" ");
-    reply.push_number(start.layout.overlays.len() as u64);
+    reply.push_number(layout.overlays.len() as u64);
 }
 
 fn stopped(stop: Outage, reply: &mut Reply) {
@@ -36,26 +37,26 @@ fn stopped(stop: Outage, reply: &mut Reply) {
 }
 
 /// Opens a project on a tree, and looks where packages are to be kept, if a store is given.
-#[tactic(auto, using(vk_opening::proofs::OpenLemmas::start_right))]
 pub fn open_on(
     alloc: Global,
-    mut tree: MemTree,
+    tree: MemTree,
     project: &Project,
     store: Option<&Store>,
     reply: &mut Reply,
 ) -> Opening {
-    match World::open(alloc, &mut tree, project, store) {
-        Ok(Opened::Ready { setting, start }) => {
-            tell_ready(&setting, &start, reply);
-            Opening::World(World::on(alloc, start, tree))
+    let mut archive = Archive::new(alloc, tree);
+    match World::open(&mut archive, project, store) {
+        Ok(Opened::Ready { setting, layout }) => {
+            tell_ready(&setting, &layout, reply);
+            Opening::World(World::on(archive, layout))
         }
         Ok(Opened::Refused(early)) => {
             reply.push_made(early_line(alloc, &early));
-            Opening::Refused(tree)
+            Opening::Refused(archive.into_tree())
         }
         Err(stop) => {
             stopped(stop, reply);
-            Opening::Refused(tree)
+            Opening::Refused(archive.into_tree())
         }
     }
 }

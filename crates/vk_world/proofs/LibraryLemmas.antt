@@ -6,7 +6,6 @@ use Rattle.std.proofs.lemmas.Result.{IfOk-weaker}
 use Rattle.std.proofs.lemmas.Slice.Eq.{bytes_eq-Decides}
 use Rattle.std.proofs.lemmas.List.Elements.{Contains-append_right}
 use Rattle.vk_spec.specs.Files.{Files}
-use Rattle.vk_spec.specs.States.{State}
 use Rattle.vk_spec.specs.Versions.{Ask}
 use Rattle.vk_base.specs.Stops.{was_out}
 use Rattle.vk_catalogue.specs.Views.{manifest_said}
@@ -15,8 +14,7 @@ use Rattle.vk_model.specs.declared.wrongs.Wrong.{Wrong}
 use Rattle.vk_model.specs.declared.manifests.Manifest.{Manifest}
 use Rattle.std.specs.declared.rc.Rc.{Rc}
 use Rattle.vk_version.specs.AskViews.{ask_view}
-use Rattle.vk_files.specs.Views.{held}
-use Rattle.vk_files.specs.declared.caches.FileCache.{FileCache}
+use Rattle.vk_files.specs.Kept.{Held}
 use Rattle.vk_files.proofs.NoteLemmas.{right_found}
 use Rattle.vk_opening.specs.Layouts.{Layout}
 use Rattle.vk_pages.specs.Asked.{home_paths, manifest_paths}
@@ -42,8 +40,8 @@ home_is {mid = mid} port found files stays noted right =
     subst (λ layout. found ≡ home_of layout port files) (layout_stays stays) (right_found (IsHomeOf (layout_of mid) files) bytes_eq (λ x y e. (bytes_eq-Decides x y).0 e) (homes_in mid.homes) port found right.homes.found noted)
 
 -- what is answered by the home that was found is learned
-pub serves_home : {X : Type 0} {lib mid : Library} {place : ℕ} {Says : Files → FoundHome → X → Type 0} {answer : Result X Outage} {port : List ℕ} {s s' : State} (found : FoundHome)
-    → Serves (Ok place) (λ f found. SaysNothing f) port lib mid s s' → home_noted port mid.homes ≡ Some found → ((f : Files) → IfOk answer (Says f found)) → was_out answer ≡ false → Serves answer Says port lib mid s s'
+pub serves_home : {X : Type 0} {lib mid : Library} {place : ℕ} {Says : Files → FoundHome → X → Type 0} {answer : Result X Outage} {port : List ℕ} {a b : Held} (found : FoundHome)
+    → Serves (Ok place) (λ f found. SaysNothing f) port lib mid a b → home_noted port mid.homes ≡ Some found → ((f : Files) → IfOk answer (Says f found)) → was_out answer ≡ false → Serves answer Says port lib mid a b
 serves_home {Says = Says} {answer = answer} {port = port} found looked noted says calm = record {
   learns = learns_so calm (λ f right. (right, λ p has. has)) (λ f before right nothing. (right, subst (λ home. IfOk answer (Says f home)) (home_is port found f looked.stays noted right) (says f))) looked.learns;
   stays = looked.stays;
@@ -51,21 +49,21 @@ serves_home {Says = Says} {answer = answer} {port = port} found looked noted say
 
 -- ---- manifests
 
-pub serves_manifest : {Z : Type 0} {lib mid : Library} {place : ℕ} {answer : Result (Result (Rc Manifest Z) Wrong) Outage} {port : List ℕ} {s s' t : State} (ask : Ask) (files : FileCache) (found : FoundHome)
-    → Serves (Ok place) (λ f found. SaysNothing f) port lib mid s s' → home_noted port mid.homes ≡ Some found
-    → Learns answer (λ f. SaysManifestAt port ask f found) (λ f. manifest_paths found) NothingKnown NothingKnown (held mid.files s') (held files t) → Serves answer (SaysManifestAt port ask) port lib (record mid { files = files }) s t
-serves_manifest {lib = lib} {answer = answer} {port = port} ask files found looked noted read = record {
+pub serves_manifest : {Z : Type 0} {lib mid : Library} {place : ℕ} {answer : Result (Result (Rc Manifest Z) Wrong) Outage} {port : List ℕ} {a b c : Held} (ask : Ask) (found : FoundHome)
+    → Serves (Ok place) (λ f found. SaysNothing f) port lib mid a b → home_noted port mid.homes ≡ Some found
+    → Learns answer (λ f. SaysManifestAt port ask f found) (λ f. manifest_paths found) NothingKnown NothingKnown b c → Serves answer (SaysManifestAt port ask) port lib mid a c
+serves_manifest {lib = lib} {answer = answer} {port = port} ask found looked noted read = record {
   learns = learns_then looked.learns (learns_so refl
       (λ f both. (tt, λ p has. Contains-append_right (home_paths (layout_of lib) f port) _ p (subst (λ home. Contains (manifest_paths home) p) (home_is port found f looked.stays noted both.0) has)))
-      (λ f both known says. (record { homes = both.0.homes; manifests = both.0.manifests }, subst (λ home. IfOk answer (SaysManifestAt port ask f home)) (home_is port found f looked.stays noted both.0) says)) read);
-  stays = record { layout = looked.stays.layout; opened = looked.stays.opened };
+      (λ f both known says. (both.0, subst (λ home. IfOk answer (SaysManifestAt port ask f home)) (home_is port found f looked.stays noted both.0) says)) read);
+  stays = looked.stays;
 }
 
 -- what was read is kept besides
-pub serves_kept : {Z : Type 0} {lib mid : Library} {m : Result (Rc Manifest Z) Wrong} {answer : Result (Result (Rc Manifest Z) Wrong) Outage} {port : List ℕ} {s s' : State} (ask : Ask) (manifests : Manifests)
-    → Serves (Ok m) (SaysManifestAt port ask) port lib mid s s' → was_out answer ≡ false → IfOk answer (λ x. x ≡ m)
+pub serves_kept : {Z : Type 0} {lib mid : Library} {m : Result (Rc Manifest Z) Wrong} {answer : Result (Result (Rc Manifest Z) Wrong) Outage} {port : List ℕ} {a b : Held} (ask : Ask) (manifests : Manifests)
+    → Serves (Ok m) (SaysManifestAt port ask) port lib mid a b → was_out answer ≡ false → IfOk answer (λ x. x ≡ m)
     → ((layout : Layout) (files : Files) → AreManifests layout mid.manifests files → IsManifestOf layout files port ask (manifest_said m) → AreManifests layout manifests files)
-    → Serves answer (SaysManifestAt port ask) port lib (record mid { manifests = manifests }) s s'
+    → Serves answer (SaysManifestAt port ask) port lib (record mid { manifests = manifests }) a b
 serves_kept {lib = lib} {mid = mid} {m = m} {answer = answer} {port = port} ask manifests read calm is kept = record {
   learns = learns_so calm (λ f right. (right, λ p has. has)) (λ f before right says. (
     record {
@@ -78,8 +76,8 @@ serves_kept {lib = lib} {mid = mid} {m = m} {answer = answer} {port = port} ask 
 }
 
 -- what was kept is answered again
-pub serves_again : {Z : Type 0} {lib : Library} {answer : Result (Result (Rc Manifest Z) Wrong) Outage} {s : State} (key : PortAsk) (found : FoundManifest)
-    → manifest_noted key lib.manifests ≡ Some found → IfOk answer (λ m. manifest_said m ≡ found) → was_out answer ≡ false → Serves answer (SaysManifestAt key.port (ask_view key.ask)) key.port lib lib s s
+pub serves_again : {Z : Type 0} {lib : Library} {answer : Result (Result (Rc Manifest Z) Wrong) Outage} {h : Held} (key : PortAsk) (found : FoundManifest)
+    → manifest_noted key lib.manifests ≡ Some found → IfOk answer (λ m. manifest_said m ≡ found) → was_out answer ≡ false → Serves answer (SaysManifestAt key.port (ask_view key.ask)) key.port lib lib h h
 serves_again {lib = lib} {answer = answer} key found noted told calm = record {
   learns = learns_pure calm (λ f right. (right, IfOk-weaker answer _ _ (λ m same. subst (IsManifestOf (layout_of lib) f key.port (ask_view key.ask)) (sym same) (note_right (layout_of lib) f key lib.manifests found right.manifests noted)) told));
   stays = record { layout = refl; opened = refl };

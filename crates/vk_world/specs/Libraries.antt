@@ -2,7 +2,6 @@
 use Rattle.std.specs.Prelude.{◌≡◌, ℕ, List, Result, Option, Some, IsSome}
 use Rattle.vk_spec.specs.Paths.{Path}
 use Rattle.vk_spec.specs.Files.{Files}
-use Rattle.vk_spec.specs.States.{State}
 use Rattle.vk_spec.specs.Versions.{Version, Ask}
 use Rattle.vk_spec.specs.Pages.{version_in, manifest_in}
 use Rattle.vk_catalogue.specs.Views.{given_said, manifest_said}
@@ -11,7 +10,7 @@ use Rattle.vk_model.specs.declared.wrongs.Given.{Given}
 use Rattle.vk_model.specs.declared.manifests.Manifest.{Manifest}
 use Rattle.std.specs.declared.rc.Rc.{Rc}
 use Rattle.vk_base.specs.declared.stops.Outage.{Outage}
-use Rattle.vk_files.specs.Views.{held}
+use Rattle.vk_files.specs.Kept.{Held}
 use Rattle.vk_opening.specs.Layouts.{Layout}
 use Rattle.vk_pages.specs.Asked.{page_paths}
 use Rattle.vk_pages.specs.Homes.{home_of}
@@ -32,14 +31,14 @@ pub record IsRight (lib : Library) (files : Files) : Type 0 where
   pub homes : AreHomes (layout_of lib) lib.homes files
   pub manifests : AreManifests (layout_of lib) lib.manifests files
 
--- what was known at the start stays
+-- the layout and the count of paths that opening had looked at stay
 pub record Stays (before after : Library) : Type 0 where
   pub layout : after.layout ≡ before.layout
   pub opened : after.opened ≡ before.opened
 
--- a call about a port answered what is said of files and of what is found for the port there, only the paths of the port's page were looked at, and what was known at the start stays
-pub record Serves {X : Type 0} (answer : Result X Outage) (Says : Files → FoundHome → X → Type 0) (port : List ℕ) (before after : Library) (s s' : State) : Type 0 where
-  pub learns : Learns answer (λ f. Says f (home_of (layout_of before) port f)) (λ f. page_paths (layout_of before) f port) (IsRight before) (IsRight after) (held before.files s) (held after.files s')
+-- a call about a port answered what is said of files and of what is found for the port there, only the paths of the port's page were looked at, and what opening gave stays
+pub record Serves {X : Type 0} (answer : Result X Outage) (Says : Files → FoundHome → X → Type 0) (port : List ℕ) (before after : Library) (a b : Held) : Type 0 where
+  pub learns : Learns answer (λ f. Says f (home_of (layout_of before) port f)) (λ f. page_paths (layout_of before) f port) (IsRight before) (IsRight after) a b
   pub stays : Stays before after
 
 -- ---- what answers say of a port's page, and of where its versions stand

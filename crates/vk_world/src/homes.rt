@@ -20,7 +20,7 @@ use indexmap::IndexMap;
 use std::alloc::Global;
 use vk_base::{Outage, PortName};
 use vk_catalogue::Wrong;
-use vk_files::FileCache;
+use vk_files::Archive;
 use vk_opening::Layout;
 use vk_pages::{Baselines, Home, home_of};
 use vk_tree::Tree;
@@ -35,37 +35,33 @@ pub struct Homes {
 // The home of a port, or what is wrong.
 #[tactic(auto, using(crate::proofs::LearnLemmas::learns_settled))]
 fn find_home<T: Tree>(
-    alloc: Global,
+    archive: &mut Archive<T>,
     layout: &Layout,
-    files: &mut FileCache,
     baselines: &mut Baselines,
-    tree: &mut T,
     port: &PortName,
 ) -> Result<Result<Home, Wrong>, Outage>
     ensures { Learns result (Means found_home (home_of (layout_view layout.now) port.now))
         (λ f. home_paths (layout_view layout.now) f port.now)
         (AreBaselines (notes_of baselines.old)) (AreBaselines (notes_of baselines.new))
-        (held files.old (T.state tree.old)) (held files.new (T.state tree.new)) }
+        (held T.state archive.old) (held T.state archive.new) }
 {
-    settle(home_of(alloc, layout, files, baselines, tree, port))
+    settle(home_of(archive, layout, baselines, port))
 }
 
 // The same in a block of its own, since a map moves its values as it grows.
 fn boxed_home<T: Tree>(
-    alloc: Global,
+    archive: &mut Archive<T>,
     layout: &Layout,
-    files: &mut FileCache,
     baselines: &mut Baselines,
-    tree: &mut T,
     port: &PortName,
 ) -> Result<Box<Result<Home, Wrong>>, Outage>
     ensures { Learns result (Means boxed_home (home_of (layout_view layout.now) port.now))
         (λ f. home_paths (layout_view layout.now) f port.now)
         (AreBaselines (notes_of baselines.old)) (AreBaselines (notes_of baselines.new))
-        (held files.old (T.state tree.old)) (held files.new (T.state tree.new)) }
+        (held T.state archive.old) (held T.state archive.new) }
 {
-    let home = find_home(alloc, layout, files, baselines, tree, port)?;
-    Ok(Box::new(alloc, home)?)
+    let home = find_home(archive, layout, baselines, port)?;
+    Ok(Box::new(archive.alloc(), home)?)
 }
 
 impl Homes {
@@ -93,23 +89,20 @@ impl Homes {
     // Finds the home of a port for which it wasn't found yet. The room for it is taken first.
     fn ask<T: Tree>(
         &mut self,
-        alloc: Global,
+        archive: &mut Archive<T>,
         layout: &Layout,
-        files: &mut FileCache,
-        tree: &mut T,
         port: &PortName,
     ) -> Result<usize, Outage>
         requires { home_noted port.now self.old ≡ None }
         ensures learns { Learns result SaysNothing
             (λ f. home_paths (layout_view layout.now) f port.now)
             (AreHomes (layout_view layout.now) self.old)
-            (AreHomes (layout_view layout.now) self.new) (held files.old (T.state tree.old))
-            (held files.new (T.state tree.new)) }
+            (AreHomes (layout_view layout.now) self.new) (held T.state archive.old) (held T.state archive.new) }
         ensures there { IfOk result (IsNoteAt (bytes_eq port.now) (homes_in self.new)) }
     {
         let key = port.clone()?;
         self.found.reserve(1)?;
-        let found = boxed_home(alloc, layout, files, &mut self.baselines, tree, port)?;
+        let found = boxed_home(archive, layout, &mut self.baselines, port)?;
         let place = self.found.len();
         self.keep(key, found);
         Ok(place)
@@ -119,22 +112,19 @@ impl Homes {
     /// tells the place of what was found, counted from 0.
     pub fn look<T: Tree>(
         &mut self,
-        alloc: Global,
+        archive: &mut Archive<T>,
         layout: &Layout,
-        files: &mut FileCache,
-        tree: &mut T,
         port: &PortName,
     ) -> Result<usize, Outage>
         ensures learns { Learns result SaysNothing
             (λ f. home_paths (layout_view layout.now) f port.now)
             (AreHomes (layout_view layout.now) self.old)
-            (AreHomes (layout_view layout.now) self.new) (held files.old (T.state tree.old))
-            (held files.new (T.state tree.new)) }
+            (AreHomes (layout_view layout.now) self.new) (held T.state archive.old) (held T.state archive.new) }
         ensures there { IfOk result (IsNoteAt (bytes_eq port.now) (homes_in self.new)) }
     {
         match self.found.get_index_of(port) {
             Some(place) => Ok(place),
-            None => self.ask(alloc, layout, files, tree, port),
+            None => self.ask(archive, layout, port),
         }
     }
 

@@ -23,7 +23,7 @@ use std::alloc::Global;
 use std::rc::Rc;
 use vk_base::{Memory, Outage, PortName, Stop, TreePath};
 use vk_catalogue::Wrong;
-use vk_files::{FileCache, read_file};
+use vk_files::Archive;
 use vk_model::Manifest;
 use vk_opening::{PortFile, manifest_path};
 use vk_pages::{Home, row_folder};
@@ -41,22 +41,19 @@ fn row_path(alloc: Global, registry: &TreePath, row: &Row) -> Result<TreePath, M
 
 // The manifest of a row, if it is that of the port and the version.
 fn row_manifest<T: Tree>(
-    alloc: Global,
-    files: &mut FileCache,
-    tree: &mut T,
+    archive: &mut Archive<T>,
     port: &PortName,
     registry: &TreePath,
     row: &Row,
 ) -> Result<Rc<Manifest>, Stop<Wrong>>
     ensures { ReadsFrom wrong_view (λ m. manifest_view m.value) result
         (row_manifest port.now registry.now (row_view row.now))
-        (λ f. row_path registry.now (row_view row.now) ∷ []) (held files.old (T.state tree.old))
-        (held files.new (T.state tree.new)) }
+        (λ f. row_path registry.now (row_view row.now) ∷ []) (held T.state archive.old) (held T.state archive.new) }
 {
-    let path = row_path(alloc, registry, row)?;
-    let manifest = read_file::<T, PortFile, Wrong>(alloc, files, tree, &path, &PortFile)?;
-    agree(alloc, &path, port, &row.version, &manifest)?;
-    Ok(Rc::new(alloc, manifest)?)
+    let path = row_path(archive.alloc(), registry, row)?;
+    let manifest = archive.read::<PortFile, Wrong>(&path, &PortFile)?;
+    agree(archive.alloc(), &path, port, &row.version, &manifest)?;
+    Ok(Rc::new(archive.alloc(), manifest)?)
 }
 
 // The answer where there is no manifest to answer, which no caller asks for.
@@ -68,9 +65,7 @@ fn no_answer<X>() -> Result<X, Outage>
 
 // The manifest of the row that an ask means. Where no row is meant, nothing is promised.
 fn table_manifest<T: Tree>(
-    alloc: Global,
-    files: &mut FileCache,
-    tree: &mut T,
+    archive: &mut Archive<T>,
     port: &PortName,
     registry: &TreePath,
     table: &Table,
@@ -80,19 +75,17 @@ fn table_manifest<T: Tree>(
         (λ f m. Some (manifest_said m) ≡ option_map (λ r. r.manifest)
         (row_in (map (page_row port.now registry.now f) table.now) (ask_view ask.now)))
         (λ f. map (row_path registry.now) table.now) NothingKnown NothingKnown
-        (held files.old (T.state tree.old)) (held files.new (T.state tree.new)) }
+        (held T.state archive.old) (held T.state archive.new) }
 {
     match row_meant(table, ask) {
-        Some(row) => settle(row_manifest(alloc, files, tree, port, registry, row)),
+        Some(row) => settle(row_manifest(archive, port, registry, row)),
         None => no_answer(),
     }
 }
 
 // The manifest of the version that an ask means at a home.
 fn home_manifest<T: Tree>(
-    alloc: Global,
-    files: &mut FileCache,
-    tree: &mut T,
+    archive: &mut Archive<T>,
     port: &PortName,
     home: &Home,
     ask: &Ask,
@@ -100,12 +93,12 @@ fn home_manifest<T: Tree>(
     ensures { Learns result
         (λ f. SaysManifestAt port.now (ask_view ask.now) f (Ok (home_view home.now)))
         (λ f. manifest_paths (Ok (home_view home.now))) NothingKnown NothingKnown
-        (held files.old (T.state tree.old)) (held files.new (T.state tree.new)) }
+        (held T.state archive.old) (held T.state archive.new) }
 {
     match home {
         Home::Overlay { manifest, .. } => Ok(Ok(manifest.clone()?)),
         Home::Registry { folder, table, .. } => {
-            table_manifest(alloc, files, tree, port, folder, table, ask)
+            table_manifest(archive, port, folder, table, ask)
         }
     }
 }
@@ -113,9 +106,7 @@ fn home_manifest<T: Tree>(
 /// The manifest of the version that an ask means, by what was found for the port. Where no version
 /// is meant, nothing is promised.
 pub fn manifest_for<T: Tree>(
-    alloc: Global,
-    files: &mut FileCache,
-    tree: &mut T,
+    archive: &mut Archive<T>,
     port: &PortName,
     found: &Result<Home, Wrong>,
     ask: &Ask,
@@ -123,10 +114,10 @@ pub fn manifest_for<T: Tree>(
     ensures { Learns result
         (λ f. SaysManifestAt port.now (ask_view ask.now) f (found_home found.now))
         (λ f. manifest_paths (found_home found.now)) NothingKnown NothingKnown
-        (held files.old (T.state tree.old)) (held files.new (T.state tree.new)) }
+        (held T.state archive.old) (held T.state archive.new) }
 {
     match found {
-        Ok(home) => home_manifest(alloc, files, tree, port, home, ask),
+        Ok(home) => home_manifest(archive, port, home, ask),
         Err(_) => no_answer(),
     }
 }

@@ -1,20 +1,21 @@
 //! A catalogue of ports over the files of a tree.
-ghost use Rattle.std.specs.Prelude.{◌≡◌, IfOk, IfSome, option_map};
+ghost use Rattle.std.specs.Prelude.{◌≡◌, IfOk, option_map};
 ghost use Rattle.vk_spec.specs.Catalogues.{OnlyAsked, OnPages};
 ghost use Rattle.vk_base.specs.Stops.{was_out};
-ghost use Rattle.vk_files.specs.Kept.{IsOf, paths_of};
+ghost use Rattle.vk_files.specs.Kept.{paths_of};
+ghost use Rattle.vk_files.specs.Views.{held};
 ghost use Rattle.vk_opening.specs.Opened.{Opens};
-ghost use Rattle.vk_opening.specs.Views.{layout_view, opened_files};
+ghost use Rattle.vk_opening.specs.Views.{layout_view};
 ghost use Rattle.vk_world.specs.Worlds.{state_of, origin_on, pages_in, IsReadSince};
 
 use crate::libraries::Library;
-use std::alloc::Global;
 use std::marker::Model;
 use std::rc::Rc;
 use vk_base::{Outage, PortName, TreePath};
 use vk_catalogue::{Catalogue, Given, Wrong};
+use vk_files::{Archive, FileCache};
 use vk_model::{Manifest, Project, Store};
-use vk_opening::{Opened, Start, open};
+use vk_opening::{Layout, Opened, open};
 use vk_tree::Tree;
 use vk_version::{Ask, Version};
 
@@ -23,14 +24,14 @@ use vk_version::{Ask, Version};
 /// at is one of those that some port's page asks for.
 #[derive(Drop)]
 pub struct World<T: Tree> {
-    alloc: Global,
-    tree: T,
+    archive: Archive<T>,
     library: Library,
 }
 
 /// What a world had read of its tree.
 #[derive(Drop)]
 pub struct Readings {
+    files: FileCache,
     library: Library,
 }
 
@@ -45,6 +46,7 @@ pub struct Parts<T> {
 }
 
 impl<T: Tree> Model for World<T> {
+    ghost use Rattle.vk_files.specs.Views.{held};
     ghost use Rattle.vk_world.specs.Worlds.{WorldView, learned_view, IsSound};
     ghost use Rattle.vk_expr.specs.contracts.exprs.Expr as expr;
     ghost use Rattle.std.specs.Coded.{codes};
@@ -53,9 +55,9 @@ impl<T: Tree> Model for World<T> {
 
     ghost coded = { Prim.hlevel (codes, expr.the_row.coded) };
 
-    ghost view = { λ w. record { tree = w.tree; learned = learned_view w.library } };
+    ghost view = { λ w. record { archive = w.archive; learned = learned_view w.library } };
 
-    ghost invariant = { λ w. IsSound (T.state w.tree) w.library };
+    ghost invariant = { λ w. IsSound (held T.state w.archive) w.library };
 }
 
 impl<T: Tree> World<T> {
@@ -64,37 +66,32 @@ impl<T: Tree> World<T> {
     /// exactly where files or store have a fault, with the first in this order; `Failed` exactly
     /// where a call of the tree failed.
     pub fn open(
-        alloc: Global,
-        tree: &mut T,
+        archive: &mut Archive<T>,
         project: &Project,
         store: Option<&Store>,
     ) -> Result<Opened, Outage>
         ensures { Opens project.now (option_map (λ s. s.now) store.entry) result
-            (T.state tree.old) (T.state tree.new) }
+            (held T.state archive.old) (held T.state archive.new) }
     {
-        open(alloc, tree, project, store)
+        open(archive, project, store)
     }
 
-    /// The world of a project that was opened on a tree. Takes no memory.
-    pub fn on(alloc: Global, start: Start, tree: T) -> World<T>
-        requires { IfSome (T.state tree).told (λ t. IsOf t.files (opened_files start)) }
-        ensures tree { result.tree ≡ tree }
-        ensures pages { (state_of T.state result).pages ≡ pages_in (layout_view start.layout)
-            (T.state tree).told }
-        ensures origin { (state_of T.state result).origin ≡ origin_on (layout_view start.layout)
-            (paths_of (opened_files start)) (T.state tree) }
+    /// The world of a project that was opened over an archive. Takes no memory.
+    pub fn on(archive: Archive<T>, layout: Layout) -> World<T>
+        ensures archive { result.archive ≡ archive }
+        ensures pages { (state_of T.state result).pages ≡ pages_in (layout_view layout)
+            (T.state archive.tree).told }
+        ensures origin { (state_of T.state result).origin ≡ origin_on (layout_view layout)
+            (paths_of archive.kept) (T.state archive.tree) }
     {
-        World {
-            alloc,
-            tree,
-            library: Library::new(alloc, start),
-        }
+        let library = Library::new(archive.alloc(), layout, archive.len());
+        World { archive, library }
     }
 
     /// The tree as it stands: no path was looked at twice, by opening or since, and where it tells
     /// its files, each path since is one that some port's page asks for. Takes no memory.
     pub fn into_tree(self) -> T
-        ensures tree { result ≡ self.tree }
+        ensures tree { result ≡ self.archive.tree }
         ensures read { IsReadSince (state_of T.state self).origin (T.state result) }
     {
         self.into_parts().tree
@@ -103,13 +100,15 @@ impl<T: Tree> World<T> {
     /// The tree as it stands, as `into_tree` answers it, and what was read of it, which a program
     /// that ends need not free. Takes no memory.
     pub fn into_parts(self) -> Parts<T>
-        ensures tree { result.tree ≡ self.tree }
+        ensures tree { result.tree ≡ self.archive.tree }
         ensures read { IsReadSince (state_of T.state self).origin (T.state result.tree) }
     {
-        self.library.files.known();
+        self.archive.known();
+        let parts = self.archive.into_parts();
         Parts {
-            tree: self.tree,
+            tree: parts.tree,
             read: Readings {
+                files: parts.files,
                 library: self.library,
             },
         }
@@ -124,8 +123,7 @@ impl<T: Tree> World<T> {
         ensures asked { OnlyAsked (was_out result) (state_of T.state self.old)
             (state_of T.state self.new) }
     {
-        self.library
-            .folder(self.alloc, &mut self.tree, port, version)
+        self.library.folder(&mut self.archive, port, version)
     }
 }
 
@@ -133,11 +131,11 @@ impl<T: Tree> Catalogue for World<T> {
     ghost state = { state_of T.state };
 
     fn given(&mut self, port: &PortName) -> Result<Result<Given, Wrong>, Outage> {
-        self.library.given(self.alloc, &mut self.tree, port)
+        self.library.given(&mut self.archive, port)
     }
 
     fn version(&mut self, port: &PortName, ask: &Ask) -> Result<Option<Version>, Outage> {
-        self.library.version(self.alloc, &mut self.tree, port, ask)
+        self.library.version(&mut self.archive, port, ask)
     }
 
     fn manifest(
@@ -145,10 +143,10 @@ impl<T: Tree> Catalogue for World<T> {
         port: &PortName,
         ask: &Ask,
     ) -> Result<Result<Rc<Manifest>, Wrong>, Outage> {
-        self.library.manifest(self.alloc, &mut self.tree, port, ask)
+        self.library.manifest(&mut self.archive, port, ask)
     }
 
     fn faults(&self) -> u64 {
-        self.tree.faults()
+        self.archive.tree().faults()
     }
 }

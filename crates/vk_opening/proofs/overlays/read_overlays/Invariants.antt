@@ -7,4 +7,4 @@ use Rattle.vk_opening.proofs.LoopLemmas.{ReadSoFar}
 use Rattle.vk_opening.proofs.overlays.read_overlays.Given as goal
 
 abbrev pub invariant-loop-folder : goal.invariant-loop-folder
-invariant-loop-folder g l = ReadSoFar manifest_path overlay_view overlay_at l.overlays (into_iter_items l.folder-iterator) l.fn.folders (held l.initial.files (g.T.Tree.state l.initial.tree)) (held l.files (g.T.Tree.state l.tree))
+invariant-loop-folder g l = ReadSoFar manifest_path overlay_view overlay_at l.overlays (into_iter_items l.folder-iterator) l.fn.folders (held g.T.Tree.state l.initial.archive) (held g.T.Tree.state l.archive)

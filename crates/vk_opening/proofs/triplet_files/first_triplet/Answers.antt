@@ -10,7 +10,7 @@ returns-in_err-path g c = finds_ended (λ path f. triplet_from c.args.name.now p
 
 pub returns-in-Some : goal.returns-in-Some
 returns-in-Some g c =
-    finds_inside (λ path f. triplet_from c.args.name.now path f) (rw c.in-Some.is at c.in_ok-path.ensures) c.read_file.ensures.reads (λ f is. found_again is_at c.args.paths.now f refl is)
+    finds_inside (λ path f. triplet_from c.args.name.now path f) (rw c.in-Some.is at c.in_ok-path.ensures) c.read.ensures.reads (λ f is. found_again is_at c.args.paths.now f refl is)
 
 pub returns-in-None : goal.returns-in-None
 returns-in-None g c = finds_both (λ path f. triplet_from c.args.name.now path f) (rw c.in-None.is at c.in_ok-path.ensures) (finds_here c.no_triplet.ensures.calm (λ f. c.no_triplet.ensures.told))

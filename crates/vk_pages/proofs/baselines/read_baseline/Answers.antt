@@ -9,5 +9,5 @@ returns-in_err-path g c = finds_lacking c.from_residual.ensures.1 (λ f known. k
 
 pub returns : goal.returns
 returns g c =
-    let read = rw c.in_ok-path.ensures at c.read_file.ensures.reads in
+    let read = rw c.in_ok-path.ensures at c.read.ensures.reads in
     record { reads = learned_so c.or_bad.ensures.failed (λ f known. (known, λ p has. has)) (λ f before known gives. (known, c.or_bad.ensures.told _ (rw (told_itself (baseline_file (served_view c.args.served.now) f)) at gives))) read.reads }

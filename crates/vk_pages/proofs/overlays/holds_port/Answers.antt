@@ -8,4 +8,4 @@ pub returns-in_err-path : goal.returns-in_err-path
 returns-in_err-path g c = finds_lacking c.from_residual-in_err-path.ensures.1 (λ f known. known)
 
 pub returns : goal.returns
-returns g c = rw (c.in_ok-path.ensures, c.in_ok-folder.ensures) at c.file_is_at.ensures
+returns g c = rw (c.in_ok-path.ensures, c.in_ok-folder.ensures) at c.is_at.ensures

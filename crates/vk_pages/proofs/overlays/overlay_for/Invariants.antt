@@ -8,4 +8,4 @@ use Rattle.vk_pages.proofs.overlays.overlay_for.Given as goal
 
 abbrev pub invariant-loop-overlay : goal.invariant-loop-overlay
 invariant-loop-overlay g l =
-    NoneSoFar (overlay_path l.port) (has_port l.port) (map overlay_view (drop l.overlay-index l.overlays)) (map overlay_view l.overlays) (held l.initial.files (g.T.Tree.state l.initial.tree)) (held l.files (g.T.Tree.state l.tree))
+    NoneSoFar (overlay_path l.port) (has_port l.port) (map overlay_view (drop l.overlay-index l.overlays)) (map overlay_view l.overlays) (held g.T.Tree.state l.initial.archive) (held g.T.Tree.state l.archive)

@@ -5,4 +5,4 @@ pub returns-in_err-path : goal.returns-in_err-path
 returns-in_err-path g c = finds_lacking c.from_residual.ensures.1 (λ f known. known)
 
 pub returns : goal.returns
-returns g c = rw c.in_ok-path.ensures at c.read_file.ensures.reads
+returns g c = rw c.in_ok-path.ensures at c.read.ensures.reads

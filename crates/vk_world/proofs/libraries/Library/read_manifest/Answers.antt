@@ -6,7 +6,7 @@ use Rattle.vk_world.proofs.LibraryLemmas.{serves_manifest}
 use Rattle.vk_world.proofs.libraries.Library.read_manifest.Goals as goal
 
 pub returns : goal.returns
-returns g c = serves_manifest (ask_view c.args.ask.now) c.manifest_for.new.files (found_home c.at-found.result.now) c.in_ok-place.ensures.serves (c.in_ok-place.ensures.there.found ∙ c.at-found.ensures) c.manifest_for.ensures
+returns g c = serves_manifest (ask_view c.args.ask.now) (found_home c.at-found.result.now) c.in_ok-place.ensures.serves (c.in_ok-place.ensures.there.found ∙ c.at-found.ensures) c.manifest_for.ensures
 
 pub returns-in_err-place : goal.returns-in_err-place
 returns-in_err-place g c = record {
