@@ -19,12 +19,12 @@ use vk_version::Version;
 /// What is known of a port.
 #[derive(Drop)]
 pub(crate) struct Known {
+    /// Whether an overlay has it, or an override is for it.
+    pub(crate) pinned: bool,
     /// Its given version, unless something is wrong with that.
     pub(crate) given: Option<Given>,
     /// What the table has for what a baseline gives.
     pub(crate) base: Option<Version>,
-    /// Whether an overlay has it, or an override is for it.
-    pub(crate) pinned: bool,
 }
 
 /// What is known of a port, in a block of its own: a map of ports moves little of it when it grows.

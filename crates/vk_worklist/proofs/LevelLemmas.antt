@@ -1,17 +1,15 @@
 -- A level's end, and one line more.
 use Rattle.std.proofs.Common.{◌≡◌, ◌+◌, ◌<◌, ◌≤◌, ℕ, Bool, zero, suc, true, false, refl, List, [], ◌∷◌, ◌++◌, take, drop, inl, inr, ap, sym, ◌∙◌, subst, arith}
-use Rattle.std.specs.Prelude.{Option, Some, None, IfSome, slice_get, length, reverse}
+use Rattle.std.specs.Prelude.{Option, Some, None, IfSome, slice_get, length}
 use Rattle.std.specs.Map.{keys_of}
 use Rattle.std.specs.List.{Contains, IsDistinct, AllByRecursion}
-use Rattle.std.specs.List.Sorted.{IsSorted, IsSortedBy, IsPermutation}
-use Rattle.std.specs.Ordering.{is_lt}
-use Rattle.std.proofs.lemmas.List.{map-append, take-append-drop, take-append-le, length-append, length-map, length-reverse, reverse-reverse, reverse-append}
+use Rattle.std.specs.List.Sorted.{IsPermutation}
+use Rattle.std.proofs.lemmas.List.{map-append, take-append-drop, take-append-le, length-map}
 use Rattle.std.proofs.lemmas.List.Elements.{Contains-append_left, Contains-append_right}
-use Rattle.std.proofs.lemmas.List.Sorted.{IsPermutation-sym, IsPermutation-map, IsPermutation-trans, IsPermutation-reverse, length_permutation}
+use Rattle.std.proofs.lemmas.List.Sorted.{IsPermutation-sym, IsPermutation-map}
 use Rattle.std.specs.Cmp.{on_equiv}
 use Rattle.std.specs.Cmp.Lexicographic.{lists_equiv, nat_list_eq_equiv}
-use Rattle.indexmap.proofs.MapLemmas.{distinct_permutation, sorted_keys}
-use Rattle.indexmap.specs.IndexMap.{insert_all}
+use Rattle.indexmap.proofs.MapLemmas.{distinct_permutation}
 use Rattle.vk_spec.specs.Lists.{NoRepeats, IsWithin}
 use Rattle.vk_spec.specs.Settings.{Setting}
 use Rattle.vk_spec.proofs.ListLemmas.{contains_nothing, contains_first, contains_later, contains_cases, no_repeats_append}
@@ -29,8 +27,10 @@ use Rattle.vk_model.specs.FactViews.{fact_view}
 use Rattle.vk_model.specs.FactKeys.{key_of}
 use Rattle.vk_worklist.specs.Alone.{Follows}
 use Rattle.vk_worklist.specs.Entries.{reason_of, reasons_in, facts_in, IsNoted, IsNextLevel}
-use Rattle.vk_worklist.specs.Orders.{is_same, fact_order}
-use Rattle.vk_worklist.proofs.MapLemmas.{Entries, same_view, view_same, put_all, sorted_ascends, permuted_within}
+use Rattle.vk_worklist.specs.Arranged.{IsArranged, IsPutInOrder}
+use Rattle.vk_worklist.specs.Orders.{is_same}
+use Rattle.vk_worklist.proofs.MapLemmas.{Entries, same_view, view_same, sorted_ascends, permuted_within}
+use Rattle.vk_worklist.proofs.ArrangeLemmas.{behind_sorted}
 use Rattle.vk_worklist.proofs.NoteLemmas.{facts_split, noted_behind, much_behind}
 
 -- ---- a level's end
@@ -91,54 +91,31 @@ pub record IsAdded (lines fresh sorted new : Entries) : Type 0 where
   pub level : IsNextLevel (reasons_in lines) (reasons_in fresh) (reasons_in new)
   pub distinct : NoRepeats (facts_in new)
 
-level_added : (lines fresh sorted new : Entries) → NoRepeats (facts_in lines ++ facts_in fresh) → IsPermutation fresh sorted → IsSorted fact_order (keys_of sorted) → new ≡ insert_all is_same lines sorted → IsAdded lines fresh sorted new
-level_added lines fresh sorted new each moved order added =
-    let distinct : NoRepeats (facts_in sorted) = moved_distinct fresh sorted moved (last_distinct (facts_in lines) (facts_in fresh) each) in
-    let from : IsWithin (reasons_in sorted) (reasons_in fresh) = permuted_within sorted fresh (IsPermutation-sym fresh sorted moved) in
-    let unknown : (x : plain.Fact) → Contains (facts_in sorted) x → Contains (facts_in lines) x → ⊥ = λ x h held. parts_apart (facts_in lines) (facts_in fresh) each x (facts_within (reasons_in sorted) (reasons_in fresh) from x h) held in
-    let behind : new ≡ lines ++ sorted = added ∙ put_all lines sorted unknown distinct in
+-- by way of entries that change places
+pub level_of : (settled : ℕ) (old new : Entries) → NoRepeats (facts_in old) → IsPutInOrder settled old new → IsAdded (take settled old) (drop settled old) (drop settled new) new
+level_of settled old new each put =
+    let arranged : IsArranged settled old new = put.arranged in
+    let lines : Entries = take settled old in
+    let fresh : Entries = drop settled old in
+    let sorted : Entries = drop settled new in
+    let apart : NoRepeats (facts_in lines ++ facts_in fresh) = subst NoRepeats (facts_split lines fresh old (sym (take-append-drop settled old))) each in
+    let distinct : NoRepeats (facts_in sorted) = moved_distinct fresh sorted arranged.moved (last_distinct (facts_in lines) (facts_in fresh) apart) in
+    let from : IsWithin (reasons_in sorted) (reasons_in fresh) = permuted_within sorted fresh (IsPermutation-sym fresh sorted arranged.moved) in
+    let unknown : (x : plain.Fact) → Contains (facts_in sorted) x → Contains (facts_in lines) x → ⊥ = λ x h held. parts_apart (facts_in lines) (facts_in fresh) apart x (facts_within (reasons_in sorted) (reasons_in fresh) from x h) held in
+    let behind : new ≡ lines ++ sorted = sym (take-append-drop settled new) ∙ ap (λ l. l ++ sorted) arranged.kept in
     record {
       behind = behind;
       level = record {
         sorted = reasons_in sorted;
         behind = ap reasons_in behind ∙ map-append reason_of lines sorted;
-        to = permuted_within fresh sorted moved;
+        to = permuted_within fresh sorted arranged.moved;
         from = from;
         distinct = distinct;
-        ascends = sorted_ascends sorted order distinct;
+        ascends = sorted_ascends sorted (behind_sorted settled new put.order) distinct;
       };
       distinct = subst NoRepeats (sym (facts_split lines sorted new behind))
-          (no_repeats_append (facts_in lines) (facts_in sorted) (first_distinct (facts_in lines) (facts_in fresh) each) distinct (λ x held h. unknown x h held));
+          (no_repeats_append (facts_in lines) (facts_in sorted) (first_distinct (facts_in lines) (facts_in fresh) apart) distinct (λ x held h. unknown x h held));
     }
-
--- what is put in order, and then turned, falls
-pub falling_moved : (old sorted new : Entries) → IsPermutation old sorted → new ≡ reverse sorted → IsPermutation old (reverse new)
-falling_moved old sorted new moved turned = subst (IsPermutation old) (sym (ap reverse turned ∙ reverse-reverse sorted)) moved
-
-pub falling_sorted : (sorted new : Entries) → IsSortedBy (λ a b. is_lt (fact_order a.0 b.0)) sorted → new ≡ reverse sorted → IsSorted fact_order (keys_of (reverse new))
-falling_sorted sorted new order turned = subst (λ l. IsSorted fact_order (keys_of l)) (sym (ap reverse turned ∙ reverse-reverse sorted)) (sorted_keys (λ a b. is_lt (fact_order a b)) sorted order)
-
--- by way of entries that were moved out and put in falling order
-module _ (old lines moved falling new : Entries) (settled : ℕ) (each : NoRepeats (facts_in old)) (kept : lines ≡ take settled old) (out : moved ≡ reverse (drop settled old)) (turned : IsPermutation moved (reverse falling))
-    (order : IsSorted fact_order (keys_of (reverse falling))) (added : new ≡ insert_all is_same lines (reverse falling)) where
-  pub level_by : IsAdded (take settled old) (drop settled old) (reverse falling) new
-  level_by =
-      level_added (take settled old) (drop settled old) (reverse falling) new
-      (subst NoRepeats (facts_split (take settled old) (drop settled old) old (sym (take-append-drop settled old))) each)
-      (IsPermutation-trans (drop settled old) moved (reverse falling) (subst (IsPermutation (drop settled old)) (sym out) (IsPermutation-reverse (drop settled old))) turned) order
-      (added ∙ ap (λ l. insert_all is_same l (reverse falling)) kept)
-
-  pub level_long : length new ≡ length old
-  level_long =
-      ap length level_by.behind
-      ∙ length-append (take settled old) (reverse falling)
-      ∙ ap (λ n. length (take settled old) + n) (length_permutation moved (reverse falling) turned ∙ ap length out ∙ length-reverse (drop settled old))
-      ∙ sym (length-append (take settled old) (drop settled old))
-      ∙ ap length (take-append-drop settled old)
-
--- the last of a list is the first of it turned
-pub turned_last : {X : Type 0} (xs ys : List X) (x : X) → xs ≡ ys ++ x ∷ [] → reverse xs ≡ x ∷ reverse ys
-turned_last xs ys x split = ap reverse split ∙ reverse-append ys (x ∷ [])
 
 -- ---- one line more
 

@@ -1,5 +1,6 @@
 mod MapLemmas
 mod NoteLemmas
+mod ArrangeLemmas
 mod LevelLemmas
 mod EndLemmas
 mod TickLemmas

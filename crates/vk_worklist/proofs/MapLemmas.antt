@@ -7,17 +7,13 @@ use Rattle.std.specs.Ordering.{is_lt}
 use Rattle.std.specs.Map.{lookup, keys_of}
 use Rattle.std.specs.List.{Contains}
 use Rattle.std.specs.List.Sorted.{IsSorted, IsPermutation}
-use Rattle.std.proofs.lemmas.List.{append_assoc, map-append, append-nil}
 use Rattle.std.proofs.lemmas.List.Sorted.{Contains-permutation}
-use Rattle.std.proofs.lemmas.List.Elements.{Contains-push_cases}
-use Rattle.indexmap.specs.IndexMap.{insert_all, insert_entry}
+use Rattle.indexmap.specs.IndexMap.{insert_entry}
 use Rattle.vk_spec.specs.Lists.{NoRepeats, IsWithin}
 use Rattle.vk_spec.proofs.ListLemmas.{contains_nothing, contains_first, contains_later, contains_cases}
 use Rattle.vk_spec.proofs.FileLemmas.{path_total, path_same}
 use Rattle.vk_resolution.specs.Keys.{Key, key_cmp, Ascends}
-use Rattle.vk_resolution.specs.Asking as plain
 use Rattle.vk_resolution.specs.Asking.{fact_key}
-use Rattle.vk_resolution.specs.Reasons.{facts_of}
 use Rattle.vk_resolution.proofs.Members.{map_contains, contains_map, true_false}
 use Rattle.vk_resolution.proofs.Orders.{same_key-Decides, turned}
 use Rattle.vk_resolution.proofs.FactLemmas.{fact_key-IsKey}
@@ -96,20 +92,6 @@ unwrap_none (Some d) c none = absurd (none refl)
 pub put_new : (x : Fact) (c w : Cause) (es new : Entries) → new ≡ insert_entry is_same es x w → w ≡ unwrap_or (lookup (is_same x) es) c → (Contains (facts_in es) (fact_view x) → ⊥) → new ≡ es ++ (x, c) ∷ []
 put_new x c w es new made value unnoted =
     made ∙ ap (insert_entry is_same es x) (value ∙ unwrap_none (lookup (is_same x) es) c (λ some. unnoted (found_contains x es some))) ∙ put_last x c es unnoted
-
-pub put_all : (es fs : Entries) → ((x : plain.Fact) → Contains (facts_in fs) x → Contains (facts_in es) x → ⊥) → NoRepeats (facts_in fs) → insert_all is_same es fs ≡ es ++ fs
-put_all es [] apart distinct = sym (append-nil es)
-put_all es (f ∷ fs) apart distinct =
-    ap (λ l. insert_all is_same l fs) (put_last f.0 f.1 es (apart (fact_view f.0) (contains_first (fact_view f.0) (facts_in fs))))
-    ∙ put_all (es ++ f ∷ []) fs
-    (λ x h held. elim (Contains-push_cases (facts_in es) (fact_view f.0) x (subst (λ l. Contains l x) (more_facts es f) held)) [
-      | inl old ↦ apart x (contains_later (fact_view f.0) x (facts_in fs) h) old
-      | inr same ↦ distinct.0 (subst (Contains (facts_in fs)) (sym same) h)
-    ]) distinct.1
-    ∙ append_assoc es (f ∷ []) fs
-  where
-    more_facts : (es : Entries) (f : Fact × Cause) → facts_in (es ++ f ∷ []) ≡ facts_in es ++ fact_view f.0 ∷ []
-    more_facts es f = ap facts_of (map-append reason_of es (f ∷ [])) ∙ map-append (λ r. r.fact) (reasons_in es) (reason_of f ∷ [])
 
 -- ---- a sort
 

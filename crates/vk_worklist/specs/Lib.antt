@@ -8,3 +8,4 @@ pub mod Rows
 -- what functions, laws and examples say besides
 pub mod Orders
 pub mod Joining
+pub mod Arranged

@@ -37,7 +37,7 @@ fn first_level(
     ensures calm { has_failed result ≡ false }
 {
     note_all(lines, most, given)?;
-    next_level(lines, 0, given)?;
+    next_level(lines, 0)?;
     Ok(())
 }
 
@@ -80,7 +80,7 @@ fn close_levels<C: Catalogue, S: Source, L: Ledger>(
         if lines.len() == settled {
             return Ok(());
         }
-        next_level(lines, settled, brought)?;
+        next_level(lines, settled)?;
         taken = settled;
     }
 }

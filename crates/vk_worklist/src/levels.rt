@@ -1,7 +1,4 @@
 ghost use Rattle.std.specs.Prelude.{◌≡◌, ◌+◌, ◌++◌, ◌<◌, ◌≤◌, ◌∷◌, [], OnOk, drop, length, take};
-ghost use Rattle.std.specs.Prelude.{IsPermutation, IsSorted, reverse};
-ghost use Rattle.std.specs.Map.{keys_of};
-ghost use Rattle.indexmap.specs.IndexMap.{insert_all};
 ghost use Rattle.vk_spec.specs.Lists.{NoRepeats};
 ghost use Rattle.vk_spec.specs.Catalogues.{OnlyAsked, OnPages};
 ghost use Rattle.vk_base.specs.Stops.{has_failed};
@@ -11,84 +8,32 @@ ghost use Rattle.vk_resolution.specs.Planner.{inputs_of};
 ghost use Rattle.vk_model.specs.FactViews.{fact_view};
 ghost use Rattle.vk_worklist.specs.Entries.{reasons_in, facts_in, IsNextLevel};
 ghost use Rattle.vk_worklist.specs.Faults.{OnFault};
-ghost use Rattle.vk_worklist.specs.Orders.{fact_order, is_same};
 ghost use Rattle.vk_worklist.specs.Ticks.{ticks};
 
 use crate::faults::CloseFault;
 use crate::notes::note_all;
+use crate::orders::put_in_order;
 use crate::sources::Source;
 use indexmap::IndexMap;
 use std::alloc::AllocError;
-use std::cmp::Ordering;
 use std::sync::ledger::Ledger;
 use vk_base::{Steps, Stop};
 use vk_catalogue::Catalogue;
 use vk_model::{Cause, Fact};
 
-// Moves the lines from a place on out, the last first.
-fn move_out(
-    lines: &mut IndexMap<Fact, Cause>,
-    settled: usize,
-    moved: &mut Vec<(Fact, Cause)>,
-) -> Result<(), AllocError>
-    requires within { settled ≤ length lines.old.entries }
-    requires none { moved.old.items ≡ [] }
-    ensures moved { OnOk result (moved.new.items ≡ reverse (drop settled lines.old.entries)) }
-    ensures lines { OnOk result (lines.new.entries ≡ take settled lines.old.entries) }
-{
-    moved.reserve(lines.len() - settled)?;
-    while lines.len() > settled {
-        moved.push(lines.pop().unwrap())?;
-    }
-    Ok(())
-}
-
-// Puts entries in falling order.
-fn put_in_falling_order(entries: &mut Vec<(Fact, Cause)>)
-    ensures moved { IsPermutation entries.old.items (reverse entries.new.items) }
-    ensures order { IsSorted fact_order (keys_of (reverse entries.new.items)) }
-{
-    entries.sort_unstable_by(
-        |one: &(Fact, Cause), other: &(Fact, Cause)| -> Ordering
-            ensures { result ≡ fact_order one.now.0 other.now.0 }
-        { one.0.cmp(&other.0) },
-    );
-    entries.reverse();
-}
-
-// Puts entries behind the lines, the last first, and leaves none of them.
-fn put_behind(
-    lines: &mut IndexMap<Fact, Cause>,
-    entries: &mut Vec<(Fact, Cause)>,
-) -> Result<(), AllocError>
-    ensures lines { OnOk result (lines.new.entries
-        ≡ insert_all is_same lines.old.entries (reverse entries.old.items)) }
-    ensures none { OnOk result (entries.new.items ≡ []) }
-{
-    while let Some((fact, cause)) = entries.pop() {
-        lines.insert(fact, cause)?;
-    }
-    Ok(())
-}
-
-// Puts the fresh facts, which stand behind the settled lines, in order, by way of an empty vector.
+// Puts the fresh facts, which stand behind the settled lines, in order.
 pub(crate) fn next_level(
     lines: &mut IndexMap<Fact, Cause>,
     settled: usize,
-    moved: &mut Vec<(Fact, Cause)>,
 ) -> Result<(), AllocError>
     requires within { settled ≤ length lines.old.entries }
     requires distinct { NoRepeats (facts_in lines.old.entries) }
-    requires none { moved.old.items ≡ [] }
     ensures ok { OnOk result (IsNextLevel (reasons_in (take settled lines.old.entries))
         (reasons_in (drop settled lines.old.entries)) (reasons_in lines.new.entries)) }
     ensures len { OnOk result (length lines.new.entries ≡ length lines.old.entries) }
     ensures distinct { OnOk result (NoRepeats (facts_in lines.new.entries)) }
-    ensures none { OnOk result (moved.new.items ≡ []) }
 {
-    move_out(lines, settled, moved)?;
-    put_in_falling_order(moved);
-    put_behind(lines, moved)
+    put_in_order(lines, settled)
 }
 
 // The fact of a line, counted from 0.

@@ -9,6 +9,7 @@ mod faults;
 mod joined_sources;
 mod levels;
 mod notes;
+mod orders;
 mod places;
 mod rows;
 mod sources;

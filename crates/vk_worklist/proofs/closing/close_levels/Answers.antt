@@ -40,7 +40,7 @@ loop-lines-preserved g c =
       ticks = (let same = ap ticks taken in omega (arith, same, c.loop-lines.invariant.ticks, c.take_up_level.ensures.ticks));
       setting = c.in_ok-take_up_level.ensures.setting ∙ c.loop-lines.invariant.setting;
       asked = asked_then c.loop-lines.invariant.asked c.in_ok-take_up_level.ensures.asked;
-      none = c.in_ok-next_level.ensures.none;
+      none = c.in_ok-take_up_level.ensures.none;
       tracks = subst (λ l. IfSome o (λ pages. g.S.Source.tracks c.take_up_level.new.source pages l)) taken c.in_ok-take_up_level.ensures.tracks;
       closing = subst (λ l. IfSome o (λ pages. IsClosing (inputs_of s pages) (reasons_in new) l [])) taken (next_closing o s (reasons_in lines) (reasons_in (drop (length lines) all)) (reasons_in new) c.in_ok-take_up_level.ensures.closing level);
     }
