@@ -2,10 +2,10 @@
 """Measures how long closing and planning take in memory, each run in a process of its own.
 
 Rows of `vk_load` in one process close again over memory that the one before has warmed; a plan is
-made once a process. Each round runs every size, so that a machine that gets slower or faster for a
-while does so for all of them. What is told is the least time, the lower quarter and the median of
-each size, and how many times as long each next size takes by each of the three, and by the median
-of the rounds, each by itself.
+made once a process. Each round runs every size, of two programs in turn where another one is to
+stand beside, so that a machine that gets slower or faster for a while does so for all of them. What
+is told is the least time, the lower quarter and the median of each size, and how many times as long
+each next size takes by each of the three, and by the median of the rounds, each by itself.
 """
 import argparse
 import re
@@ -33,14 +33,15 @@ def run_once(program, shape, size):
     return int(found[1]), int(found[2])
 
 
-def times_of(program, shape, sizes, rounds):
-    """The times of each size, round by round; the first round warms up."""
-    times = {size: [] for size in sizes}
+def times_of(programs, shape, sizes, rounds):
+    """The times of each program and size, round by round; the first round warms up."""
+    times = {(program, size): [] for program in programs for size in sizes}
     for number in range(rounds + 1):
         for size in sizes:
-            run = run_once(program, shape, size)
-            if number:
-                times[size].append(run)
+            for program in programs:
+                run = run_once(program, shape, size)
+                if number:
+                    times[program, size].append(run)
     return times
 
 
@@ -59,13 +60,19 @@ def show(title, times, sizes):
 def main():
     words = argparse.ArgumentParser(description=__doc__.split("\n")[0])
     words.add_argument("--program", required=True, metavar="PATH", help="vk_load's program")
+    words.add_argument("--beside", metavar="PATH", help="a program to run in turn with it")
     words.add_argument("--shape", default="chain", help="what is closed (default: chain)")
     words.add_argument("--rounds", type=int, default=25)
     words.add_argument("sizes", nargs="+", type=int, metavar="SIZE")
     words = words.parse_args()
-    times = times_of(words.program, words.shape, words.sizes, words.rounds)
-    for place, title in enumerate(("closing", "the whole plan")):
-        show(title, {size: [run[place] for run in runs] for size, runs in times.items()}, words.sizes)
+    programs = [words.program] + [words.beside] * (words.beside is not None)
+    times = times_of(programs, words.shape, words.sizes, words.rounds)
+    for program in programs:
+        if words.beside:
+            print(f"== {program}")
+        for place, title in enumerate(("closing", "the whole plan")):
+            show(title, {size: [run[place] for run in times[program, size]] for size in words.sizes},
+                 words.sizes)
 
 
 main()

@@ -61,7 +61,10 @@ def take_module(crate, kept):
                 if "--toolchain" in words:
                     toolchain, archives = option(words, "--toolchain")[0], option(words, "--link")
                 elif toolchain and words and words[0].endswith("/clang") and "module.bc" in words:
-                    shutil.copy(process / "cwd" / "module.bc", kept)
+                    try:
+                        shutil.copyfile(process / "cwd" / "module.bc", kept)
+                    except FileNotFoundError:  # that compiler has ended
+                        continue
                     if kept.stat().st_size > 100_000:
                         return toolchain, archives
             time.sleep(0.02)
