@@ -70,9 +70,9 @@ def main():
     for program in programs:
         if words.beside:
             print(f"== {program}")
+        runs = {size: times[program, size] for size in words.sizes}
         for place, title in enumerate(("closing", "the whole plan")):
-            show(title, {size: [run[place] for run in times[program, size]] for size in words.sizes},
-                 words.sizes)
+            show(title, {size: [run[place] for run in runs[size]] for size in runs}, words.sizes)
 
 
 main()
