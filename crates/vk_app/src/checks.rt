@@ -188,7 +188,7 @@ fn judged_by<T: Tree, L: Ledger>(
     check(alloc, bytes, world, setting, &mut steps)
 }
 
-// Judges a report's bytes under a setting, over the tree on which it was opened.
+// Judges a report's bytes under a setting, over the archive on which it was opened.
 fn judge_on<T: Tree>(
     alloc: Global,
     checked: Checked<'_>,
@@ -216,7 +216,7 @@ fn judge_on<T: Tree>(
     }
 }
 
-/// Checks a report under a setting, over the tree on which it was opened.
+/// Checks a report under a setting, over the archive on which it was opened.
 pub fn check_on<T: Tree>(
     alloc: Global,
     checked: Checked<'_>,

@@ -68,15 +68,16 @@ struct Resolved<T> {
     read: Readings,
 }
 
-// What a setting comes to, over the tree on which it was opened.
+// What a setting comes to, over the archive on which it was opened.
 fn resolved_on<T: Tree>(
     alloc: Global,
     setting: &Setting,
     layout: Layout,
     archive: Archive<T>,
 ) -> Resolved<T>
-    ensures content { IfSome (T.state archive.tree).told (λ t. Resolves (Settles (setting_view setting.now)
-        (page_of (layout_view layout) t.files)) result.outcome) }
+    ensures content { IfSome (T.state archive.tree).told (λ t. Resolves
+        (Settles (setting_view setting.now) (page_of (layout_view layout) t.files))
+        result.outcome) }
     ensures reads { ReadsOnce (IsOfPorts (layout_view layout) to_plan)
         (paths_of archive.kept) (has_failed result.outcome) (T.state archive.tree)
         (T.state result.tree) }
@@ -91,7 +92,7 @@ fn resolved_on<T: Tree>(
     }
 }
 
-// Plans under a setting, over the tree on which it was opened.
+// Plans under a setting, over the archive on which it was opened.
 fn plan_on<T: Tree>(
     alloc: Global,
     project: &Project,
@@ -116,7 +117,7 @@ fn plan_on<T: Tree>(
     }
 }
 
-// Plans a load of a size under its setting, over the tree on which that was opened.
+// Plans a load of a size under its setting, over the archive on which that was opened.
 fn load_on<T: Tree>(
     alloc: Global,
     size: u32,
@@ -143,7 +144,7 @@ fn load_on<T: Tree>(
     }
 }
 
-// Writes the ABI text that is wanted, over the tree on which its setting was opened.
+// Writes the ABI text that is wanted, over the archive on which its setting was opened.
 fn text_on<T: Tree>(
     alloc: Global,
     wanted: Wanted<'_>,
@@ -171,7 +172,7 @@ fn text_on<T: Tree>(
     }
 }
 
-// Does a task under a setting, over the tree on which that was opened.
+// Does a task under a setting, over the archive on which that was opened.
 fn done_on<T: Tree>(
     alloc: Global,
     task: &Task,
@@ -237,7 +238,8 @@ fn done_refused<T: Tree>(alloc: Global, task: &Task, early: Early, archive: Arch
 // Does a task for a project that was opened, or tells the early line.
 fn done_opened<T: Tree>(alloc: Global, task: &Task, opened: Opened, archive: Archive<T>) -> Ended<T>
     requires { IfSome (T.state archive.tree).told (λ t. IsOpenedFor (project_of task.now) opened) }
-    ensures { NoRepeats (paths_of archive.kept) → EndsFor (Ok task.now) (OpenedShows task.now opened)
+    ensures { NoRepeats (paths_of archive.kept) →
+        EndsFor (Ok task.now) (OpenedShows task.now opened)
         (ReadsFor (Ok task.now) (OpenedMayAsk opened) (paths_of archive.kept))
         (end_view result.end) (T.state archive.tree) (T.state result.tree) }
 {

@@ -1,6 +1,6 @@
-//! A tree and what was read of it, as one archive: what stands at a path is found once and kept, and
-//! readers say what it means. It promises upwards that an answer is what the files say, and that no
-//! path is read twice.
+//! A tree and what was read of it, as one archive: what stands at a path is found once and kept,
+//! and readers say what it means. It promises upwards that an answer is what the files say, and
+//! that no path is read twice.
 #![tactic(auto)]
 
 mod archives;

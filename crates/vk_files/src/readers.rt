@@ -1,5 +1,6 @@
 //! Readers of files, how a file stands, and the first that is there.
-ghost use Rattle.std.specs.Prelude.{◌≡◌, ◌<◌, ◌^◌, ◌∷◌, [], List, ℕ, Ok, Result, IfOk, IfSome, IsSome, Some};
+ghost use Rattle.std.specs.Prelude.{◌≡◌, ◌<◌, ◌^◌, ◌∷◌, [], List, ℕ, Ok, Result};
+ghost use Rattle.std.specs.Prelude.{IfOk, IfSome, IsSome, Some};
 ghost use Rattle.std.specs.Prelude.{length, false, option_map, slice_get};
 ghost use Rattle.std.specs.List.{find};
 ghost use Rattle.vk_spec.specs.Reading.{Gives};
@@ -144,8 +145,9 @@ fn standing_of(found: &Found) -> Standing
 }
 
 impl<T: Tree> Archive<T> {
-    /// What the file at a path means to a reader; the file is kept. `Fault` tells the place and the word of the first
-    /// fault: the file is absent or too long, or what the reader says of its bytes.
+    /// What the file at a path means to a reader; the file is kept. `Fault` tells the place and the
+    /// word of the first fault: the file is absent or too long, or what the reader says of its
+    /// bytes.
     pub fn read<R: FileReader, F: TellsBadFile>(
         &mut self,
         path: &TreePath,

@@ -50,7 +50,8 @@ pub fn first_triplet()
 {}
 
 /// What an opened project gives is decided by its early files alone: whatever else stands in the
-/// tree, it is the same. No path is asked for but those where they may stand.
+/// tree, it is the same. Where a project opens, no path is asked for but those where they may
+/// stand.
 pub fn early_files()
     ensures decided { (project : Project) (opening : Opening) (one other : Files) → AgreeAt
         (early_paths project opening.layout.config) one other → opened_of project one ≡ Ok opening →

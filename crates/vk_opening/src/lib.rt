@@ -1,6 +1,6 @@
-//! The early files of a project: its manifest, its configuration, its triplets and its overlays,
-//! read in their order, or the first early line. It promises upwards that the answer is what the
-//! files say, and that each path is read once.
+//! The early files of a project: its manifest, its configuration, its triplets, its overlays and
+//! the places of its store, read in their order, or the first early line. It promises upwards that
+//! the answer is what the files say, and that each path is read once.
 #![tactic(auto)]
 
 mod configurations;

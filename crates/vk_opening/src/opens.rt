@@ -81,7 +81,8 @@ fn triplets_of<T: Tree>(
 ) -> Result<Triplets, Stop<Early>>
     ensures { ReadsFrom early_view triplets_view result
         (triplets_of project.now (config_view config.now))
-        (triplets_asked project.now (config_view config.now)) (held T.state archive.old) (held T.state archive.new) }
+        (triplets_asked project.now (config_view config.now))
+        (held T.state archive.old) (held T.state archive.new) }
 {
     let configured = config.overlay_triplets.as_slice();
     let folders = folders(
@@ -101,7 +102,8 @@ fn overlays_of<T: Tree>(
 ) -> Result<List<Overlay>, Stop<Early>>
     ensures { ReadsFrom early_view (λ l. map overlay_view l) result
         (overlays_of project.now (config_view config.now))
-        (overlays_asked project.now (config_view config.now)) (held T.state archive.old) (held T.state archive.new) }
+        (overlays_asked project.now (config_view config.now))
+        (held T.state archive.old) (held T.state archive.new) }
 {
     let configured = config.overlay_ports.as_slice();
     let words = project.overlay_ports.as_slice();
@@ -133,7 +135,8 @@ fn read_found<T: Tree>(
     ensures { ReadsFrom early_view
         (opening_found project.now (manifest_view root.now) (config_view config.now)) result
         (after_config project.now (manifest_view root.now) (config_view config.now))
-        (found_paths project.now (config_view config.now)) (held T.state archive.old) (held T.state archive.new) }
+        (found_paths project.now (config_view config.now))
+        (held T.state archive.old) (held T.state archive.new) }
 {
     let own = own_of(archive.alloc(), project, root)?;
     let triplets = triplets_of(archive, project, config)?;
@@ -187,7 +190,8 @@ fn read_rest<T: Tree>(
     root: Root,
 ) -> Result<Opening, Stop<Early>>
     ensures { ReadsFrom early_view opening_view result (after_root project.now (root_view root))
-        (rest_paths project.now (root_view root)) (held T.state archive.old) (held T.state archive.new) }
+        (rest_paths project.now (root_view root))
+        (held T.state archive.old) (held T.state archive.new) }
 {
     let Root {
         manifest,
@@ -237,7 +241,8 @@ fn read_stored<T: Tree>(
     store: &Store,
 ) -> Result<Opening, Stop<Early>>
     ensures { ReadsFrom early_view opening_view result (opened_with project.now (Some store.now))
-        (paths_with project.now (Some store.now)) (held T.state archive.old) (held T.state archive.new) }
+        (paths_with project.now (Some store.now))
+        (held T.state archive.old) (held T.state archive.new) }
 {
     let opening = read_opening(archive, project)?;
     stored(archive, project, store, opening)

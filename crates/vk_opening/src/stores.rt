@@ -240,7 +240,8 @@ fn blocked(path: &TreePath) -> Result<Early, Memory>
 fn unblocked<T: Tree>(archive: &mut Archive<T>, places: &[TreePath]) -> Result<(), Stop<Early>>
     ensures { ReadsFrom early_view (λ done. tt) result
         (λ files. unblocked (find (is_at files) places.now))
-        (λ files. up_to_first (is_at files) places.now) (held T.state archive.old) (held T.state archive.new) }
+        (λ files. up_to_first (is_at files) places.now)
+        (held T.state archive.old) (held T.state archive.new) }
 {
     match archive.first::<Early>(places)? {
         Some(path) => Err(Stop::Fault(blocked(path)?)),

@@ -98,7 +98,8 @@ fn first_triplet<T: Tree>(
 ) -> Result<Triplet, Stop<Early>>
     ensures { ReadsFrom early_view (λ t. t) result
         (λ files. triplet_from name.now (find (is_at files) paths.now) files)
-        (λ files. up_to_first (is_at files) paths.now) (held T.state archive.old) (held T.state archive.new) }
+        (λ files. up_to_first (is_at files) paths.now)
+        (held T.state archive.old) (held T.state archive.new) }
 {
     match archive.first::<Early>(paths)? {
         Some(path) => archive.read(path, &TripletFile(name)),

@@ -57,7 +57,8 @@ fn read_baseline<T: Tree>(
 ) -> Result<Result<Baseline, BadFile>, Stop<Wrong>>
     ensures { ReadsFrom wrong_view read_view result
         (λ f. Ok (baseline_file (served_view served.now) f))
-        (λ f. baseline_path served.now.folder ∷ []) (held T.state archive.old) (held T.state archive.new) }
+        (λ f. baseline_path served.now.folder ∷ [])
+        (held T.state archive.old) (held T.state archive.new) }
 {
     let path = baseline_path(archive.alloc(), &served.folder)?;
     let reader = NamedBaseline {

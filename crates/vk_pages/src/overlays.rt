@@ -60,7 +60,8 @@ fn has_port<T: Tree>(
 ) -> Result<bool, Stop<Wrong>>
     ensures { ReadsFrom wrong_view (λ b. b) result
         (λ f. Ok (has_port port.now f (overlay_view overlay.now)))
-        (λ f. overlay_path port.now (overlay_view overlay.now)) (held T.state archive.old) (held T.state archive.new) }
+        (λ f. overlay_path port.now (overlay_view overlay.now))
+        (held T.state archive.old) (held T.state archive.new) }
 {
     match overlay {
         Overlay::Port(_, manifest) => Ok(is_named(manifest, port)),
@@ -155,7 +156,8 @@ pub fn home_in<T: Tree>(
     port: &PortName,
 ) -> Result<Home, Stop<Wrong>>
     ensures { ReadsFrom wrong_view home_view result (home_in (overlay_view overlay.now) port.now)
-        (λ f. overlay_path port.now (overlay_view overlay.now)) (held T.state archive.old) (held T.state archive.new) }
+        (λ f. overlay_path port.now (overlay_view overlay.now))
+        (held T.state archive.old) (held T.state archive.new) }
 {
     match overlay {
         Overlay::Port(folder, manifest) => port_home(

@@ -63,7 +63,8 @@ fn table_in<T: Tree>(
     port: &PortName,
 ) -> Result<Table, Stop<Wrong>>
     ensures { ReadsFrom wrong_view (λ t. t) result (table_in (served_view served.now) port.now)
-        (λ f. table_path port.now served.now.folder ∷ []) (held T.state archive.old) (held T.state archive.new) }
+        (λ f. table_path port.now served.now.folder ∷ [])
+        (held T.state archive.old) (held T.state archive.new) }
 {
     let path = table_path(archive.alloc(), &served.folder, port)?;
     archive.read(&path, &PortTable)

@@ -13,8 +13,8 @@ use vk_model::{Cause, Fact, Who};
 // So few lines are put in order without ranks.
 const FEW: usize = 4;
 
-// Where a line stands, and the kind of its fact with the first bytes of its port. By these most
-// facts are told apart without a look at their texts.
+// Where a line stands, and the kind of its fact with the first bytes of its port. Most comparisons
+// need no more than these, and so no look at a text.
 #[derive(Clone, Copy, Drop)]
 struct Rank {
     head: u64,
@@ -111,7 +111,8 @@ fn follow(lines: &mut IndexMap<Fact, Cause>, settled: usize, ranks: &mut Vec<Ran
     }
 }
 
-// Exchanges lines as sorted ranks say, unless they are few. No proof rests on where they stand then.
+// Exchanges lines as sorted ranks say, unless they are few. No proof rests on where they stand
+// then.
 fn arrange(lines: &mut IndexMap<Fact, Cause>, settled: usize) -> Result<(), AllocError>
     ensures { OnOk result (IsArranged settled lines.old.entries lines.new.entries) }
 {
@@ -142,7 +143,8 @@ fn is_less(lines: &IndexMap<Fact, Cause>, one: usize, other: usize) -> bool
 fn goes_before(lines: &IndexMap<Fact, Cause>, settled: usize, place: usize) -> bool
     requires { place < length lines.now.entries }
     ensures { MatchBool result
-        ((settled < place) × ((d : Fact × Cause) → is_less (slice_index_or lines.now.entries place d)
+        ((settled < place) × ((d : Fact × Cause) →
+        is_less (slice_index_or lines.now.entries place d)
         (slice_index_or lines.now.entries (place - 1) d) ≡ true))
         ((d : Fact × Cause) → settled < place → is_less (slice_index_or lines.now.entries place d)
         (slice_index_or lines.now.entries (place - 1) d) ≡ false) }

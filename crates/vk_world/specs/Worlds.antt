@@ -62,7 +62,7 @@ abbrev pub page_paths_in : Layout → Option Told → List ℕ → List Path
 page_paths_in layout None port = []
 page_paths_in layout (Some t) port = page_paths layout t.files port
 
--- each of these is one of the paths of some port's page
+-- each of these is one of the paths of the page of some text, be it a port's name or not
 abbrev pub ArePagePaths : (List ℕ → List Path) → List Path → Type 0
 ArePagePaths paths asked = (p : Path) → Contains asked p → (port : List ℕ) × Contains (paths port) p
 

@@ -97,7 +97,8 @@ impl Homes {
         ensures learns { Learns result SaysNothing
             (λ f. home_paths (layout_view layout.now) f port.now)
             (AreHomes (layout_view layout.now) self.old)
-            (AreHomes (layout_view layout.now) self.new) (held T.state archive.old) (held T.state archive.new) }
+            (AreHomes (layout_view layout.now) self.new)
+            (held T.state archive.old) (held T.state archive.new) }
         ensures there { IfOk result (IsNoteAt (bytes_eq port.now) (homes_in self.new)) }
     {
         let key = port.clone()?;
@@ -119,7 +120,8 @@ impl Homes {
         ensures learns { Learns result SaysNothing
             (λ f. home_paths (layout_view layout.now) f port.now)
             (AreHomes (layout_view layout.now) self.old)
-            (AreHomes (layout_view layout.now) self.new) (held T.state archive.old) (held T.state archive.new) }
+            (AreHomes (layout_view layout.now) self.new)
+            (held T.state archive.old) (held T.state archive.new) }
         ensures there { IfOk result (IsNoteAt (bytes_eq port.now) (homes_in self.new)) }
     {
         match self.found.get_index_of(port) {

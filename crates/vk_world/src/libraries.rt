@@ -36,8 +36,8 @@ pub struct Library {
 }
 
 impl Library {
-    /// What is known of a project after so many paths were looked at, and nothing learned yet. Takes
-    /// no memory.
+    /// What is known of a project after so many paths were looked at, and nothing learned yet.
+    /// Takes no memory.
     pub fn new(alloc: Global, layout: Layout, opened: usize) -> Library
         ensures layout { layout_of result ≡ layout_view layout }
         ensures opened { result.opened ≡ opened }

@@ -59,7 +59,8 @@ impl Manifests {
         }
     }
 
-    /// Keeps what was found for a port and an ask. When memory runs out, all stays as it was.
+    /// Keeps what was found for a port and an ask. What is kept stays right, also when memory runs
+    /// out.
     pub fn keep(
         &mut self,
         alloc: Global,

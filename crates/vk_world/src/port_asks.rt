@@ -5,7 +5,7 @@ use std::alloc::AllocError;
 use vk_base::PortName;
 use vk_version::Ask;
 
-/// A port, and what is asked for of it. Both share what they hold, so that a copy takes no memory.
+/// A port, and what is asked for of it. A copy shares the texts of both.
 #[derive(PartialEq, Eq, Hash, Drop)]
 pub struct PortAsk {
     /// The port.

@@ -48,7 +48,8 @@ fn row_manifest<T: Tree>(
 ) -> Result<Rc<Manifest>, Stop<Wrong>>
     ensures { ReadsFrom wrong_view (λ m. manifest_view m.value) result
         (row_manifest port.now registry.now (row_view row.now))
-        (λ f. row_path registry.now (row_view row.now) ∷ []) (held T.state archive.old) (held T.state archive.new) }
+        (λ f. row_path registry.now (row_view row.now) ∷ [])
+        (held T.state archive.old) (held T.state archive.new) }
 {
     let path = row_path(archive.alloc(), registry, row)?;
     let manifest = archive.read::<PortFile, Wrong>(&path, &PortFile)?;
