@@ -5,6 +5,10 @@
 is taken from it as the compiler gets it, and compiled and linked once more. What comes out keeps
 each test that a proof spares, so it is slower than the proved program, unevenly so. It is good for
 counts, before and after a change, and for nothing else.
+
+With `--as-proved` the tests are taken out, as proofs do: each is assumed to hold. What comes out
+is nearly the proved program, in instructions and in time, and does anything at all where a proof
+would fail. It is good for times of a change that is yet to be proved.
 """
 import argparse
 import os
@@ -76,20 +80,39 @@ def take_module(crate, kept):
     sys.exit("unproved: `rt try` ended before a module was compiled; run it to see why")
 
 
+def without_tests(clang, module, spared):
+    """Writes a module again whose tests can't fail, so that the compiler leaves them out."""
+    kept = spared.with_suffix(".whole.ll")
+    subprocess.run([*clang, "-x", "ir", module, "-S", "-emit-llvm", "-O0",
+                    "-Xclang", "-disable-llvm-passes", "-o", kept], check=True)
+    with kept.open() as lines, spared.open("w") as out:
+        for line in lines:
+            stops = "call void @llvm.trap()" in line
+            marks = "call void @llvm.memset" in line and ", i8 -86," in line
+            if not stops and not marks:
+                out.write(line)
+
+
 def main():
     words = argparse.ArgumentParser(description=__doc__.split("\n")[0])
     words.add_argument("crate", help="a program's folder, as crates/vk_main")
     words.add_argument("output", help="the program to write")
     words.add_argument("--apart", action="store_true",
                        help="keep functions apart: slower, and counts are by function")
+    words.add_argument("--as-proved", action="store_true",
+                       help="leave out the tests, as proofs do")
     words = words.parse_args()
     with tempfile.TemporaryDirectory() as folder:
         module, made = pathlib.Path(folder, "module.bc"), pathlib.Path(folder, "module.o")
         toolchain, archives = take_module(words.crate, module)
+        clang = [f"{toolchain}/bin/clang", "--target=x86_64-unknown-linux-gnu",
+                 f"--sysroot={toolchain}"]
+        if words.as_proved:
+            spared = pathlib.Path(folder, "spared.ll")
+            without_tests(clang, module, spared)
+            module = spared
         inlining = ["-mllvm", f"-inline-threshold={-5000 if words.apart else 3000}"]
-        subprocess.run([f"{toolchain}/bin/clang", "--target=x86_64-unknown-linux-gnu",
-                        f"--sysroot={toolchain}", *FLAGS, *inlining, module, "-o", made],
-                       check=True)
+        subprocess.run([*clang, *FLAGS, *inlining, module, "-o", made], check=True)
         subprocess.run(["gcc", "-pie", made, *archives, "-lm", "-o", words.output], check=True)
 
 
