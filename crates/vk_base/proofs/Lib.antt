@@ -7,3 +7,4 @@ pub mod NamePartLemmas
 pub mod PathTextLemmas
 pub mod TokenLemmas
 pub mod DecimalLemmas
+pub mod ShortTextLemmas

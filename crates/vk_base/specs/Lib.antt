@@ -13,3 +13,4 @@ pub mod Parts
 pub mod Decimals
 pub mod Schedules
 pub mod SharedTexts
+pub mod ShortTexts

@@ -16,6 +16,7 @@ mod path_texts;
 mod paths;
 mod schedules;
 mod shared_texts;
+mod short_texts;
 mod steps;
 mod stops;
 mod texts;

@@ -1,102 +1,64 @@
-ghost use Rattle.std.specs.Prelude.{◌≡◌, ◌==◌, ◌↔◌, List, ℕ, length, IfOk, IsTrue};
+ghost use Rattle.std.specs.Prelude.{◌≡◌, ◌==◌, ◌↔◌, List, ℕ, IfOk, IsTrue};
 ghost use Rattle.std.proofs.Common.{rules};
+ghost use Rattle.std.specs.List.{fold};
 ghost use Rattle.std.specs.Cmp.{partial_order_from_own_ties};
 ghost use Rattle.std.specs.Cmp.Rules.{comparing, hashing};
 ghost use Rattle.std.specs.Cmp.Lexicographic.{slice_cmp, pointwise};
 ghost use Rattle.std.specs.Ordering.{nat_cmp, as_partial_cmp};
-ghost use Rattle.vk_base.specs.SharedTexts.{bytes_in, text_fed, text_hash};
+ghost use Rattle.vk_base.specs.ShortTexts.{text_fed};
 
+use crate::short_texts::ShortText;
 use crate::texts::is_same;
-use arrayvec::ArrayString;
 use std::alloc::{AllocError, Global};
 use std::cmp::Ordering;
 use std::fmt;
-use std::hash::{FoldHasher, Hash, Hasher};
+use std::hash::{Hash, Hasher};
 use std::marker::Model;
 use std::rc::Rc;
 
-// The bytes of a short text lie in the value itself; most names and versions are short.
+// Most names and versions are short: they lie in the value itself, and copies share a long one.
 #[derive(Drop)]
 enum TextBytes {
-    Short(ArrayString<16>),
-    Long(String),
+    Short(ShortText),
+    Long(Rc<String>),
 }
 
-impl TextBytes {
-    fn from_str(alloc: Global, text: &str) -> Result<TextBytes, AllocError>
-        ensures { IfOk result (λ t. bytes_in t ≡ text.now) }
-    {
-        match ArrayString::from(text) {
-            Ok(short) => Ok(TextBytes::Short(short)),
-            Err(_) => Ok(TextBytes::Long(String::from_str(alloc, text)?)),
-        }
-    }
-
-    fn as_str(&self) -> &str
-        ensures { result.now ≡ bytes_in self.now }
-    {
-        match self {
-            TextBytes::Short(short) => short.as_str(),
-            TextBytes::Long(long) => long.as_str(),
-        }
-    }
-}
-
-// What the copies of a text share: a short one is one block of memory. The text's hash is worked
-// out once, since texts are looked up in maps far more often than they are made.
-#[derive(Drop)]
-struct TextBlock {
-    hash: u64,
-    bytes: TextBytes,
-}
-
-// The hash that is kept of a text.
-#[tactic(auto, unfolding(crate::specs::SharedTexts::text_hash))]
-fn hash_of(text: &str) -> u64
-    ensures { result ≡ text_hash text.now }
-{
-    let mut hasher = FoldHasher::default();
-    text.hash(&mut hasher);
-    hasher.finish()
-}
-
-/// A UTF-8 text that stays as it is, so its copies share it: a clone takes no memory. Contracts see
-/// it as its bytes, and its order is theirs.
+/// A UTF-8 text that stays as it is. A clone takes no memory: it copies at most 14 bytes, or shares
+/// them where there are more. Contracts see it as its bytes, and its order is theirs.
 #[derive(Drop)]
 pub struct SharedText {
-    inner: Rc<TextBlock>,
+    inner: TextBytes,
 }
 
 impl Model for SharedText {
-    ghost use Rattle.std.specs.Prelude.{◌≡◌, List, ℕ};
-    ghost use Rattle.vk_base.specs.SharedTexts.{bytes_of, text_hash};
+    ghost use Rattle.std.specs.Prelude.{List, ℕ};
+    ghost use Rattle.vk_base.specs.SharedTexts.{bytes_in};
 
     ghost Value = { List ℕ };
 
-    ghost view = { λ t. bytes_of t.inner.value };
-
-    ghost invariant = { λ t. t.inner.value.hash ≡ text_hash (bytes_of t.inner.value) };
+    ghost view = { λ t. bytes_in t.inner };
 }
 
 impl SharedText {
-    /// A copy of a text, which later copies share.
+    /// A copy of a text.
     pub fn from_str(alloc: Global, text: &str) -> Result<SharedText, AllocError>
         ensures { IfOk result (λ t. t ≡ text.now) }
     {
-        let block = TextBlock {
-            hash: hash_of(text),
-            bytes: TextBytes::from_str(alloc, text)?,
+        let inner = match ShortText::of(text) {
+            Some(short) => TextBytes::Short(short),
+            None => TextBytes::Long(Rc::new(alloc, String::from_str(alloc, text)?)?),
         };
-        Ok(SharedText {
-            inner: Rc::new(alloc, block)?,
-        })
+        Ok(SharedText { inner })
     }
 
     /// The text, borrowed.
     pub fn as_str(&self) -> &str
         ensures { result.now ≡ self.now }
     {
-        self.inner.as_ref().bytes.as_str()
+        match &self.inner {
+            TextBytes::Short(short) => short.as_str(),
+            TextBytes::Long(long) => long.as_ref().as_str(),
+        }
     }
 
     /// Its bytes, borrowed.
@@ -128,9 +90,11 @@ impl Clone for SharedText {
     ghost is_clone = { λ x y. y ≡ x };
 
     fn clone(&self) -> Result<SharedText, AllocError> {
-        Ok(SharedText {
-            inner: self.inner.clone()?,
-        })
+        let inner = match &self.inner {
+            TextBytes::Short(short) => TextBytes::Short(short.clone()?),
+            TextBytes::Long(long) => TextBytes::Long(long.clone()?),
+        };
+        Ok(SharedText { inner })
     }
 }
 
@@ -140,7 +104,10 @@ impl PartialEq for SharedText {
     ghost laws = { Prim.search (comparing, rules) };
 
     fn eq(&self, other: &SharedText) -> bool {
-        self.as_str() == other.as_str()
+        match (&self.inner, &other.inner) {
+            (TextBytes::Short(one), TextBytes::Short(another)) => one.is(another),
+            _ => self.as_str() == other.as_str(),
+        }
     }
 }
 
@@ -174,12 +141,25 @@ impl PartialOrd for SharedText {
     }
 }
 
+// What a text in a block of its own feeds to a hash: as much as in a value.
+fn hash_long<H: Hasher>(text: &str, state: &mut H)
+    ensures { state.new ≡ fold H.write state.old (text_fed text.now) }
+{
+    match ShortText::of(text) {
+        Some(short) => state.write(short.padded()),
+        None => state.write(text.as_bytes()),
+    }
+}
+
 impl Hash for SharedText {
     ghost hash_input = { text_fed };
 
     ghost respects_eq = { Prim.search (hashing, rules) };
 
     fn hash<H: Hasher>(&self, state: &mut H) {
-        self.inner.as_ref().hash.hash(state);
+        match &self.inner {
+            TextBytes::Short(short) => state.write(short.padded()),
+            TextBytes::Long(long) => hash_long(long.as_ref().as_str(), state),
+        }
     }
 }

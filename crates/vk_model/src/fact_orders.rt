@@ -263,7 +263,6 @@ impl Hash for Fact {
                 feature: f,
             } => {
                 i.port.hash(state);
-                i.triplet.hash(state);
                 f.hash(state);
             }
             Fact::Floor { port: p, ask: a } => {
@@ -276,7 +275,6 @@ impl Hash for Fact {
                 ask: a,
             } => {
                 i.port.hash(state);
-                i.triplet.hash(state);
                 f.hash(state);
                 a.text.hash(state);
             }

@@ -129,8 +129,13 @@ fn named_own(
         (if_named path.now port.now (manifest_view manifest)) }
     ensures calm { has_failed result ≡ false }
 {
-    named(alloc, path, port, &manifest)?;
-    Ok(Rc::new(alloc, manifest)?)
+    match named(alloc, path, port, &manifest) {
+        Ok(()) => Ok(Rc::new(alloc, manifest)?),
+        Err(stop) => {
+            drop(manifest);
+            Err(stop)
+        }
+    }
 }
 
 // The manifest in a folder, which has to have the port's name.

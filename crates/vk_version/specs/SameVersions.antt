@@ -2,7 +2,7 @@
 use Rattle.std.specs.Prelude.{◌≡◌, ◌++◌, true}
 use Rattle.std.specs.Cmp.{IsEquivalence, decided}
 use Rattle.std.specs.Hash as fed
-use Rattle.vk_base.specs.SharedTexts.{text_fed}
+use Rattle.vk_base.specs.ShortTexts.{text_fed}
 use Rattle.vk_spec.specs.Versions.{Version, same_version}
 use Rattle.vk_spec.proofs.VersionLemmas.{version_decides}
 
