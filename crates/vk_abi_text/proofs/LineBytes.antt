@@ -7,7 +7,7 @@ use Rattle.std.proofs.lemmas.List.Elements.{All-weaker}
 use Rattle.std.proofs.lemmas.Bool.Decides.{nat_tests}
 use Rattle.std.proofs.lemmas.Str.{IsUtf8-from_ascii}
 use Rattle.std.proofs.lemmas.Str.Ascii.{IsAscii-from_all}
-use Rattle.vk_spec.specs.Versions.{Class, Version}
+use Rattle.vk_spec.specs.Versions.{Class}
 use Rattle.vk_spec.specs.Versions as plain
 use Rattle.vk_base.specs.Names.{IsName, NameRule, is_name_byte, port_rule, word_rule}
 use Rattle.vk_base.specs.Paths.{Lacks, text_of_path}

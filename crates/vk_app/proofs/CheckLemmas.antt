@@ -40,7 +40,7 @@ use Rattle.vk_check.specs.declared.verdicts.Verdict.{Verdict}
 use Rattle.vk_check.specs.declared.verdicts.Verdict.TheVariants.{Yes, No}
 use Rattle.vk_app.specs.declared.requests.Task.TheVariants as task
 use Rattle.vk_app.specs.Resolutions as the
-use Rattle.vk_app.specs.Resolutions.{Resolution, Settles}
+use Rattle.vk_app.specs.Resolutions.{Resolution}
 use Rattle.vk_app.specs.Resolved.{IsReady}
 use Rattle.vk_app.specs.Shown.{Shown, told, limit_line}
 use Rattle.vk_app.specs.Checks.{most_report, report_in, verdict_shown, ShowsVerdict, ShowsAgainst, ShowsSeen, ShowsCheck}

@@ -53,7 +53,7 @@ use Rattle.vk_app.specs.Requests.{project_of}
 use Rattle.vk_app.specs.Asked.{Purpose, to_plan, to_tell, AsksNothing, IsOfPorts, IsOfOpened, IsOfProject}
 use Rattle.vk_app.specs.Once.{AreListed, ReadsOnce, AreOwn, ReadsFor}
 use Rattle.vk_app.specs.Resolutions as the
-use Rattle.vk_app.specs.Resolutions.{Resolution, Settles}
+use Rattle.vk_app.specs.Resolutions.{Settles}
 use Rattle.vk_app.specs.Resolved.{resolution_of, Resolves, OpenedShows, OpenedMayAsk, IsReady, IsOpenedFor}
 use Rattle.vk_app.specs.Shown.{Shown, shown_for, told, limit_line}
 use Rattle.vk_app.specs.Answers.{ShowsSettled, ShowsEarly, ShowsRead, ShowsProject}

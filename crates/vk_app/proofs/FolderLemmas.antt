@@ -1,5 +1,5 @@
 -- The folders of a plan's items.
-use Rattle.std.proofs.Common.{◌≡◌, ◌<◌, ◌∷◌, ◌++◌, ◌+◌, ℕ, Bool, true, false, not, cond, List, [], length, map, take, get_or, refl, ap, sym, subst, ◌∙◌}
+use Rattle.std.proofs.Common.{◌≡◌, ◌<◌, ◌∷◌, ◌++◌, ◌+◌, ℕ, Bool, false, not, cond, List, [], length, map, take, get_or, refl, ap, sym, subst, ◌∙◌}
 use Rattle.std.specs.Prelude.{Option, Some, None, IfSome, IsOk, Result, Ok, Err, nat_lt}
 use Rattle.std.specs.List.{Contains, position, prefix_len}
 use Rattle.std.proofs.lemmas.List.{length-map, map-append, take_more}

@@ -1,11 +1,9 @@
 -- An instance has an ABI text, or what is shown in its place, over a tree of files.
-use Rattle.std.proofs.Common.{◌≡◌, ◌∷◌, ◌∙◌, ℕ, List, [], map, refl, ap, sym, subst}
-use Rattle.std.specs.Prelude.{Option, Some, None, option_map, Result, Ok, Err}
+use Rattle.std.proofs.Common.{◌≡◌, ◌∷◌, ◌∙◌, ℕ, List, [], map, refl, ap}
+use Rattle.std.specs.Prelude.{Option, Some, None, Result}
 use Rattle.std.specs.List.{Contains, zip}
 use Rattle.vk_spec.specs.Paths.{Path}
 use Rattle.vk_spec.specs.Files.{Files, IsTree}
-use Rattle.vk_spec.specs.Versions.{Version, ask_of}
-use Rattle.vk_spec.specs.Pages.{version_in}
 use Rattle.vk_spec.specs.Settings.{Setting, Instance}
 use Rattle.vk_spec.proofs.ListLemmas.{contains_first, contains_later}
 use Rattle.vk_base.specs.declared.limits.Limit.{Limit}
@@ -13,7 +11,7 @@ use Rattle.vk_resolution.specs.Planning.{Item}
 use Rattle.vk_resolution.specs.Outcomes.{planned, refused}
 use Rattle.vk_opening.specs.Layouts.{Layout}
 use Rattle.vk_pages.specs.Homes.{home_of}
-use Rattle.vk_pages.specs.Pages.{page_at, page_of}
+use Rattle.vk_pages.specs.Pages.{page_of}
 use Rattle.vk_pages.proofs.PageLaws.{is_page}
 use Rattle.vk_world.specs.VersionFolders.{place_in}
 use Rattle.vk_abi.specs.Plans.{Shared, Pair}

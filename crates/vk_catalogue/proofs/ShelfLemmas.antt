@@ -14,7 +14,7 @@ use Rattle.vk_spec.specs.Conditions.{Condition}
 use Rattle.vk_catalogue.specs.declared.shelves.Held.{Held}
 use Rattle.vk_catalogue.specs.declared.pages.PageRow.{PageRow}
 use Rattle.vk_catalogue.specs.PageViews.{held_view, row_view}
-use Rattle.vk_catalogue.specs.Shelves.{Shelved, no_page, page_or_none, page_among, held_for, pages_of, page_on}
+use Rattle.vk_catalogue.specs.Shelves.{Shelved, no_page, page_or_none, page_among, held_for, pages_of}
 
 -- a page without a registry is one
 pub no_page_is : IsPage no_page

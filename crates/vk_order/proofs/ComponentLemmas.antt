@@ -1,13 +1,12 @@
 -- Components, and the climb by which they are found.
-use Rattle.std.proofs.Common.{◌≡◌, ◌<◌, ◌≤◌, ◌+◌, ◌-◌, ℕ, suc, cond, List, [], ◌∷◌, ◌++◌, length, set, take, get_or, inl, inr, refl, ap, sym, ◌∙◌, subst, arith}
+use Rattle.std.proofs.Common.{◌≡◌, ◌<◌, ◌≤◌, ◌+◌, ◌-◌, ℕ, suc, cond, List, [], ◌∷◌, ◌++◌, length, take, get_or, inl, inr, refl, ap, sym, ◌∙◌, subst, arith}
 use Rattle.std.specs.Prelude.{Option, Some, None, is_some}
 use Rattle.std.specs.List.{Contains}
 use Rattle.std.proofs.lemmas.List.{length_push, take_more}
 use Rattle.std.proofs.lemmas.List.Elements.{Contains-append_left, Contains-get_or, Contains-push_cases}
 use Rattle.std.proofs.lemmas.List.Sums.{sum_by-cons}
-use Rattle.std.proofs.lemmas.Bool.{cases_lt}
-use Rattle.vk_order.specs.Needs.{listed_at, known_at, known_in}
-use Rattle.vk_order.specs.Components.{component_at, AreComponents, AreLower}
+use Rattle.vk_order.specs.Needs.{known_at, known_in}
+use Rattle.vk_order.specs.Components.{component_at, AreLower}
 use Rattle.vk_order.specs.Ways.{AreReached}
 use Rattle.vk_order.proofs.NumberLemmas.{known_within, known_few}
 

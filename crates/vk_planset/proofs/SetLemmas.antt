@@ -16,7 +16,7 @@ use Rattle.vk_resolution.specs.Outcomes.{lines_of}
 use Rattle.vk_resolution.specs.Planner.{inputs_of}
 use Rattle.vk_resolution.specs.Keys.{in_order}
 use Rattle.vk_resolution.specs.Planning as plain_plan
-use Rattle.vk_resolution.specs.Planning.{is_need, IsPlanned, Item, IsItem, instance_key, needed_in, instances_of}
+use Rattle.vk_resolution.specs.Planning.{is_need, Item, IsItem, instance_key, needed_in, instances_of}
 use Rattle.vk_resolution.specs.Reasons.{Reason, facts_of, line_of}
 use Rattle.vk_resolution.specs.Selections.{IsChoices}
 use Rattle.vk_resolution.proofs.AgreementLemmas.{flat_map_on}

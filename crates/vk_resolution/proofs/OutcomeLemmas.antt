@@ -12,7 +12,7 @@ use Rattle.vk_spec.proofs.VersionLemmas.{asks_equal}
 use Rattle.vk_spec.specs.Conditions.{Condition}
 use Rattle.vk_spec.specs.Settings.{Instance}
 use Rattle.vk_resolution.specs.Keys.{in_order}
-use Rattle.vk_resolution.specs.Least.{Rules, IsClosed, IsLeast, IsLeastInOrder}
+use Rattle.vk_resolution.specs.Least.{IsLeast}
 use Rattle.vk_resolution.specs.Settings.{root, inst, same_instance}
 use Rattle.vk_resolution.specs.Givens.{Pages, version_at, is_pinned}
 use Rattle.vk_resolution.specs.Asking.{Fact, need, floor, visit, fact_key, root_facts_of, same_fact, is_among}
@@ -20,7 +20,7 @@ use Rattle.vk_resolution.specs.Consequences.{Inputs, Step, by_root, steps_from, 
 use Rattle.vk_resolution.specs.Choices.{floor_in, floors_of, given_version_of, greatest_of, chosen_of, tops_of}
 use Rattle.vk_resolution.specs.Reasons.{Reason, facts_of, first_line, line_of, first_cause, citing, in_lines, cause_of, IsReasons}
 use Rattle.vk_resolution.specs.Planning.{is_need, visit_of, planned_from, planned_rules_of, IsPlanned, instance_key, needed_in, instances_of, targets_in, targets_at, targets_of, HasHeight, places_from, Item, IsByHeight, order_of, IsPlan, IsCycle}
-use Rattle.vk_resolution.specs.Faults.{Trouble, Fault, has_cycle, trouble_key, same_trouble, given_troubles, manifest_troubles, floor_troubles, troubles_of, told_of, first_faults_of, judged_on_line, conflict_of, conflicts_of, ports_in, second_faults_of, judged, judged_at, judged_chosen, judged_need, third_faults_of}
+use Rattle.vk_resolution.specs.Faults.{Trouble, Fault, trouble_key, same_trouble, given_troubles, manifest_troubles, floor_troubles, troubles_of, told_of, first_faults_of, judged_on_line, conflict_of, conflicts_of, ports_in, second_faults_of, judged_at, judged_chosen, judged_need, third_faults_of}
 use Rattle.vk_resolution.specs.Outcomes.{Printing, lines_of, IsRefusal, by_first, by_second, by_third, by_fourth, IsAgreed, Outcome, planned, refused, IsOutcome}
 use Rattle.vk_resolution.specs.Agreement.{with_pages, AgreesOn, reasons_in, SameOutcome, published, UnaskedChangesNothing}
 use Rattle.vk_resolution.proofs.Members.{no_is_false, contains_single, map_contains, contains_filter}

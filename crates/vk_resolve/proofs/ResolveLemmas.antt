@@ -17,7 +17,7 @@ use Rattle.vk_resolution.specs.Planning.{Item}
 use Rattle.vk_resolution.specs.Faults.{first_faults_of}
 use Rattle.vk_resolution.specs.Lines.{fault_line}
 use Rattle.vk_resolution.specs.Outcomes as plain
-use Rattle.vk_resolution.specs.Outcomes.{lines_of, by_third, by_fourth, IsOutcome}
+use Rattle.vk_resolution.specs.Outcomes.{by_third, by_fourth, IsOutcome}
 use Rattle.vk_resolution.specs.Agreement.{reasons_in}
 use Rattle.vk_resolution.specs.Selections.{Choice, IsChoices}
 use Rattle.vk_resolution.specs.Closures.{IsClosure}

@@ -2,7 +2,7 @@
 use Rattle.std.specs.Prelude.{◌≡◌, ◌↔◌, ◌&&◌, ◌||◌, not, ℕ, Bool, List, [], ◌∷◌, map, filter, flat_map, if◌then◌else◌}
 use Rattle.vk_spec.specs.Conditions.{Condition, holds}
 use Rattle.vk_spec.specs.Manifests.{Dependency}
-use Rattle.vk_spec.specs.Settings.{Setting, Triplet}
+use Rattle.vk_spec.specs.Settings.{Setting}
 use Rattle.vk_spec.specs.Settings as plain
 use Rattle.vk_resolution.specs.Settings.{Marks, root, applicable_of}
 use Rattle.vk_base.specs.declared.instances.Instance.{Instance}

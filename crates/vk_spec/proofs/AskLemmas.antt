@@ -6,7 +6,7 @@ use Rattle.vk_spec.specs.Calls.{Answer, Fault, stops, is_failed}
 use Rattle.vk_spec.specs.Versions.{Version, Ask}
 use Rattle.vk_spec.specs.Pages.{Page, Given}
 use Rattle.vk_spec.specs.Catalogues.{Pages, ArePages, CatalogueState, OnPage, OnPages, OnlyAsked, Asks, AsksAs, SaysGiven, SaysVersion, CanAskVersion, CanAskManifest}
-use Rattle.vk_spec.specs.AskedCalls.{IsAsking, AnswersAs, stopped_by}
+use Rattle.vk_spec.specs.AskedCalls.{IsAsking, stopped_by}
 use Rattle.vk_spec.specs.Reading.{Gives}
 use Rattle.vk_spec.proofs.OptionLemmas.{of_each, of_both}
 use Rattle.vk_spec.proofs.CountLemmas.{counted_then, counted_risen, counted_rose}

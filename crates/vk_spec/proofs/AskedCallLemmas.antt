@@ -1,6 +1,6 @@
 -- Asking: nothing, one after the other, stopped, and of each member of a list.
-use Rattle.std.proofs.Common.{◌≡◌, ◌+◌, ◌<◌, ◌≤◌, ℕ, Bool, true, false, List, [], ◌∷◌, ◌++◌, length, get_or, map, sym, subst}
-use Rattle.std.specs.Prelude.{Option, Some, None, Result, Ok, Err}
+use Rattle.std.proofs.Common.{◌≡◌, ◌+◌, ◌<◌, ◌≤◌, ℕ, Bool, false, List, [], ◌∷◌, ◌++◌, length, get_or, map, sym, subst}
+use Rattle.std.specs.Prelude.{Option, None, Result, Ok, Err}
 use Rattle.vk_spec.specs.Reading.{◌>>=◌, read_each, Gives, Fails}
 use Rattle.vk_spec.proofs.ReadingLemmas.{with_front, nothing_yet, left_from, goes_on_by, ends_by, is_done_by, gives_then, fails_on}
 use Rattle.vk_spec.specs.AskedCalls.{stopped_by, IsAsking, AnswersAs}

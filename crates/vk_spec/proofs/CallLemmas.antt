@@ -1,14 +1,13 @@
 -- A call that reads only reads; what its answer says; and what a map in memory does.
 use Rattle.std.proofs.Common.{◌≡◌, ◌≤◌, subst, ◌++◌, ℕ, List, true, false, refl, sym, ap, ◌∙◌}
-use Rattle.std.specs.Prelude.{max, Bool, Option, Some, None, IfSome, Result, Ok, Err}
+use Rattle.std.specs.Prelude.{max, Bool, Option, Some, None, IfSome, Ok, Err}
 use Rattle.std.proofs.Math.Nat.{max-le, max-zero}
 use Rattle.std.specs.FinMap as map
-use Rattle.vk_spec.specs.Counts.{counted_up}
 use Rattle.vk_spec.specs.Files.{Files}
 use Rattle.vk_spec.specs.Paths.{Path}
-use Rattle.vk_spec.specs.States.{Told, State, with_asked, Ends, Looks, OnlyRead, IsNarrow, OnlyListed}
-use Rattle.vk_spec.specs.Standing.{Disk, disk_of, OnFiles, Entry}
-use Rattle.vk_spec.specs.Calls.{Call, kind_of, read_of, piece_of, list_of, write_of, rename_of, remove_of, Output, Answer, is_failed, refuses, fails, lacks, Says, LeavesDone, LeavesFailed, Leaves, Content, ToldBecomes, IsSmall, IsTreeWhereTold, noted_by, is_reading, changes_after, width_of, Made}
+use Rattle.vk_spec.specs.States.{Told, State, with_asked, Looks, OnlyRead, IsNarrow, OnlyListed}
+use Rattle.vk_spec.specs.Standing.{disk_of, OnFiles, Entry}
+use Rattle.vk_spec.specs.Calls.{Call, kind_of, read_of, piece_of, list_of, write_of, rename_of, remove_of, Output, Answer, is_failed, refuses, fails, lacks, Says, LeavesDone, LeavesFailed, Leaves, Content, ToldBecomes, noted_by, is_reading, changes_after, width_of, Made}
 use Rattle.vk_spec.proofs.FileLemmas.{path_total}
 use Rattle.vk_spec.proofs.StateLemmas.{read_then}
 

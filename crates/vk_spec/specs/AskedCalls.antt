@@ -1,5 +1,5 @@
 -- Calls that only ask something outside, and what they answer, whatever is asked: a tree, a catalogue.
-use Rattle.std.specs.Prelude.{◌≡◌, Bool, false, Option, Result, Ok, Err}
+use Rattle.std.specs.Prelude.{Bool, false, Option, Result, Ok, Err}
 use Rattle.vk_spec.specs.Reading.{Gives}
 
 -- the call failed outside

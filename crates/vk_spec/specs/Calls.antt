@@ -1,5 +1,5 @@
 -- The calls of a tree as one relation: what each asks, what its answer says, and what it leaves.
-use Rattle.std.specs.Prelude.{◌≡◌, ◌≤◌, ◌<◌, ◌⊎◌, ◌++◌, [], ◌∷◌, ℕ, List, length, take, drop, max, Bool, true, false, Option, Some, None, IfSome, IsSome, Result, Ok, Err}
+use Rattle.std.specs.Prelude.{◌≡◌, ◌≤◌, ◌<◌, ◌⊎◌, ◌++◌, [], ◌∷◌, ℕ, List, length, take, drop, max, Bool, true, false, Option, Some, None, IfSome, Result, Ok, Err}
 use Rattle.vk_spec.specs.Counts.{counted_up}
 use Rattle.vk_spec.specs.Paths.{Path, Begins}
 use Rattle.vk_spec.specs.Files.{Files, IsTree}

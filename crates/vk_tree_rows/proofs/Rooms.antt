@@ -1,5 +1,5 @@
 -- Where a tree in memory has room, a file may be written or moved there.
-use Rattle.std.proofs.Common.{◌≡◌, false, true, ℕ, List, ◌∷◌, ◌++◌, refl, sym, ap, ◌∙◌}
+use Rattle.std.proofs.Common.{◌≡◌, false, true, ℕ, List, ◌∷◌, ◌++◌, sym, ap, ◌∙◌}
 use Rattle.std.specs.Prelude.{None, is_some}
 use Rattle.std.specs.FinMap as map
 use Rattle.vk_spec.specs.Paths.{Path, Begins}

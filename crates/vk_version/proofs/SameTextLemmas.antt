@@ -13,7 +13,7 @@ use Rattle.std.proofs.lemmas.Bool.{cases_Bool, and_parts, eqb-true, ltb-true}
 use Rattle.std.proofs.lemmas.Bool.Decides.{nat_tests}
 use Rattle.semver.specs.Order.{parts}
 use Rattle.semver.specs.OrderLaws.{join_dots, join-parts}
-use Rattle.vk_spec.specs.Versions.{Class, Version}
+use Rattle.vk_spec.specs.Versions.{Version}
 use Rattle.vk_spec.specs.Versions as plain
 use Rattle.vk_version.specs.declared.faults.VersionFault.{VersionFault}
 use Rattle.vk_version.specs.Schemes.{Scheme}

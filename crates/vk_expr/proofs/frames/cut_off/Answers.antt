@@ -1,5 +1,4 @@
-use Rattle.std.proofs.Common.{◌∙◌, sym, ap}
-use Rattle.std.specs.Prelude.{Some}
+use Rattle.std.proofs.Common.{◌∙◌, sym}
 use Rattle.vk_expr.proofs.FrameLemmas.{cut_nothing, cut_around, cut_pending}
 use Rattle.vk_expr.proofs.frames.cut_off.Goals as goal
 
