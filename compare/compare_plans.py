@@ -19,7 +19,8 @@ from second_planner import (
 )
 
 DIFFERENCE_LIMIT = 10
-PORTS = ["a", "b", "c", "a-b", "z1", "core", "default", "ab"]
+PORTS = ["a", "b", "c", "a-b", "z1", "core", "default", "ab", "fourteen-bytes", "fifteen-letters",
+         "boost-interprocess"]
 FEATURES = ["f", "g", "h_x", "core-x"]
 APPLICATION = "app"
 MISSING_VERSION = Version("9.9", 3)
