@@ -15,8 +15,8 @@ ghost use Rattle.vk_base.specs.Stops.{fault_in};
 ghost use Rattle.vk_base.specs.FeatureViews.{feature_view, IsNamed};
 
 use crate::names::{NameFault, WORD, read_name};
-use crate::shared_texts::SharedText;
 use crate::stops::Unread;
+use crate::text_handles::TextHandle;
 use std::alloc::{AllocError, Global};
 use std::cmp::Ordering;
 use std::fmt;
@@ -34,7 +34,7 @@ fn is_reserved(text: &str) -> bool
 /// and its order is theirs.
 #[derive(Clone, PartialEq, Eq, PartialOrd, Ord, Hash, Drop)]
 pub struct NamedFeature {
-    text: SharedText,
+    text: TextHandle,
 }
 
 impl Model for NamedFeature {
@@ -60,7 +60,7 @@ impl NamedFeature {
             return Err(Unread::Fault(NameFault::Reserved));
         }
         Ok(NamedFeature {
-            text: read_name(alloc, WORD, text)?,
+            text: TextHandle::new(alloc, read_name(alloc, WORD, text)?)?,
         })
     }
 

@@ -19,6 +19,7 @@ mod shared_texts;
 mod short_texts;
 mod steps;
 mod stops;
+mod text_handles;
 mod texts;
 mod tokens;
 mod words;

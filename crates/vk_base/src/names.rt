@@ -15,6 +15,7 @@ use crate::features::FeatureName;
 use crate::instances::Instance;
 use crate::shared_texts::SharedText;
 use crate::stops::Unread;
+use crate::text_handles::TextHandle;
 use std::alloc::Global;
 use std::fmt;
 use std::hash::Hash;
@@ -178,7 +179,7 @@ impl fmt::Display for PortName {
 /// Contracts see it as its bytes, and its order is theirs.
 #[derive(Clone, PartialEq, Eq, PartialOrd, Ord, Hash, Drop)]
 pub struct TripletName {
-    text: SharedText,
+    text: TextHandle,
 }
 
 impl Model for TripletName {
@@ -201,7 +202,7 @@ impl TripletName {
         ensures { Gives (λ n. n) fault_in result (reads_name word_rule text.now) }
     {
         Ok(TripletName {
-            text: read_name(alloc, WORD, text)?,
+            text: TextHandle::new(alloc, read_name(alloc, WORD, text)?)?,
         })
     }
 
