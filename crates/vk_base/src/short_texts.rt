@@ -9,8 +9,8 @@ use std::marker::Model;
 // So a text with its length takes 15 bytes, and a choice between it and an address takes 16.
 const ROOM: usize = 14;
 
-// A text of at most 14 bytes with zeros behind it, so that two are compared by all of their room.
-// Contracts see it as its bytes.
+// A text of at most 14 bytes with zeros behind it, so that two are compared by their lengths and
+// all of their room. Contracts see it as its bytes.
 #[derive(Drop)]
 pub(crate) struct ShortText {
     len: u8,

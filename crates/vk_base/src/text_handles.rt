@@ -38,6 +38,7 @@ impl TextHandle {
         })
     }
 
+    // The text, borrowed from where it stands.
     pub(crate) fn as_str(&self) -> &str
         ensures { result.now ≡ self.now }
     {
