@@ -62,7 +62,7 @@ def main():
     words.add_argument("--program", required=True, metavar="PATH", help="vk_load's program")
     words.add_argument("--beside", metavar="PATH", help="a program to run in turn with it")
     words.add_argument("--shape", default="chain", help="what is closed (default: chain)")
-    words.add_argument("--rounds", type=int, default=25)
+    words.add_argument("--rounds", type=int, default=400, help="how many (default: 400)")
     words.add_argument("sizes", nargs="+", type=int, metavar="SIZE")
     words = words.parse_args()
     programs = [words.program] + [words.beside] * (words.beside is not None)
