@@ -1,7 +1,7 @@
 // Whether something else uses the other half of the processor's core. Steps that wait for each
 // other leave most of a core unused and take as long in either case; steps that don't wait fill it,
 // and take up to twice as long when they have to share it. Prints the least, the lower quarter and
-// the median of both, in milliseconds:
+// the median of both, in milliseconds, of 400 rounds or of as many as its word says:
 //
 //     g++ -O1 -std=c++20 bench/shared_core.cpp -o /tmp/shared_core && /tmp/shared_core
 #include <algorithm>
@@ -9,6 +9,7 @@
 #include <chrono>
 #include <cstdint>
 #include <cstdio>
+#include <cstdlib>
 #include <vector>
 
 static volatile std::uint64_t kept = 88172645463325252u;
@@ -48,9 +49,10 @@ static void show(const char *title, std::vector<double> &times) {
               times[times.size() / 2]);
 }
 
-int main() {
+int main(int count, char **words) {
+  const int rounds = std::max(1, count > 1 ? std::atoi(words[1]) : 400);
   std::vector<double> waiting, free;
-  for (int round = 0; round < 400; ++round) {
+  for (int round = 0; round < rounds; ++round) {
     waiting.push_back(milliseconds(waiting_steps));
     free.push_back(milliseconds(free_steps));
   }
