@@ -8,8 +8,8 @@ is told is the least time, the lower quarter and the median of each size, and ho
 each next size takes by each of the three, and by the median of the rounds, each by itself.
 
 With a probe (`shared_core.cpp`), the core is probed before and after each run, and only the runs
-count in which nothing else used its other half, as far as the probe tells: it took at most a fifth
-more than at least, before and after.
+count in which nothing else used its other half, as far as the probe tells: its steps that don't
+wait took at most three quarters of what those that wait took, before and after.
 """
 import argparse
 import re
@@ -18,7 +18,7 @@ import subprocess
 import sys
 
 TIMES = re.compile(r"closed (\d+) us, planned (\d+) us")
-FREE = re.compile(r"free +([\d.]+)")
+PROBED = re.compile(r"waiting +([\d.]+).*\nfree +([\d.]+)")
 
 
 def quarter(times):
@@ -39,19 +39,19 @@ def run_once(program, shape, size):
 
 
 def probed(probe):
-    """The milliseconds of the probe's steps that don't wait, the least of three; 0 without one."""
+    """How long the probe's steps take, the least of three, that don't wait beside those that do."""
     if not probe:
         return 0
     run = subprocess.run([probe, "3"], capture_output=True, text=True)
-    found = FREE.search(run.stdout)
+    found = PROBED.search(run.stdout)
     if run.returncode or not found:
-        sys.exit(f"closings: {probe} told no time")
-    return float(found[1])
+        sys.exit(f"closings: {probe} told no times")
+    return float(found[2]) / float(found[1])
 
 
 def runs_of(programs, shape, sizes, rounds, probe):
     """The runs of each program and size, round by round; the first round warms up. A run is its
-    two times and the slower of the probes beside it."""
+    two times and the worse of the probes beside it."""
     runs = {(program, size): [] for program in programs for size in sizes}
     before = probed(probe)
     for number in range(rounds + 1):
@@ -67,8 +67,10 @@ def runs_of(programs, shape, sizes, rounds, probe):
 
 def undisturbed(runs):
     """The runs that count, round by round: `None` stands for each that was disturbed."""
-    most = 1.2 * min(run[2] for kept in runs.values() for run in kept)
-    return {key: [run if run[2] <= most else None for run in kept] for key, kept in runs.items()}
+    found = {key: [run if run[2] <= 0.75 else None for run in kept] for key, kept in runs.items()}
+    if not all(any(kept) for kept in found.values()):
+        sys.exit("closings: each run of a size was disturbed; try again, or make more rounds")
+    return found
 
 
 def show(title, place, runs, sizes):

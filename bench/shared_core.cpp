@@ -40,7 +40,8 @@ static void free_steps() {
 static double milliseconds(void (*steps)()) {
   const auto before = std::chrono::steady_clock::now();
   steps();
-  return std::chrono::duration<double, std::milli>(std::chrono::steady_clock::now() - before).count();
+  const std::chrono::duration<double, std::milli> time = std::chrono::steady_clock::now() - before;
+  return time.count();
 }
 
 static void show(const char *title, std::vector<double> &times) {
