@@ -1,7 +1,7 @@
 // Whether something else uses the other half of the processor's core. Steps that wait for each
 // other leave most of a core unused and take as long in either case; steps that don't wait fill it,
-// and take up to twice as long when they have to share it. Prints the least, the lower quarter and
-// the median of both, in milliseconds, of 400 rounds or of as many as its word says:
+// and take two to three times as long when they have to share it. Prints the least, the lower
+// quarter and the median of both, in milliseconds, of 400 rounds or of as many as its word says:
 //
 //     g++ -O1 -std=c++20 bench/shared_core.cpp -o /tmp/shared_core && /tmp/shared_core
 #include <algorithm>
