@@ -1,6 +1,6 @@
-// Closes the chain of `vk_load` with facts of numbers, in C++ and with nothing checked: how long a
+// Closes the chain of `vk_plan_rows` with facts of numbers, in C++ and with nothing checked: how long a
 // closing takes at least over a catalogue of the same texts, which lie in their handles. It reads
-// and prints what `vk_load` does, so `closings.py` runs it as well. It makes no plan: what it tells
+// the rows `load` of that program, so `closings.py` runs it as well. It makes no plan: what it tells
 // of one is the closing's time.
 //
 //   g++ -O3 -std=c++20 closing_limit.cpp -o /tmp/closing_limit
@@ -290,9 +290,9 @@ public:
 };
 
 int main() {
-    std::string shape;
+    std::string word, shape;
     int size;
-    while (std::cin >> shape >> size) {
+    while (std::cin >> word >> shape >> size) {
         Catalogue catalogue(size);
         Text triplet("x64-linux");
         Closing closing(catalogue);

@@ -1,8 +1,8 @@
 #!/usr/bin/env python3
 """Measures how long closing and planning take in memory, each run in a process of its own.
 
-Rows of `vk_load` in one process close again over memory that the one before has warmed; a plan is
-made once a process. Each round runs every size, of two programs in turn where another one is to
+Rows `load` of `vk_plan_rows` in one process close again over memory that the one before has warmed;
+a plan is made once a process. Each round runs every size, of two programs in turn where another one is to
 stand beside, so that a machine that gets slower or faster for a while does so for all of them. What
 is told is the least time, the lower quarter and the median of each size, and how many times as long
 each next size takes by each of the three, and by the median of the rounds, each by itself.
@@ -31,9 +31,9 @@ MEASURES = {"least": min, "quarter": quarter, "median": statistics.median}
 
 def run_once(program, shape, size):
     """The microseconds of closing, and of the whole plan, in one process."""
-    run = subprocess.run([program], input=f"{shape} {size}\n", capture_output=True, text=True)
+    run = subprocess.run([program], input=f"load {shape} {size}\n", capture_output=True, text=True)
     found = TIMES.search(run.stderr)
-    if run.returncode or not found:
+    if not found:
         sys.exit(f"closings: {program} told no time for {shape} {size}")
     return int(found[1]), int(found[2])
 
@@ -91,7 +91,7 @@ def show(title, place, runs, sizes):
 
 def main():
     words = argparse.ArgumentParser(description=__doc__.split("\n")[0])
-    words.add_argument("--program", required=True, metavar="PATH", help="vk_load's program")
+    words.add_argument("--program", required=True, metavar="PATH", help="vk_plan_rows's program")
     words.add_argument("--beside", metavar="PATH", help="a program to run in turn with it")
     words.add_argument("--shape", default="chain", help="what is closed (default: chain)")
     words.add_argument("--rounds", type=int, default=400, help="how many (default: 400)")

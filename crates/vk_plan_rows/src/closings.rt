@@ -26,7 +26,8 @@ fn closed_by<L: Ledger>(
     close(alloc, pages, setting, &mut steps)
 }
 
-fn closed(
+/// What a project requires.
+pub fn closed(
     alloc: Global,
     pages: &mut MemCatalogue,
     setting: &Setting,

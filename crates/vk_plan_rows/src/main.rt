@@ -1,30 +1,44 @@
 //! Answers rows about projects over catalogues in memory: which instances are off by default, what
 //! a project requires, with its reasons, or what is wrong with the files that it needs, what it
-//! comes to: its plan, or the faults that stand; and whether a report is the defined one, and its
-//! reasons a certificate.
+//! comes to: its plan, or the faults that stand; whether a report is the defined one, and its
+//! reasons a certificate; and how large the closure and the plan of large projects are, with the
+//! times that they take on standard error.
 #![tactic(auto)]
 
+mod chains;
 mod checks;
 mod closings;
+mod loads;
 mod outcomes;
 mod pages;
+mod parts;
+mod rings;
+mod rows;
 mod sessions;
 mod settings;
+mod sides;
+mod timings;
 
+use rows::Rows;
 use sessions::Session;
+use std::io::Eprint;
 use std::process::ExitCode;
+use std::rt::Clock;
 use vk_row_text::answer_rows;
 
-fn answer(rt: &HostRuntime, session: &mut Session) -> ExitCode {
-    match answer_rows(rt, session) {
+fn answer<R: Eprint + Clock + Drop>(rt: &HostRuntime, rows: &mut Rows<R>) -> ExitCode {
+    match answer_rows(rt, rows) {
         Ok(0) => ExitCode::SUCCESS,
         _ => ExitCode::FAILURE,
     }
 }
 
 fn main(rt: HostRuntime) -> ExitCode {
+    let Ok(clock) = rt.clone() else {
+        return ExitCode::FAILURE;
+    };
     match Session::new(rt.alloc()) {
-        Ok(mut session) => answer(&rt, &mut session),
+        Ok(session) => answer(&rt, &mut Rows { rt: clock, session }),
         Err(_) => ExitCode::FAILURE,
     }
 }

@@ -26,7 +26,8 @@ fn resolved_by<L: Ledger>(
     resolve(alloc, pages, setting, &mut steps)
 }
 
-fn resolved(
+/// What a project comes to.
+pub fn resolved(
     alloc: Global,
     pages: &mut MemCatalogue,
     setting: &Setting,

@@ -1,14 +1,14 @@
-//! The rows. The first word says what is read, the second what is asked of it; then come words, the
-//! last of which may hold blanks.
+//! The rows. The first word says what is read, the second what is asked of it, but for those about
+//! packages, which have one such word; then come words, the last of which may hold blanks.
 
 use crate::kinds::{Kind, kind_of};
 use crate::{
     command_lines, configurations, digests, documents, expressions, fields, manifests, names,
-    paths, registries, reports, tokens, triplets, versions,
+    packages, paths, registries, reports, tokens, triplets, versions,
 };
 use vk_row_text::{Answering, Reply, cut};
 
-/// Answers rows about what is read of one text.
+/// Answers rows about what is read of one text, and about packages.
 #[derive(Drop)]
 pub struct Rows;
 
@@ -45,15 +45,24 @@ fn cut_two(row: &str) -> (&str, &str) {
     }
 }
 
+// Answers a row that has its kind in two words.
+fn answer_reading(row: &str, reply: &mut Reply) {
+    let (words, rest) = cut_two(row);
+    match kind_of(words) {
+        Some(kind) => answer(kind, rest, reply),
+        None => reply.refuse(),
+    }
+}
+
 impl Answering for Rows {
     fn answer(&mut self, row: &str, reply: &mut Reply) {
-        if row.starts_with("group ") {
+        let (word, rest) = cut(row);
+        if word == "group" || word == "case" {
             return reply.silence();
         }
-        let (words, rest) = cut_two(row);
-        match kind_of(words) {
-            Some(kind) => answer(kind, rest, reply),
-            None => reply.refuse(),
+        match packages::kind_of(word) {
+            Some(kind) => packages::answer(kind, rest, reply),
+            None => answer_reading(row, reply),
         }
     }
 }

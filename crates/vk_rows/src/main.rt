@@ -1,33 +1,51 @@
 //! Answers rows about projects whose files are in memory: what opening them tells, what their
-//! worlds are asked, and how the planner runs over them; and about trees, sinks and catalogues in
-//! memory.
+//! worlds are asked, and how the planner runs over them; about trees, sinks and catalogues in
+//! memory; and about each call of a tree, over files in memory and over the host's files in the
+//! folder that the program runs in.
 #![tactic(auto)]
 
 mod asks;
+mod changes;
 mod lines;
+mod looks;
 mod openings;
 mod page_rows;
 mod projects;
+mod rows;
 mod runs;
 mod sessions;
 mod sink_rows;
+mod tree_calls;
 mod tree_rows;
+mod walks;
 mod workspaces;
 
-use sessions::Session;
+use rows::Rows;
+use std::alloc::Global;
+use std::os::unix::fs::FileExt;
 use std::process::ExitCode;
+use std::rt::Files;
 use vk_row_text::answer_rows;
 
-fn answer(rt: &HostRuntime, session: &mut Session) -> ExitCode {
-    match answer_rows(rt, session) {
+fn answer<R: Files + Alloc<A = Global> + Clone + Drop>(
+    rt: &HostRuntime,
+    rows: &mut Rows<R>,
+) -> ExitCode
+where
+    R::File: FileExt,
+{
+    match answer_rows(rt, rows) {
         Ok(0) => ExitCode::SUCCESS,
         _ => ExitCode::FAILURE,
     }
 }
 
 fn main(rt: HostRuntime) -> ExitCode {
-    match Session::new(rt.alloc()) {
-        Ok(mut session) => answer(&rt, &mut session),
+    let Ok(host) = rt.clone() else {
+        return ExitCode::FAILURE;
+    };
+    match Rows::new(host) {
+        Ok(mut rows) => answer(&rt, &mut rows),
         Err(_) => ExitCode::FAILURE,
     }
 }

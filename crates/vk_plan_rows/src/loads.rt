@@ -1,18 +1,13 @@
-//! One run over a load, with a count of steps of its own: closing it, or planning it whole.
-ghost use Rattle.std.specs.Prelude.{◌≡◌, ◌<◌};
+//! Large projects over catalogues in memory.
 
 use crate::chains::{chain, chain_root};
 use crate::parts::{Making, NoLoad, Unmade};
 use crate::rings::{ring, ring_root};
 use crate::sides::{side_by_side, side_root};
 use std::alloc::Global;
-use std::marker::Brand;
-use std::sync::ledger::{Blank, Ledger};
-use vk_base::{List, Steps, Stop, TripletName, Unread};
+use vk_base::{List, TripletName, Unread};
 use vk_catalogue::MemCatalogue;
-use vk_close::{CloseFault, close};
-use vk_model::{Closure, Manifest, Outcome, Setting};
-use vk_resolve::resolve;
+use vk_model::{Manifest, Setting};
 use vk_triplet::{Triplet, read};
 
 // How many facts there may be.
@@ -34,8 +29,8 @@ pub enum Shape {
 /// A catalogue, and what a plan is made under.
 #[derive(Drop)]
 pub struct Load {
-    pages: MemCatalogue,
-    setting: Setting,
+    pub pages: MemCatalogue,
+    pub setting: Setting,
 }
 
 fn triplet(alloc: Global) -> Result<Triplet, Unmade> {
@@ -90,40 +85,4 @@ pub fn load_of(alloc: Global, shape: Shape, size: u32) -> Result<Load, Unmade> {
     let root = root_of(alloc, shape, size)?;
     let pages = pages_of(alloc, shape, size)?;
     load_with(alloc, root, pages)
-}
-
-fn closed_by<L: Ledger>(
-    alloc: Global,
-    load: &mut Load,
-    blank: Blank,
-) -> Result<Closure, Stop<CloseFault>>
-    requires name { blank.name ≡ L.name }
-    requires parts { blank.parts ≡ L.parts }
-    requires some { 0 < blank.parts }
-{
-    let mut steps = Steps::<L>::new(blank);
-    close(alloc, &mut load.pages, &load.setting, &mut steps)
-}
-
-/// The closure of a load, or nothing where the closing stops.
-pub fn closed(alloc: Global, load: &mut Load) -> Option<Closure> {
-    closed_by::<Brand>(alloc, load, Blank::new(1)).ok()
-}
-
-fn planned_by<L: Ledger>(
-    alloc: Global,
-    load: &mut Load,
-    blank: Blank,
-) -> Result<Outcome, Stop<CloseFault>>
-    requires name { blank.name ≡ L.name }
-    requires parts { blank.parts ≡ L.parts }
-    requires some { 0 < blank.parts }
-{
-    let mut steps = Steps::<L>::new(blank);
-    resolve(alloc, &mut load.pages, &load.setting, &mut steps)
-}
-
-/// The outcome of a load, or nothing where the planning stops.
-pub fn planned(alloc: Global, load: &mut Load) -> Option<Outcome> {
-    planned_by::<Brand>(alloc, load, Blank::new(1)).ok()
 }

@@ -1,5 +1,4 @@
-//! The rows, each a question and its words:
-//! - `group TITLE`, `case TITLE`: what follows belongs together;
+//! The rows about calls of a tree, each a question and its words:
 //! - `mem CALL`, `host CALL`: a call of the tree in memory, or of the host's;
 //! - `both CALL`: the call of both, which have to answer the same;
 //! - `each N ROW`: how many of so many rows are answered by `done`, each the one row with its
@@ -21,9 +20,10 @@ use vk_real::FileTree;
 use vk_row_text::{Answering, Reply, cut};
 use vk_tree::{MemTree, Tree};
 
-/// A tree in memory, which is empty at first, and the host's files.
+/// A tree in memory, which is empty at first, and the host's files in the folder where the program
+/// runs.
 #[derive(Drop)]
-pub struct Session<R> {
+pub struct TreeCalls<R> {
     mem: MemTree,
     host: FileTree<R>,
 }
@@ -110,14 +110,14 @@ fn tell_both(
     }
 }
 
-impl<R: Files + Alloc<A = Global> + Clone + Drop> Session<R>
+impl<R: Files + Alloc<A = Global> + Clone + Drop> TreeCalls<R>
 where
     R::File: FileExt,
 {
     /// No files in memory, and those of the host.
-    pub fn new(rt: R) -> Result<Session<R>, Memory> {
+    pub fn new(rt: R) -> Result<TreeCalls<R>, Memory> {
         let mem = MemTree::new(rt.alloc())?;
-        Ok(Session {
+        Ok(TreeCalls {
             mem,
             host: FileTree::new(rt),
         })
@@ -150,7 +150,7 @@ where
     }
 }
 
-impl<R: Files + Alloc<A = Global> + Clone + Drop> Session<R>
+impl<R: Files + Alloc<A = Global> + Clone + Drop> TreeCalls<R>
 where
     R::File: FileExt,
 {
@@ -179,7 +179,7 @@ fn is_done(told: Result<Option<Text>, AllocError>) -> bool {
     }
 }
 
-impl<R: Files + Alloc<A = Global> + Clone + Drop> Session<R>
+impl<R: Files + Alloc<A = Global> + Clone + Drop> TreeCalls<R>
 where
     R::File: FileExt,
 {
@@ -205,14 +205,13 @@ where
     }
 }
 
-impl<R: Files + Alloc<A = Global> + Clone + Drop> Answering for Session<R>
+impl<R: Files + Alloc<A = Global> + Clone + Drop> Answering for TreeCalls<R>
 where
     R::File: FileExt,
 {
     fn answer(&mut self, row: &str, reply: &mut Reply) {
         let (question, rest) = cut(row);
         match question {
-            "group" | "case" => reply.silence(),
             "each" => self.each(rest, reply),
             _ => self.ask(row, reply),
         }

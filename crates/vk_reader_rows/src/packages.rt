@@ -1,15 +1,11 @@
-//! The rows. The first word says what is asked; then come words, the last of which may hold blanks.
+//! The rows about packages, by their first word.
 
 use crate::{builds, contents, large, plans, recipes, texts};
-use vk_row_text::{Answering, Reply, cut};
+use vk_row_text::Reply;
 
-/// Answers rows about packages.
-#[derive(Drop)]
-pub struct Rows;
-
-// What a row asks.
+/// What a row about packages asks.
 #[derive(Clone, Copy)]
-enum Kind {
+pub enum Kind {
     Contents,
     Recipe,
     Recipes,
@@ -19,7 +15,8 @@ enum Kind {
     Plan,
 }
 
-fn kind_of(word: &str) -> Option<Kind> {
+/// The kind that a word stands for.
+pub fn kind_of(word: &str) -> Option<Kind> {
     match word {
         "contents" => Some(Kind::Contents),
         "recipe" => Some(Kind::Recipe),
@@ -32,7 +29,8 @@ fn kind_of(word: &str) -> Option<Kind> {
     }
 }
 
-fn answer(kind: Kind, rest: &str, reply: &mut Reply) {
+/// Answers a row of a kind by the words behind its first.
+pub fn answer(kind: Kind, rest: &str, reply: &mut Reply) {
     match kind {
         Kind::Contents => contents::answer(rest, reply),
         Kind::Recipe => recipes::answer(rest, reply),
@@ -41,18 +39,5 @@ fn answer(kind: Kind, rest: &str, reply: &mut Reply) {
         Kind::Large => large::answer(rest, reply),
         Kind::Text => texts::answer(rest, reply),
         Kind::Plan => plans::answer(rest, reply),
-    }
-}
-
-impl Answering for Rows {
-    fn answer(&mut self, row: &str, reply: &mut Reply) {
-        let (word, rest) = cut(row);
-        if word == "group" || word == "case" {
-            return reply.silence();
-        }
-        match kind_of(word) {
-            Some(kind) => answer(kind, rest, reply),
-            None => reply.refuse(),
-        }
     }
 }

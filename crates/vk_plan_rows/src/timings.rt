@@ -1,22 +1,15 @@
-//! Plans large projects over catalogues in memory: reads a shape and a number of ports a line, as
-//! `chain 20`, `shared 20`, `side 20` or `ring 20`, and tells how many facts and how many items
-//! there are, none where the project is refused. How long the closing took, and how long the whole
-//! plan, goes to standard error, in microseconds, so that what the program prints is always the
-//! same.
-#![tactic(auto)]
+//! How long closing and planning take over large projects. That goes to standard error, in
+//! microseconds, so that what the program prints is always the same.
 
-mod chains;
-mod parts;
-mod rings;
-mod runs;
-mod sides;
-
-use runs::{Load, Shape, closed, load_of, planned};
+use crate::closings::closed;
+use crate::loads::{Load, Shape, load_of};
+use crate::outcomes::resolved;
 use std::alloc::Global;
 use std::io::{self, Eprint};
 use std::rt::Clock;
 use std::time::Instant;
 use vk_model::{Closure, Outcome};
+use vk_row_text::{Reply, cut};
 
 // How many there are of what was made, and how many microseconds it took.
 #[derive(Clone, Copy, Drop)]
@@ -41,9 +34,9 @@ fn items_of(outcome: Option<Outcome>) -> Option<usize> {
 // Times the call alone: the answer is dropped when the time was taken.
 fn measure_closing<R: Clock>(rt: &R, alloc: Global, load: &mut Load) -> io::Result<Option<Timed>> {
     let start = Instant::now(rt)?;
-    let closure = closed(alloc, load);
+    let closure = closed(alloc, &mut load.pages, &load.setting);
     let end = Instant::now(rt);
-    let facts = facts_of(closure);
+    let facts = facts_of(closure.ok());
     let micros = end?.duration_since(start).as_micros();
     match facts {
         Some(count) => Ok(Some(Timed { count, micros })),
@@ -53,9 +46,9 @@ fn measure_closing<R: Clock>(rt: &R, alloc: Global, load: &mut Load) -> io::Resu
 
 fn measure_planning<R: Clock>(rt: &R, alloc: Global, load: &mut Load) -> io::Result<Option<Timed>> {
     let start = Instant::now(rt)?;
-    let outcome = planned(alloc, load);
+    let outcome = resolved(alloc, &mut load.pages, &load.setting);
     let end = Instant::now(rt);
-    let items = items_of(outcome);
+    let items = items_of(outcome.ok());
     let micros = end?.duration_since(start).as_micros();
     match items {
         Some(count) => Ok(Some(Timed { count, micros })),
@@ -96,22 +89,19 @@ fn measure_at<R: Clock>(
     }
 }
 
-fn tell<R: Print + Eprint + Clock>(
-    rt: &R,
-    alloc: Global,
-    row: &str,
-    shape: Shape,
-    size: u32,
-) -> io::Result<()> {
-    let Some(both) = measure_at(rt, alloc, shape, size)? else {
-        return println!(rt; "{row}: stopped");
-    };
+fn tell<R: Eprint + Clock>(rt: &R, row: &str, both: Both, reply: &mut Reply) {
     let (closing, planning) = (both.closing, both.planning);
-    eprintln!(rt;
+    let told = eprintln!(rt;
         "{row}: closed {} us, planned {} us",
         closing.micros, planning.micros
-    )?;
-    println!(rt; "{row}: {} facts, {} items", closing.count, planning.count)
+    );
+    if told.is_err() {
+        reply.refuse();
+    }
+    reply.push_number(closing.count as u64);
+    reply.push(" facts, ");
+    reply.push_number(planning.count as u64);
+    reply.push(" items");
 }
 
 fn shape_of(word: &str) -> Option<Shape> {
@@ -124,24 +114,16 @@ fn shape_of(word: &str) -> Option<Shape> {
     }
 }
 
-fn size_of(word: &str) -> Option<u32> {
-    word.parse::<u32>().ok()
-}
-
-fn answer<R: Print + Eprint + Clock>(rt: &R, alloc: Global, row: &str) -> io::Result<()> {
-    let Some((shape, size)) = row.split_once(' ') else {
-        return println!(rt; "no row");
+/// `load SHAPE N`: how many facts and how many items a project of so many ports has, none where it
+/// is refused; a shape is `chain`, `shared`, `side` or `ring`.
+pub fn answer<R: Eprint + Clock>(rt: &R, row: &str, reply: &mut Reply) {
+    let (shape, size) = cut(row);
+    let size = reply.number(size);
+    let Some(shape) = shape_of(shape) else {
+        return reply.refuse();
     };
-    match (shape_of(shape), size_of(size)) {
-        (Some(shape), Some(size)) => tell(rt, alloc, row, shape, size),
-        _ => println!(rt; "no row"),
+    match measure_at(rt, reply.alloc(), shape, size) {
+        Ok(Some(both)) => tell(rt, row, both, reply),
+        _ => reply.push("stopped"),
     }
-}
-
-fn main(rt: HostRuntime) -> io::Result<()> {
-    for line in rt.lines(rt.alloc()) {
-        let line = line?;
-        answer(&rt, rt.alloc(), line.as_str())?;
-    }
-    Ok(())
 }
