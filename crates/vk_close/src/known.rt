@@ -13,7 +13,7 @@ use std::marker::Model;
 use vk_base::{Memory, Outage, PortName};
 use vk_catalogue::Catalogue;
 use vk_model::{Given, Wrong};
-use vk_rules::Overrides;
+use vk_root::Overrides;
 use vk_version::Version;
 
 /// What is known of a port.

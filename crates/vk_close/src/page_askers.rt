@@ -38,7 +38,8 @@ use std::sync::ledger::Ledger;
 use vk_base::{FeatureName, Instance, Memory, Outage, PortName, Steps};
 use vk_catalogue::Catalogue;
 use vk_model::{Cause, Fact, Manifest, Setting, Who};
-use vk_rules::{Overrides, Rules};
+use vk_root::Overrides;
+use vk_rules::Rules;
 use vk_version::{Ask, Version};
 use vk_worklist::Asker;
 

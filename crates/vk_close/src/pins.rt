@@ -6,7 +6,7 @@ ghost use Rattle.vk_model.specs.WrongViews.{given_view, wrong_view};
 
 use vk_base::{PortName, TreePath};
 use vk_model::{Given, Wrong};
-use vk_rules::Overrides;
+use vk_root::Overrides;
 
 // Whether a file is the manifest in an overlay's folder for the port.
 fn is_overlay_file(port: &PortName, path: &TreePath) -> bool

@@ -12,7 +12,7 @@ use crate::names::copy_of;
 use indexmap::IndexMap;
 use vk_base::{Memory, Outage, PortName};
 use vk_catalogue::Catalogue;
-use vk_rules::Overrides;
+use vk_root::Overrides;
 use vk_worklist::{place_of, value_at};
 
 /// What is known of the port at a place.

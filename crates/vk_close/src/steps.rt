@@ -19,7 +19,7 @@ use indexmap::IndexMap;
 use vk_base::{List, Memory, Outage, PortName};
 use vk_catalogue::Catalogue;
 use vk_model::{Cause, Fact, Given};
-use vk_rules::Overrides;
+use vk_root::Overrides;
 
 // Whether a port is pinned.
 fn is_pinned<C: Catalogue>(

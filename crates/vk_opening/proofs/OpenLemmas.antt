@@ -26,7 +26,7 @@ use Rattle.vk_base.specs.FeatureViews.{feature_view}
 use Rattle.vk_triplet.specs.Meanings.{meaning_of}
 use Rattle.vk_model.specs.Views.{manifest_view}
 use Rattle.vk_model.specs.SettingViews.{setting_view, instance_view}
-use Rattle.vk_rules.specs.RootSettings.{setting_of}
+use Rattle.vk_root.specs.RootSettings.{setting_of}
 use Rattle.vk_opening.specs.Opened.{Opens, ListsOwnOff}
 use Rattle.vk_opening.specs.Views.{triplets_view, overlay_view}
 use Rattle.vk_model.specs.declared.settings.Setting.{Setting}

@@ -2,7 +2,7 @@ use std::rc::Rc;
 use vk_base::{List, TreePath};
 use vk_config::Config;
 use vk_model::Manifest;
-use vk_rules::Overrides;
+use vk_root::Overrides;
 
 /// A folder that stands before every registry.
 #[derive(Drop)]

@@ -30,7 +30,7 @@ use vk_base::{FeatureName, Instance, List, Memory, Outage, Stop, TreePath};
 use vk_config::Config;
 use vk_files::Archive;
 use vk_model::{Early, Manifest, Project, Setting, Store};
-use vk_rules::{Overrides, off_list};
+use vk_root::{Overrides, off_list};
 use vk_tree::Tree;
 
 /// What the early files of a project give.

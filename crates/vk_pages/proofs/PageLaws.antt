@@ -35,7 +35,7 @@ use Rattle.vk_files.specs.Readings.{Standing, missing, too_long, readable, Bad, 
 use Rattle.vk_opening.specs.Configurations.{config_in}
 use Rattle.vk_opening.specs.Openings.{Opening, triplets_of, opened_of}
 use Rattle.vk_opening.specs.Overlays.{port_at, overlay_by, overlay_at, overlays_at}
-use Rattle.vk_rules.specs.Overrides.{override_for}
+use Rattle.vk_root.specs.Overrides.{override_for}
 use Rattle.vk_opening.specs.Projects.{manifest_path, folders_of}
 use Rattle.vk_opening.specs.Roots.{root_in, port_in, early_at}
 use Rattle.vk_opening.specs.Layouts.{Overlay, is_port, has_ports, Layout}

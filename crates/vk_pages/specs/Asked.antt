@@ -11,7 +11,7 @@ use Rattle.vk_opening.specs.Projects.{manifest_path}
 use Rattle.vk_opening.specs.Layouts.{Overlay, is_port, has_ports, Layout}
 use Rattle.vk_registry.specs.RegistryFiles.{baseline_path, table_path, port_folder}
 use Rattle.vk_pages.specs.Homes.{Home, in_overlay, in_registry, Served, has_port, overlay_for, served_for, given_by, home_of}
-use Rattle.vk_rules.specs.Overrides.{override_for}
+use Rattle.vk_root.specs.Overrides.{override_for}
 use Rattle.vk_pages.specs.Pages.{row_folder}
 
 -- in a folder of ports, the port's manifest; that of an overlay which is a port was read before

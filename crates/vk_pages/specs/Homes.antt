@@ -15,7 +15,7 @@ use Rattle.vk_registry.specs.Baselines.{Entry, ask_for, baseline_by}
 use Rattle.vk_registry.specs.Tables.{Row, table_of}
 use Rattle.vk_files.specs.Readings.{Bad, wrong_of, or_told, is_at, file_at, file_as}
 use Rattle.vk_opening.specs.Projects.{manifest_path}
-use Rattle.vk_rules.specs.Overrides.{override_for}
+use Rattle.vk_root.specs.Overrides.{override_for}
 use Rattle.vk_opening.specs.Roots.{port_in}
 use Rattle.vk_opening.specs.Layouts.{Overlay, is_port, has_ports, Layout}
 use Rattle.vk_registry.specs.RegistryFiles.{baseline_path, table_path, port_folder}

@@ -8,7 +8,7 @@ ghost use Rattle.vk_model.specs.declared.projects.Project.{Project};
 ghost use Rattle.vk_opening.specs.Openings.{Opening, opened_of};
 ghost use Rattle.vk_opening.specs.Layouts as plain;
 ghost use Rattle.vk_pages.specs.Homes.{Served, overlay_for, home_in, served_for};
-ghost use Rattle.vk_rules.specs.Overrides.{override_for};
+ghost use Rattle.vk_root.specs.Overrides.{override_for};
 ghost use Rattle.vk_pages.specs.Homes.{home_with, home_of, IsPinned};
 ghost use Rattle.vk_pages.specs.Pages.{page_of};
 

@@ -9,8 +9,8 @@ use vk_catalogue::MemCatalogue;
 use vk_close::{CloseFault, close};
 use vk_model::lines::{InstanceTokens, fault_line};
 use vk_model::{Closure, Fault, Reason, Setting};
+use vk_root::off_list;
 use vk_row_text::Reply;
-use vk_rules::off_list;
 
 fn closed_by<L: Ledger>(
     alloc: Global,

@@ -16,9 +16,9 @@ use Rattle.vk_resolution.proofs.FactLemmas.{instance_key-IsKey, same_instance-De
 use Rattle.vk_spec.specs.Settings as plain_instance
 use Rattle.vk_base.specs.declared.instances.Instance.{Instance}
 use Rattle.vk_model.specs.SettingViews.{instance_view}
-use Rattle.vk_rules.specs.Offs.{is_same}
-use Rattle.vk_rules.proofs.OffSetLemmas.{same_is}
-use Rattle.vk_rules.proofs.InstanceOrderLemmas.{instance_order, order_total, order_ties, sorted_ascends}
+use Rattle.vk_root.specs.Offs.{is_same}
+use Rattle.vk_root.proofs.OffSetLemmas.{same_is}
+use Rattle.vk_root.proofs.InstanceOrderLemmas.{instance_order, order_total, order_ties, sorted_ascends}
 use Rattle.vk_planset.specs.Members.{HasMore, HaveSame}
 use Rattle.vk_planset.proofs.MemberLemmas.{ascending_is, known_more, more_last}
 

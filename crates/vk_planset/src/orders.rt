@@ -6,7 +6,7 @@ ghost use Rattle.indexmap.specs.IndexSet.{insert_key};
 ghost use Rattle.vk_resolution.specs.Planning.{needed_in};
 ghost use Rattle.vk_model.specs.FactViews.{fact_view};
 ghost use Rattle.vk_model.specs.SettingViews.{instance_view};
-ghost use Rattle.vk_rules.specs.Offs.{is_same};
+ghost use Rattle.vk_root.specs.Offs.{is_same};
 ghost use Rattle.vk_planset.specs.Members.{HasMore, HaveSame};
 ghost use Rattle.vk_planset.specs.Places.{chosen_in, fitting, has_choice, place_of, seat_order};
 

@@ -14,7 +14,7 @@ use Rattle.vk_model.specs.Views.{use_view, dependency_view}
 use Rattle.vk_model.specs.declared.manifests.Dependency.{Dependency}
 use Rattle.vk_model.specs.declared.manifests.FeatureUse.{FeatureUse}
 use Rattle.vk_rules.specs.Asked.{use_need, needs_of, own_floor, other_asked, asked_where, asked_each}
-use Rattle.vk_rules.specs.Roots.{instance_at, triplet_for}
+use Rattle.vk_root.specs.Roots.{instance_at, triplet_for}
 
 module _ (who : Who) (marks : Marks) where
   use_step : (u : FeatureUse) (us : List FeatureUse) (b : Bool) → flat_map (use_need who marks) us ≡ needs_of who marks (map use_view us)

@@ -9,12 +9,12 @@ ghost use Rattle.vk_model.specs.Views.{use_view, dependency_view};
 ghost use Rattle.vk_model.specs.SettingViews.{instance_view};
 ghost use Rattle.vk_rules.specs.Asked.{facts_view, use_need, needs_of, default_need, own_floor};
 ghost use Rattle.vk_rules.specs.Asked.{other_asked};
-ghost use Rattle.vk_rules.specs.Requirers.{requirer_view};
+ghost use Rattle.vk_root.specs.Requirers.{requirer_view};
 
-use crate::requirers::Requirer;
 use vk_base::{FeatureName, List, Memory, PortName};
 use vk_expr::{Marks, truth};
 use vk_model::{Dependency, Fact, FeatureUse};
+use vk_root::Requirer;
 use vk_version::Ask;
 
 // The need of a feature.

@@ -10,10 +10,10 @@ ghost use Rattle.vk_resolution.specs.Faults.{feature_faults};
 ghost use Rattle.vk_model.specs.Views.{manifest_view};
 ghost use Rattle.vk_rules.specs.Flaws.{flaw_faults, judged_under, support_faults};
 
-use crate::manifests::feature_of;
 use vk_base::FeatureName;
 use vk_expr::{Expr, Marks, truth};
 use vk_model::Manifest;
+use vk_root::feature_of;
 
 /// What is wrong with a feature that is needed.
 #[derive(Clone, Copy, Debug, PartialEq, Eq)]

@@ -8,18 +8,14 @@ ghost use Rattle.vk_base.specs.FeatureViews.{feature_view};
 ghost use Rattle.vk_model.specs.Views.{manifest_view, dependency_view};
 ghost use Rattle.vk_model.specs.SettingViews.{instance_view, setting_view};
 ghost use Rattle.vk_model.specs.FactViews.{fact_view, who_view};
-ghost use Rattle.vk_rules.specs.Roots.{instance_at, triplet_for, root_setting};
+ghost use Rattle.vk_root.specs.Roots.{instance_at, triplet_for, root_setting};
 ghost use Rattle.vk_rules.specs.Asked.{facts_view, asked_where, asked_each};
 ghost use Rattle.vk_rules.specs.Flaws.{flaw_faults};
-ghost use Rattle.vk_rules.specs.Requirers.{requirer_view};
+ghost use Rattle.vk_root.specs.Requirers.{requirer_view};
 ghost use Rattle.vk_resolution.specs.Settings as plain;
 
 use crate::asking::{push_other, push_own, push_uses};
 use crate::flaws::{Flaw, flaw_under};
-use crate::instance_sets::set_of;
-use crate::manifests::{defaults_of, dependencies_of};
-use crate::requirers::Requirer;
-use crate::roots::Root;
 use indexmap::IndexSet;
 use std::alloc::Global;
 use std::marker::Model;
@@ -27,6 +23,7 @@ use std::sync::ledger::Ledger;
 use vk_base::{FeatureName, Instance, List, Memory, PortName, Steps, TripletName};
 use vk_expr::{Marks, truth};
 use vk_model::{Dependency, Fact, Manifest, Setting, Who};
+use vk_root::{Requirer, Root, defaults_of, dependencies_of, set_of};
 
 /// The rules of a setting, ready to be asked: whether an instance is off is a look-up, and marks
 /// are those that the triplets keep. Contracts see the setting.
@@ -40,7 +37,7 @@ impl<'a> Model for Rules<'a> {
     ghost use Rattle.std.specs.Coded.{codes};
     ghost use Rattle.vk_expr.specs.contracts.exprs.Expr as e;
     ghost use Rattle.vk_model.specs.declared.settings.Setting.{Setting};
-    ghost use Rattle.vk_rules.specs.Offs.{AreOff};
+    ghost use Rattle.vk_root.specs.Offs.{AreOff};
 
     ghost Value = { Setting };
 

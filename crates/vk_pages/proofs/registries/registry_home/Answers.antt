@@ -2,7 +2,7 @@ use Rattle.std.proofs.lemmas.Result.{err_from_is_err_and}
 use Rattle.vk_base.specs.Stops.{fault_seen}
 use Rattle.vk_catalogue.specs.Views.{wrong_view}
 use Rattle.vk_spec.proofs.ReadingLemmas.{fails_on}
-use Rattle.vk_rules.specs.Overrides.{override_for}
+use Rattle.vk_root.specs.Overrides.{override_for}
 use Rattle.vk_pages.specs.Homes.{served_home, registry_home}
 use Rattle.vk_opening.specs.Views.{layout_view}
 use Rattle.vk_files.proofs.FindLemmas.{finds_here, finds_after}

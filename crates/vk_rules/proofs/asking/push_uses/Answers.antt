@@ -1,5 +1,5 @@
 use Rattle.std.proofs.Common.{◌++◌, ap, ◌∙◌}
-use Rattle.vk_rules.specs.Requirers.{requirer_view}
+use Rattle.vk_root.specs.Requirers.{requirer_view}
 use Rattle.vk_rules.specs.Asked.{facts_view}
 use Rattle.vk_rules.proofs.AskedLemmas.{needs_all}
 use Rattle.vk_rules.proofs.asking.push_uses.Goals as goal

@@ -1,6 +1,6 @@
 use Rattle.std.proofs.Common.{◌≡◌, ◌++◌, take}
 use Rattle.std.specs.Prelude.{flat_map}
-use Rattle.vk_rules.specs.Requirers.{requirer_view}
+use Rattle.vk_root.specs.Requirers.{requirer_view}
 use Rattle.vk_rules.specs.Asked.{facts_view, use_need}
 use Rattle.vk_rules.proofs.asking.push_uses.Given as goal
 

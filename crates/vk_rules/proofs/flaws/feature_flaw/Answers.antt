@@ -1,7 +1,7 @@
 use Rattle.std.proofs.Common.{◌∙◌, sym, ap}
 use Rattle.std.specs.Prelude.{option_map, Some, None}
 use Rattle.vk_resolution.specs.Faults.{feature_faults}
-use Rattle.vk_rules.proofs.FeatureLemmas.{found_feature}
+use Rattle.vk_root.proofs.FeatureLemmas.{found_feature}
 use Rattle.vk_rules.proofs.flaws.feature_flaw.Goals as goal
 
 pub returns-in-Some : goal.returns-in-Some

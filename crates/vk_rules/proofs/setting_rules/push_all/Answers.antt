@@ -1,6 +1,6 @@
 use Rattle.std.proofs.Common.{◌++◌, ap, ◌∙◌}
 use Rattle.vk_model.specs.SettingViews.{setting_view}
-use Rattle.vk_rules.specs.Requirers.{requirer_view}
+use Rattle.vk_root.specs.Requirers.{requirer_view}
 use Rattle.vk_rules.specs.Asked.{facts_view}
 use Rattle.vk_rules.proofs.AskedLemmas.{asked_all}
 use Rattle.vk_rules.proofs.setting_rules.push_all.Goals as goal

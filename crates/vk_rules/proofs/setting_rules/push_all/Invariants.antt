@@ -1,7 +1,7 @@
 use Rattle.std.proofs.Common.{◌≡◌, ◌++◌, take}
 use Rattle.std.specs.Prelude.{flat_map}
 use Rattle.vk_model.specs.SettingViews.{setting_view}
-use Rattle.vk_rules.specs.Requirers.{requirer_view}
+use Rattle.vk_root.specs.Requirers.{requirer_view}
 use Rattle.vk_rules.specs.Asked.{facts_view, asked_where}
 use Rattle.vk_rules.proofs.setting_rules.push_all.Given as goal
 

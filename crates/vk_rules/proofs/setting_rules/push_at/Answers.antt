@@ -2,7 +2,7 @@ use Rattle.std.proofs.Common.{◌≡◌, ◌++◌, refl, subst}
 use Rattle.std.specs.Prelude.{OnOk}
 use Rattle.vk_model.specs.Views.{dependency_view}
 use Rattle.vk_model.specs.SettingViews.{setting_view}
-use Rattle.vk_rules.specs.Roots.{instance_at}
+use Rattle.vk_root.specs.Roots.{instance_at}
 use Rattle.vk_rules.specs.Asked.{facts_view}
 use Rattle.vk_rules.proofs.AskedLemmas.{at_is}
 use Rattle.vk_rules.proofs.setting_rules.push_at.Goals as goal

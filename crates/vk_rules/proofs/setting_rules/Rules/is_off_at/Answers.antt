@@ -3,7 +3,7 @@ use Rattle.vk_spec.proofs.ListLemmas.{any_by}
 use Rattle.vk_resolution.specs.Settings.{same_instance}
 use Rattle.vk_base.specs.declared.instances.Instance.{Instance}
 use Rattle.vk_model.specs.SettingViews.{instance_view}
-use Rattle.vk_rules.proofs.OffSetLemmas.{nothing_there}
+use Rattle.vk_root.proofs.OffSetLemmas.{nothing_there}
 use Rattle.vk_rules.proofs.setting_rules.Rules.is_off_at.Goals as goal
 
 pub returns-then-is_empty : goal.returns-then-is_empty

@@ -1,7 +1,7 @@
 use Rattle.std.proofs.Common.{◌∙◌}
 use Rattle.vk_model.specs.SettingViews.{setting_view}
-use Rattle.vk_rules.specs.Requirers.{requirer_view}
-use Rattle.vk_rules.specs.Roots.{root_setting, instance_at}
+use Rattle.vk_root.specs.Requirers.{requirer_view}
+use Rattle.vk_root.specs.Roots.{root_setting, instance_at}
 use Rattle.vk_rules.proofs.AskedLemmas.{own_same}
 use Rattle.vk_rules.proofs.setting_rules.Rules.is_own.Goals as goal
 

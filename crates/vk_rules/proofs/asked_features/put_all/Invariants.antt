@@ -1,6 +1,0 @@
-use Rattle.std.proofs.Common.{take}
-use Rattle.vk_rules.specs.AskedNames.{names_view, Grows}
-use Rattle.vk_rules.proofs.asked_features.put_all.Given as goal
-
-abbrev pub invariant-loop-name : goal.invariant-loop-name
-invariant-loop-name l = Grows l.initial.names.keys l.names.keys (names_view (take l.name-index l.more))

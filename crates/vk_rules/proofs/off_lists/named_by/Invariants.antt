@@ -1,8 +1,0 @@
-use Rattle.std.proofs.Common.{◌≡◌, ◌++◌}
-use Rattle.vk_rules.specs.Roots.{root_setting}
-use Rattle.vk_rules.specs.AskedNames.{names_view}
-use Rattle.vk_rules.specs.NamedInstances.{instances_view, named_of}
-use Rattle.vk_rules.proofs.off_lists.named_by.Given as goal
-
-abbrev pub invariant-loop-feature : goal.invariant-loop-feature
-invariant-loop-feature l = instances_view l.named ++ named_of (root_setting l.root) l.only (names_view l.feature-iterator) ≡ named_of (root_setting l.root) l.only (names_view l.features.keys)
