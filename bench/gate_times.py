@@ -4,9 +4,9 @@
 usage, at the top of the repository: bench/gate_times.py [--log FILE] [NAME..]
 
 Begin with nothing kept and nothing else running, or the sums say what was left to do. What each
-process of the prover and of the compilers took is read twice a second, so a process loses half a
-second at most; the sum at the end is the system's own count, and exact. It ends with the gate's
-status, and prints what the gate prints to standard error, or to the log.
+process of the prover and of the compilers took is read once a second, so a process loses a second
+at most; the sum at the end is the system's own count, and exact. It ends with the gate's status,
+and prints what the gate prints to standard error, or to the log.
 """
 import argparse
 import collections
@@ -76,7 +76,7 @@ def main():
     gate = subprocess.Popen(["rt", "ci", *options.names], stdin=subprocess.DEVNULL, stdout=out, stderr=out)
     while gate.poll() is None:
         costs.look()
-        time.sleep(0.5)
+        time.sleep(1)
     used = resource.getrusage(resource.RUSAGE_CHILDREN)
     rows = costs.table()
     print("| crate | proof | edits |\n|---|---|---|")
