@@ -69,6 +69,28 @@ fn read_new_item<R: NewItemReader>(
     }
 }
 
+// Reads items after those that were read, whose keys these are.
+fn read_more_items<R: NewItemReader>(
+    alloc: Global,
+    values: &[Value],
+    reader: &R,
+    read: &mut List<R::Out>,
+    keys: &mut IndexSet<R::Key>,
+) -> Result<(), Unread<FileFault>>
+    requires keys { map R.plain_key keys.now.keys ≡ map R.key_of (map R.plain read.now) }
+    ensures read { Gives (λ done. map R.plain read.new) fault_in result
+        (read_after (new_item_at R.key_of (R.reads reader.now)) (map R.plain read.old) 0
+        (map view values.now)) }
+    ensures keys { IfOk result (λ done. map R.plain_key keys.new.keys
+        ≡ map R.key_of (map R.plain read.new)) }
+{
+    for (n, value) in values.iter().enumerate() {
+        let item = read_new_item(alloc, n, value, keys, reader)?;
+        read.push(item)?;
+    }
+    Ok(())
+}
+
 fn read_new_items<R: NewItemReader>(
     alloc: Global,
     values: &[Value],
@@ -81,11 +103,14 @@ fn read_new_items<R: NewItemReader>(
 {
     let mut read = List::with_capacity(alloc, values.len())?;
     let mut keys = IndexSet::with_capacity(alloc, values.len())?;
-    for (n, value) in values.iter().enumerate() {
-        let item = read_new_item(alloc, n, value, &mut keys, reader)?;
-        read.push(item)?;
+    match read_more_items(alloc, values, reader, &mut read, &mut keys) {
+        Ok(()) => Ok((read, keys)),
+        Err(e) => {
+            drop(read);
+            drop(keys);
+            Err(e)
+        }
     }
-    Ok((read, keys))
 }
 
 /// A list, each of whose items has a key of its own and is read by a reader, in order, and the

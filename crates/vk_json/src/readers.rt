@@ -1,6 +1,6 @@
 //! Readers of values, put together from readers of their parts. Each answers what its reading
 //! gives: the value, or the first fault with its place.
-ghost use Rattle.std.specs.Prelude.{◌≡◌, ℕ, Bool, List, Result, IfOk, map, option_map};
+ghost use Rattle.std.specs.Prelude.{◌≡◌, ℕ, Bool, List, Result, IfOk, [], map, option_map};
 ghost use Rattle.serde_json.specs.Data.{Data};
 ghost use Rattle.vk_json.specs.Values.{view, entries_view, members_data, pair_of};
 ghost use Rattle.serde_json.specs.Data.{no_members};
@@ -204,6 +204,24 @@ fn read_member<R: MemberReader>(
     }
 }
 
+// Reads members into an empty list.
+fn read_members_into<R: MemberReader>(
+    alloc: Global,
+    members: &Members<'_, '_>,
+    reader: &R,
+    read: &mut List<R::Out>,
+) -> Result<(), Unread<FileFault>>
+    requires empty { read.now ≡ [] }
+    ensures { Gives (λ done. map R.plain read.new) fault_in result
+        (members_by (R.reads reader.now) (entries_view members.now.entries)) }
+{
+    for (key, value) in members.iter() {
+        let member = read_member(alloc, key, value, reader)?;
+        read.push(member)?;
+    }
+    Ok(())
+}
+
 fn read_members<R: MemberReader>(
     alloc: Global,
     members: &Members<'_, '_>,
@@ -213,10 +231,7 @@ fn read_members<R: MemberReader>(
         (members_by (R.reads reader.now) (entries_view members.now.entries)) }
 {
     let mut read = List::with_capacity(alloc, members.len())?;
-    for (key, value) in members.iter() {
-        let member = read_member(alloc, key, value, reader)?;
-        read.push(member)?;
-    }
+    read_members_into(alloc, members, reader, &mut read)?;
     Ok(read)
 }
 

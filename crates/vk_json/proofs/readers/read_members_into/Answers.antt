@@ -6,11 +6,11 @@ use Rattle.vk_spec.specs.Reading.{read_each}
 use Rattle.vk_spec.proofs.ReadingLemmas.{goes_on_with, ends_with, is_done_with}
 use Rattle.vk_base.specs.Stops.{fault_in}
 use Rattle.vk_json.specs.Readings.{member_at, pairs_of}
-use Rattle.vk_json.proofs.readers.read_members.Goals as goal
+use Rattle.vk_json.proofs.readers.read_members_into.Goals as goal
 
 pub returns-in_err-member : goal.returns-in_err-member
 returns-in_err-member g c =
-    let p = err_from_is_err_and c.from_residual-in_err-member.result c.from_residual-in_err-member.ensures.1 in
+    let p = err_from_is_err_and c.from_residual.result c.from_residual.ensures.1 in
     let f = member_at (g.R.MemberReader.reads c.args.reader.now) in
     let total = read_each (λ _. f) 0 (pairs_of (entries_view c.args.members.now.entries)) in
     rw (p.1, p.2)
