@@ -10,6 +10,7 @@ ghost use Rattle.vk_expr.specs.Views.{condition_of};
 ghost use Rattle.vk_base.specs.Stops.{fault_in};
 ghost use Rattle.vk_expr.specs.ReaderViews.{joint_of, sign_of, chain_of, frame_of, frames_of};
 ghost use Rattle.vk_expr.specs.ReaderViews.{state_of};
+ghost use Rattle.vk_expr.specs.declared.faults.ExprFault.TheVariants as fault;
 
 use crate::exprs::Expr;
 use crate::faults::ExprFault;
@@ -46,6 +47,16 @@ fn settled(
         value = negation(alloc, value)?;
     }
     Ok(State::Ended(frames, chain, value))
+}
+
+/// What stands at a place can't: what was read before it is let go.
+fn unexpected(frames: List<Frame>, chain: Chain, last: Expr, at: u32) -> ExprFault
+    ensures { result ≡ fault.Unexpected at }
+{
+    drop(frames);
+    drop(chain);
+    drop(last);
+    ExprFault::Unexpected { at }
 }
 
 /// One more NOT or parenthesis.
@@ -170,7 +181,7 @@ fn closed(
         (condition_of last)) }
 {
     match innermost {
-        Frame::Pending => Err(Unread::Fault(ExprFault::Unexpected { at })),
+        Frame::Pending => Err(Unread::Fault(unexpected(frames, chain, last, at))),
         Frame::Around(_, outer) => settled(alloc, frames, outer, value(chain, last)?),
     }
 }
@@ -187,7 +198,7 @@ fn closed_on(
         (closed_on at (frames_of frames) (chain_of chain) (condition_of last)) }
 {
     match frames.pop() {
-        None => Err(Unread::Fault(ExprFault::Unexpected { at })),
+        None => Err(Unread::Fault(unexpected(frames, chain, last, at))),
         Some(innermost) => closed(alloc, frames, innermost, chain, last, at),
     }
 }
@@ -209,10 +220,13 @@ fn step_ended(
     match sign {
         Sign::Joins(joint) => joined_on(alloc, frames, chain, last, at, joint),
         Sign::Closes => closed_on(alloc, frames, chain, last, at),
-        Sign::Name(_) => Err(Unread::Fault(ExprFault::Unexpected { at })),
-        Sign::Negates => Err(Unread::Fault(ExprFault::Unexpected { at })),
-        Sign::Opens => Err(Unread::Fault(ExprFault::Unexpected { at })),
-        Sign::Stray => Err(Unread::Fault(ExprFault::Unexpected { at })),
+        Sign::Name(word) => {
+            drop(word);
+            Err(Unread::Fault(unexpected(frames, chain, last, at)))
+        }
+        Sign::Negates => Err(Unread::Fault(unexpected(frames, chain, last, at))),
+        Sign::Opens => Err(Unread::Fault(unexpected(frames, chain, last, at))),
+        Sign::Stray => Err(Unread::Fault(unexpected(frames, chain, last, at))),
     }
 }
 
