@@ -4,7 +4,9 @@ ghost use Rattle.std.specs.Prelude.{option_and_then, IfOk};
 ghost use Rattle.vk_spec.specs.Reading.{Gives, or_fault};
 ghost use Rattle.vk_base.specs.Stops.{fault_in};
 ghost use Rattle.vk_words.specs.declared.faults.WordFault.TheVariants as fault;
+ghost use Rattle.vk_words.specs.declared.faults.Opt.TheVariants as required;
 ghost use Rattle.vk_words.specs.declared.options.OptionName.TheVariants as option;
+ghost use Rattle.vk_words.specs.declared.commands.Command.TheVariants as the_command;
 ghost use Rattle.vk_words.specs.WordViews.{word_view, words_view};
 ghost use Rattle.vk_words.specs.Options.{command_named};
 ghost use Rattle.vk_words.specs.Arguments.{agent_given};
@@ -19,7 +21,7 @@ use crate::arguments::{
 use crate::faults::{Opt, WordFault};
 use crate::options::{OptionName, Subcommand};
 use std::alloc::Global;
-use vk_base::{List, Memory, PortName, Text, TreePath, TripletName, Unread, Word};
+use vk_base::{FeatureName, List, Memory, PortName, Text, TreePath, TripletName, Unread, Word};
 use vk_model::{Builder, Project, Store};
 
 /// A command with all that its options say; what no option says has its default.
@@ -73,6 +75,51 @@ fn builder_in(alloc: Global, arguments: &[Argument]) -> Result<Builder, Memory>
     }
 }
 
+// The folders that a project takes from the words.
+#[derive(Drop)]
+struct Folders {
+    project: TreePath,
+    overlay_ports: List<TreePath>,
+    overlay_triplets: List<TreePath>,
+}
+
+fn folders_in(alloc: Global, arguments: &[Argument]) -> Result<Folders, Memory>
+    ensures project { IfOk result (λ f. f.project ≡ the.folder_in arguments.now) }
+    ensures ports { IfOk result (λ f. f.overlay_ports
+        ≡ the_arguments.paths_given option.OverlayPorts arguments.now) }
+    ensures triplets { IfOk result (λ f. f.overlay_triplets
+        ≡ the_arguments.paths_given option.OverlayTriplets arguments.now) }
+{
+    Ok(Folders {
+        project: folder_in(alloc, arguments)?,
+        overlay_ports: paths_given(alloc, arguments, OptionName::OverlayPorts)?,
+        overlay_triplets: paths_given(alloc, arguments, OptionName::OverlayTriplets)?,
+    })
+}
+
+// What is built, and by whom.
+#[derive(Drop)]
+struct Build {
+    target: TripletName,
+    host: TripletName,
+    features: List<FeatureName>,
+    builder: Builder,
+}
+
+fn build_for(alloc: Global, target: &TripletName, arguments: &[Argument]) -> Result<Build, Memory>
+    ensures target { IfOk result (λ b. b.target ≡ target.now) }
+    ensures host { IfOk result (λ b. b.host ≡ the.host_in target.now arguments.now) }
+    ensures features { IfOk result (λ b. b.features ≡ the_arguments.features_given arguments.now) }
+    ensures builder { IfOk result (λ b. b.builder ≡ the.builder_in arguments.now) }
+{
+    Ok(Build {
+        target: target.clone()?,
+        host: host_in(target, arguments)?,
+        features: features_given(alloc, arguments)?,
+        builder: builder_in(alloc, arguments)?,
+    })
+}
+
 // The project for a target.
 fn project_for(
     alloc: Global,
@@ -81,17 +128,19 @@ fn project_for(
 ) -> Result<Project, Memory>
     ensures { IfOk result (λ p. p ≡ the.project_for target.now arguments.now) }
 {
+    let build = build_for(alloc, target, arguments)?;
+    let folders = folders_in(alloc, arguments)?;
     Ok(Project {
-        folder: folder_in(alloc, arguments)?,
-        target: target.clone()?,
-        host: host_in(target, arguments)?,
-        features: features_given(alloc, arguments)?,
+        folder: folders.project,
+        target: build.target,
+        host: build.host,
+        features: build.features,
         defaults: !is_given(arguments, OptionName::NoDefaultFeatures),
-        overlay_ports: paths_given(alloc, arguments, OptionName::OverlayPorts)?,
-        overlay_triplets: paths_given(alloc, arguments, OptionName::OverlayTriplets)?,
+        overlay_ports: folders.overlay_ports,
+        overlay_triplets: folders.overlay_triplets,
         max_facts: number_given(arguments, OptionName::MaxFacts).unwrap_or(1_000_000),
         max_bytes: max_bytes_in(arguments),
-        builder: builder_in(alloc, arguments)?,
+        builder: build.builder,
     })
 }
 
@@ -103,12 +152,20 @@ fn needed<T>(given: Option<&T>, option: Opt) -> Result<&T, Unread<WordFault>>
     given.ok_or(Unread::Fault(WordFault::Lacks(option)))
 }
 
+// The target, which has to be named.
+fn target_in(arguments: &[Argument]) -> Result<&TripletName, Unread<WordFault>>
+    ensures { Gives (λ t. t.now) fault_in result (or_fault (fault.Lacks required.Triplet)
+        (the_arguments.triplet_given option.Triplet arguments.now)) }
+{
+    needed(triplet_given(arguments, OptionName::Triplet), Opt::Triplet)
+}
+
 // The project, which needs a target.
 #[tactic(auto, unfolding(crate::specs::Commands::project_in))]
 fn project_in(alloc: Global, arguments: &[Argument]) -> Result<Project, Unread<WordFault>>
     ensures { Gives (λ p. p) fault_in result (the.project_in arguments.now) }
 {
-    let target = needed(triplet_given(arguments, OptionName::Triplet), Opt::Triplet)?;
+    let target = target_in(arguments)?;
     Ok(project_for(alloc, target, arguments)?)
 }
 
@@ -170,32 +227,80 @@ fn plan_in(alloc: Global, arguments: &[Argument]) -> Result<Command, Unread<Word
     Ok(Command::Plan(project))
 }
 
-#[tactic(auto, unfolding(crate::specs::Commands::abi_in))]
+// To print the ABI text of this port in the project for a target.
+fn abi_for(
+    alloc: Global,
+    target: &TripletName,
+    port: &PortName,
+    arguments: &[Argument],
+) -> Result<Command, Memory>
+    ensures { IfOk result (λ c. c ≡ the_command.Abi (the.project_for target.now arguments.now)
+        port.now (the_arguments.triplet_given option.PortTriplet arguments.now)) }
+{
+    let port = port.clone()?;
+    let triplet = port_triplet_in(arguments)?;
+    Ok(Command::Abi(project_for(alloc, target, arguments)?, port, triplet))
+}
+
+#[tactic(auto, unfolding(crate::specs::Commands::abi_in, crate::specs::Commands::project_in))]
 fn abi_in(alloc: Global, arguments: &[Argument]) -> Result<Command, Unread<WordFault>>
     ensures { Gives (λ c. c) fault_in result (the.abi_in arguments.now) }
 {
-    let project = project_in(alloc, arguments)?;
+    let target = target_in(arguments)?;
     let port = needed(port_given(arguments), Opt::Port)?;
-    Ok(Command::Abi(project, port.clone()?, port_triplet_in(arguments)?))
+    Ok(abi_for(alloc, target, port, arguments)?)
 }
 
-#[tactic(auto, unfolding(crate::specs::Commands::install_in))]
+// To install the project for a target, and keep its packages in this cache.
+fn install_for(
+    alloc: Global,
+    target: &TripletName,
+    cache: &TreePath,
+    arguments: &[Argument],
+) -> Result<Command, Memory>
+    ensures { IfOk result (λ c. c ≡ the_command.Install (the.project_for target.now arguments.now)
+        (the.store_for (the.folder_in arguments.now) cache.now arguments.now)) }
+{
+    let project = project_for(alloc, target, arguments)?;
+    match store_for(alloc, &project.folder, cache, arguments) {
+        Ok(store) => Ok(Command::Install(project, store)),
+        Err(e) => {
+            drop(project);
+            Err(e)
+        }
+    }
+}
+
+#[tactic(auto, unfolding(crate::specs::Commands::install_in, crate::specs::Commands::project_in))]
 fn install_in(alloc: Global, arguments: &[Argument]) -> Result<Command, Unread<WordFault>>
     ensures { Gives (λ c. c) fault_in result (the.install_in arguments.now) }
 {
-    let project = project_in(alloc, arguments)?;
+    let target = target_in(arguments)?;
     let cache = needed(path_given(arguments, OptionName::Cache), Opt::Cache)?;
-    let store = store_for(alloc, &project.folder, cache, arguments)?;
-    Ok(Command::Install(project, store))
+    Ok(install_for(alloc, target, cache, arguments)?)
 }
 
-#[tactic(auto, unfolding(crate::specs::Commands::check_in))]
+// To check this report of the project for a target.
+fn check_for(
+    alloc: Global,
+    target: &TripletName,
+    report: &TreePath,
+    arguments: &[Argument],
+) -> Result<Command, Memory>
+    ensures { IfOk result (λ c. c ≡ the_command.Check (the.project_for target.now arguments.now)
+        report.now) }
+{
+    let report = report.clone()?;
+    Ok(Command::Check(project_for(alloc, target, arguments)?, report))
+}
+
+#[tactic(auto, unfolding(crate::specs::Commands::check_in, crate::specs::Commands::project_in))]
 fn check_in(alloc: Global, arguments: &[Argument]) -> Result<Command, Unread<WordFault>>
     ensures { Gives (λ c. c) fault_in result (the.check_in arguments.now) }
 {
-    let project = project_in(alloc, arguments)?;
+    let target = target_in(arguments)?;
     let report = needed(path_given(arguments, OptionName::Report), Opt::Report)?;
-    Ok(Command::Check(project, report.clone()?))
+    Ok(check_for(alloc, target, report, arguments)?)
 }
 
 #[tactic(auto, unfolding(crate::specs::Commands::load_in))]
