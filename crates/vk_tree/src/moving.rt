@@ -27,8 +27,9 @@ pub(crate) fn moved_in(
     let mut moved: BTreeMap<TreePath, List<u8>> = BTreeMap::new(alloc);
     let mut left = files.iter();
     while let Some((path, bytes)) = left.next_back() {
+        let bytes = bytes.clone()?;
         let path = moved_path(alloc, path, from, to)?;
-        moved.insert(path, bytes.clone()?)?;
+        drop(moved.insert(path, bytes)?);
     }
     Ok(moved)
 }

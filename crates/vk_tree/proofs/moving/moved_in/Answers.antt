@@ -8,12 +8,6 @@ loop-path-init c = ([], sym c.iter-left.ensures.rest ∙ sym (append-nil c.iter-
 
 pub loop-path-preserved : goal.loop-path-preserved
 loop-path-preserved c =
-    let same : c.in_ok-clone.field-0 ≡ c.in-Some.bytes.now = (search rules) in
-    one_moved c.args.files.now.entries c.loop-path.left c.next_back.new.self c.loop-path.invariant.0 c.loop-path.moved.entries c.insert.new.self.entries c.args.from.now c.args.to.now c.in-Some.path.now c.in_ok-path.path c.in-Some.bytes.now c.in_ok-clone.field-0
-    c.loop-path.invariant.1 c.in-Some.ensures.steps c.iter-left.ensures.found c.requires.can c.requires.free c.in_ok-path.ensures same c.in_ok-insert.ensures.updates.0 c.loop-path.invariant.2
-
-pub loop-path-preserved-in_ok-insert : goal.loop-path-preserved-in_ok-insert
-loop-path-preserved-in_ok-insert c =
-    let same : c.in_ok-clone.field-0 ≡ c.in-Some.bytes.now = (search rules) in
-    one_moved c.args.files.now.entries c.loop-path.left c.next_back.new.self c.loop-path.invariant.0 c.loop-path.moved.entries c.insert.new.self.entries c.args.from.now c.args.to.now c.in-Some.path.now c.in_ok-path.path c.in-Some.bytes.now c.in_ok-clone.field-0
+    let same : c.in_ok-bytes.bytes ≡ c.in-Some.bytes.now = (search rules) in
+    one_moved c.args.files.now.entries c.loop-path.left c.next_back.new.self c.loop-path.invariant.0 c.loop-path.moved.entries c.insert.new.self.entries c.args.from.now c.args.to.now c.in-Some.path.now c.in_ok-path.path c.in-Some.bytes.now c.in_ok-bytes.bytes
     c.loop-path.invariant.1 c.in-Some.ensures.steps c.iter-left.ensures.found c.requires.can c.requires.free c.in_ok-path.ensures same c.in_ok-insert.ensures.updates.0 c.loop-path.invariant.2
