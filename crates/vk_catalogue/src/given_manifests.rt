@@ -49,7 +49,10 @@ fn manifest_for<C: Catalogue>(
         (C.state cat.new) }
 {
     match cat.version(port, ask)? {
-        Some(_) => listed_manifest(cat, port, ask),
+        Some(version) => {
+            drop(version);
+            listed_manifest(cat, port, ask)
+        }
         None => Ok(GivenManifest::NoVersion(ask.clone()?)),
     }
 }
@@ -64,7 +67,11 @@ pub fn manifest_at_given<C: Catalogue>(
     ensures { Asks port.now SaysAtGiven (at_answer result) (C.state cat.old) (C.state cat.new) }
 {
     match cat.given(port)? {
-        Ok(given) => manifest_for(cat, port, given.ask()),
+        Ok(given) => {
+            let found = manifest_for(cat, port, given.ask());
+            drop(given);
+            found
+        }
         Err(wrong) => Ok(GivenManifest::Bad(wrong)),
     }
 }

@@ -74,7 +74,7 @@ impl Shelf {
         ensures err { OnErr result (self.new ≡ self.old) }
     {
         let Page { port, given, rows } = page;
-        self.inner.insert(port, Held { given, rows })?;
+        drop(self.inner.insert(port, Held { given, rows })?);
         Ok(())
     }
 
