@@ -37,7 +37,10 @@ fn given_trouble<C: Catalogue>(cat: &mut C, port: &PortName) -> Result<Option<Tr
         ≡ given_troubles port.now (pages port.now).given) (C.state cat.old)) }
 {
     match cat.given(port)? {
-        Ok(_) => Ok(None),
+        Ok(given) => {
+            drop(given);
+            Ok(None)
+        }
         Err(wrong) => Ok(Some(wrong_trouble(port, wrong)?)),
     }
 }
@@ -60,7 +63,10 @@ fn lacking<C: Catalogue>(cat: &mut C, port: &PortName, ask: &Ask) -> Result<Opti
         (C.state cat.old)) }
 {
     match cat.version(port, ask)? {
-        Some(_) => Ok(None),
+        Some(version) => {
+            drop(version);
+            Ok(None)
+        }
         None => Ok(Some(no_version(port, ask)?)),
     }
 }
@@ -97,8 +103,15 @@ fn floor_trouble<C: Catalogue>(
         (C.state cat.old)) }
 {
     match cat.given(port)? {
-        Ok(given) => table_trouble(cat, port, &given, ask),
-        Err(_) => Ok(None),
+        Ok(given) => {
+            let trouble = table_trouble(cat, port, &given, ask);
+            drop(given);
+            trouble
+        }
+        Err(wrong) => {
+            drop(wrong);
+            Ok(None)
+        }
     }
 }
 
@@ -115,7 +128,10 @@ fn manifest_trouble<C: Catalogue>(
         (C.state cat.old)) }
 {
     match cat.manifest(port, ask)? {
-        Ok(_) => Ok(None),
+        Ok(manifest) => {
+            drop(manifest);
+            Ok(None)
+        }
         Err(wrong) => Ok(Some(wrong_trouble(port, wrong)?)),
     }
 }
@@ -133,7 +149,10 @@ fn row_trouble<C: Catalogue>(
         (C.state cat.old)) }
 {
     match cat.version(port, ask)? {
-        Some(_) => manifest_trouble(cat, port, ask),
+        Some(version) => {
+            drop(version);
+            manifest_trouble(cat, port, ask)
+        }
         None => Ok(None),
     }
 }
@@ -150,8 +169,14 @@ fn visit_trouble<C: Catalogue>(
         (C.state cat.old)) }
 {
     match cat.given(port)? {
-        Ok(_) => row_trouble(cat, port, ask),
-        Err(_) => Ok(None),
+        Ok(given) => {
+            drop(given);
+            row_trouble(cat, port, ask)
+        }
+        Err(wrong) => {
+            drop(wrong);
+            Ok(None)
+        }
     }
 }
 

@@ -35,7 +35,7 @@ fn put(notes: &mut Notes, key: Key, trouble: Trouble, line: u32) -> Result<(), M
         drop(trouble);
         return Ok(());
     }
-    notes.insert(key, (trouble, line))?;
+    drop(notes.insert(key, (trouble, line))?);
     Ok(())
 }
 
@@ -46,8 +46,13 @@ fn note(alloc: Global, notes: &mut Notes, trouble: Trouble, line: u32) -> Result
     ensures noted { OnOk result (IsNoted (trouble_view trouble ∷ []) line
         (noted notes.old.entries) (noted notes.new.entries)) }
 {
-    let key = trouble.key(alloc)?;
-    put(notes, key, trouble, line)
+    match trouble.key(alloc) {
+        Ok(key) => put(notes, key, trouble, line),
+        Err(memory) => {
+            drop(trouble);
+            Err(memory)
+        }
+    }
 }
 
 // Notes what the fact of a line meets.
