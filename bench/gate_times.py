@@ -19,14 +19,17 @@ import sys
 import time
 
 TICKS = os.sysconf("SC_CLK_TCK")
+TOOLS = re.compile(r"rattle|antt|clang|lld|\bld\b")
 
 
 def told(process):
-    """The words, the folder and the processor seconds of a living process, or None."""
+    """The words, folder, parent and start of a living process, and its processor seconds with those
+    of its ended children; or None."""
     try:
         words = (process / "cmdline").read_bytes().decode(errors="replace").split("\0")
         stat = (process / "stat").read_text(errors="replace").rpartition(")")[2].split()
-        return words, os.readlink(process / "cwd"), (int(stat[11]) + int(stat[12])) / TICKS, stat[19]
+        seconds = sum(int(it) for it in stat[11:15]) / TICKS
+        return words, os.readlink(process / "cwd"), stat[1], stat[19], seconds
     except OSError:
         return None
 
@@ -34,34 +37,42 @@ def told(process):
 def kind_of(words, folder):
     """Which crate a process works on, and whether it proves it or tries an edit."""
     joined = " ".join(words)
-    crate = re.search(r"--crate-name (\w+)", joined) or re.search(r"/crates/(\w+)", folder + " " + joined)
-    if not crate:
-        return None
-    return crate[1], "edits" if "rt-edit" in folder else "proof"
+    crate = re.search(r"--crate-name (\w+)", joined) or re.search(r"/crates/(\w+)", f"{folder} {joined}")
+    return (crate[1], "edits" if "rt-edit" in folder else "proof") if crate else None
 
 
 class Costs:
-    """Processor seconds by crate and kind, as living processes tell them."""
+    """Processor seconds by crate and kind. A process counts with the processes that it begins."""
 
-    def __init__(self):
-        self.last, self.kinds = {}, {}
+    def __init__(self, gate):
+        self.gate, self.most, self.kinds = str(gate), {}, {}
 
     def look(self):
-        for process in pathlib.Path("/proc").iterdir():
-            if not process.name.isdigit():
-                continue
-            found = told(process)
-            if not found or not re.search(r"rattle|clang|lld|opt|llc", found[0][0]):
-                continue
-            kind = kind_of(*found[:2])
-            if kind:
-                key = process.name, found[3]
-                self.last[key], self.kinds[key] = found[2], kind
+        found = {it.name: told(it) for it in pathlib.Path("/proc").iterdir() if it.name.isdigit()}
+        living = {pid: it for pid, it in found.items() if it}
+        now = collections.Counter()
+        for pid in living:
+            top = self.tool_above(pid, living)
+            if top:
+                key = top, living[top][3]
+                now[key] += living[pid][4]
+                self.kinds.setdefault(key, kind_of(*living[top][:2]))
+        for key, seconds in now.items():
+            self.most[key] = max(seconds, self.most.get(key, 0))
+
+    def tool_above(self, pid, living):
+        """The topmost tool from a process up to the gate, or None where there is none."""
+        top = None
+        while pid in living and pid != self.gate:
+            if TOOLS.search(living[pid][0][0]):
+                top = pid
+            pid = living[pid][2]
+        return top if pid == self.gate else None
 
     def table(self):
-        rows = collections.defaultdict(lambda: collections.Counter())
-        for key, seconds in self.last.items():
-            crate, kind = self.kinds[key]
+        rows = collections.defaultdict(collections.Counter)
+        for key, seconds in self.most.items():
+            crate, kind = self.kinds[key] or ("others", "proof")
             rows[crate][kind] += seconds
         return rows
 
@@ -72,8 +83,9 @@ def main():
     options.add_argument("names", nargs="*")
     options = options.parse_args()
     out = open(options.log, "w") if options.log else sys.stderr
-    began, costs = time.time(), Costs()
+    began = time.time()
     gate = subprocess.Popen(["rt", "ci", *options.names], stdin=subprocess.DEVNULL, stdout=out, stderr=out)
+    costs = Costs(gate.pid)
     while gate.poll() is None:
         costs.look()
         time.sleep(1)
