@@ -1,5 +1,5 @@
 //! A manifest whole.
-ghost use Rattle.std.specs.Prelude.{◌≡◌, ◌<◌, ◌^◌, Bool, length, map};
+ghost use Rattle.std.specs.Prelude.{◌≡◌, ◌<◌, ◌^◌, Bool, Ok, Err, IfErr, OnOk, length, map};
 ghost use Rattle.vk_json.specs.Values.{view};
 ghost use Rattle.vk_spec.specs.Reading.{Gives};
 ghost use Rattle.vk_base.specs.Stops.{fault_in};
@@ -70,6 +70,15 @@ fn blank(alloc: Global) -> Manifest
     }
 }
 
+// Puts what was read into a place.
+fn put<T: Drop>(place: &mut T, read: Result<T, Unread<FileFault>>) -> Result<(), Unread<FileFault>>
+    ensures ok { OnOk result (read ≡ Ok place.new) }
+    ensures err { IfErr result (λ e. read ≡ Err e) }
+{
+    *place = read?;
+    Ok(())
+}
+
 // Puts all that a value says into a manifest.
 #[tactic(auto, unfolding(crate::specs::Manifests::manifest_at))]
 fn fill(
@@ -82,13 +91,16 @@ fn fill(
         (manifest_at root (view value.now)) }
 {
     object(alloc, value)?;
-    manifest.name = name(alloc, value, root)?;
-    manifest.version = version_of(alloc, value, root)?;
-    manifest.supports = condition(alloc, value, "supports")?;
-    manifest.dependencies = dependencies(alloc, value)?;
-    manifest.default_features = feature_uses(alloc, value, "default-features")?;
-    manifest.features = features(alloc, value)?;
-    manifest.overrides = overrides_if(alloc, value, root)?;
+    put(&mut manifest.name, name(alloc, value, root))?;
+    put(&mut manifest.version, version_of(alloc, value, root))?;
+    put(&mut manifest.supports, condition(alloc, value, "supports"))?;
+    put(&mut manifest.dependencies, dependencies(alloc, value))?;
+    put(
+        &mut manifest.default_features,
+        feature_uses(alloc, value, "default-features"),
+    )?;
+    put(&mut manifest.features, features(alloc, value))?;
+    put(&mut manifest.overrides, overrides_if(alloc, value, root))?;
     Ok(())
 }
 
