@@ -2,7 +2,7 @@
 ghost use Rattle.std.specs.Prelude.{◌≡◌, ◌++◌, codes, map, flat_map, IfOk, Some};
 ghost use Rattle.vk_base.specs.Tokens.{token_of};
 ghost use Rattle.vk_base.specs.Printed.{path_text, field_word};
-ghost use Rattle.vk_json.specs.Places.{file_line};
+ghost use Rattle.vk_json.specs.Places.{file_line, place_text};
 ghost use Rattle.vk_json.specs.Words.{word_of};
 ghost use Rattle.vk_version.specs.AskViews.{ask_view};
 ghost use Rattle.vk_spec.specs.Versions.{ask_of};
@@ -51,14 +51,22 @@ pub fn path_token(alloc: Global, path: &TreePath) -> Result<Text, Memory>
     token(alloc, text.as_bytes())
 }
 
+// A file and the place in it, as they are printed.
+fn file_and_place(alloc: Global, path: &TreePath, place: &Text) -> Result<Text, Memory>
+    ensures { IfOk result (λ t. t ≡ path_text path.now ++ codes " " ++ place_text place.now) }
+{
+    let path = path_token(alloc, path)?;
+    let place = place_text(alloc, place)?;
+    Ok(Text::from_string(format!(in alloc; "{path} {place}")?))
+}
+
 /// `bad-file`, the file, the place in it and the word for what is wrong there.
 pub fn file_line(alloc: Global, path: &TreePath, place: &Text, why: Why) -> Result<Text, Memory>
     ensures { IfOk result (λ t. t ≡ file_line path.now place.now (word_of why)) }
 {
-    let path = path_token(alloc, path)?;
-    let place = place_text(alloc, place)?;
+    let at = file_and_place(alloc, path, place)?;
     let word = why.word(alloc)?;
-    Ok(Text::from_string(format!(in alloc; "bad-file {path} {place} {word}")?))
+    Ok(Text::from_string(format!(in alloc; "bad-file {at} {word}")?))
 }
 
 // A word with a blank behind it, and a token.
