@@ -156,8 +156,14 @@ fn close_setting<C: Catalogue, L: Ledger>(
     ensures asked { OnlyAsked (has_failed result) (C.state cat.old) (C.state cat.new) }
 {
     let given = root_facts(alloc, setting)?;
-    let mut source = source_of(alloc, setting)?;
-    close_by(
+    let mut source = match source_of(alloc, setting) {
+        Ok(source) => source,
+        Err(memory) => {
+            drop(given);
+            return Err(Stop::Memory(memory));
+        }
+    };
+    let closed = close_by(
         alloc,
         cat,
         setting,
@@ -165,7 +171,9 @@ fn close_setting<C: Catalogue, L: Ledger>(
         &mut source,
         given,
         steps,
-    )
+    );
+    drop(source);
+    closed
 }
 
 // The closure of a worklist that is closed: its reasons, and what is wrong.

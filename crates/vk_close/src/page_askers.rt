@@ -245,7 +245,9 @@ impl<'a> PageAsker<'a> {
             return Ok(seen_floor(known, place, ask, &known.base));
         }
         let found = find(cat, port, &known.given, ask)?;
-        Ok(seen_floor(known, place, ask, &found))
+        let seen = seen_floor(known, place, ask, &found);
+        drop(found);
+        Ok(seen)
     }
 
     // Adds what a feature of an instance asks for, by a manifest that was found.
@@ -316,10 +318,15 @@ impl<'a> PageAsker<'a> {
         self.see_any(cat, &inst.port)?;
         match cat.manifest(&inst.port, ask)? {
             Ok(manifest) => {
-                self.ask_found(cat, inst, feature, &manifest, line, brought, steps)?;
+                let asked = self.ask_found(cat, inst, feature, &manifest, line, brought, steps);
+                drop(manifest);
+                asked?;
                 Ok(true)
             }
-            Err(_) => Ok(false),
+            Err(wrong) => {
+                drop(wrong);
+                Ok(false)
+            }
         }
     }
 

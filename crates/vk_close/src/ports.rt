@@ -31,7 +31,7 @@ fn put(ports: &mut IndexMap<PortName, KnownPort>, key: PortName, known: Known) -
         (KeepsSeats (keys_of ports.old.entries) (keys_of ports.new.entries)) }
 {
     let known = KnownPort::new(*ports.allocator(), known)?;
-    ports.insert(key, known)?;
+    drop(ports.insert(key, known)?);
     Ok(())
 }
 

@@ -19,13 +19,13 @@ find-requires g c =
 pub returns-clause-joined : goal.returns-clause-joined
 returns-clause-joined g c =
     visited_here c.see_to.new.self (setting_view c.args.self.now.setting.now) c.args.port.now (ask_view c.args.ask.now) c.known_at-known.result.now c.in_ok-found.found (c.known_at-known.ensures c.args.port.now c.in_ok-place.ensures.there)
-    (g.C.Catalogue.state c.args.cat.now).pages (is_some c.seen_floor-2.result.seat) c.seen_floor-2.ensures.joined c.in_ok-place.ensures.kept
+    (g.C.Catalogue.state c.args.cat.now).pages (is_some c.seen_floor-seen.result.seat) c.seen_floor-seen.ensures.joined c.in_ok-place.ensures.kept
     (pages_before (λ pages. c.in_ok-found.found ≡ found_by (option_map given_view c.known_at-known.result.now.given) (version_in (pages c.args.port.now) (ask_view c.args.ask.now))) c.in_ok-place.ensures.asked c.in_ok-found.ensures.found)
 
 pub returns-clause-clear : goal.returns-clause-clear
 returns-clause-clear g c =
     clear_here c.see_to.new.self (setting_view c.args.self.now.setting.now) c.args.port.now (ask_view c.args.ask.now) c.known_at-known.result.now c.in_ok-found.found (c.known_at-known.ensures c.args.port.now c.in_ok-place.ensures.there)
-    (g.C.Catalogue.state c.args.cat.now).pages c.seen_floor-2.result.clear c.seen_floor-2.ensures.clear c.in_ok-place.ensures.kept
+    (g.C.Catalogue.state c.args.cat.now).pages c.seen_floor-seen.result.clear c.seen_floor-seen.ensures.clear c.in_ok-place.ensures.kept
     (pages_before (λ pages. c.in_ok-found.found ≡ found_by (option_map given_view c.known_at-known.result.now.given) (version_in (pages c.args.port.now) (ask_view c.args.ask.now))) c.in_ok-place.ensures.asked c.in_ok-found.ensures.found)
 
 pub returns-then-is_base-clause-joined : goal.returns-then-is_base-clause-joined
