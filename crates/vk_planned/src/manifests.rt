@@ -26,7 +26,10 @@ fn row_manifest<C: Catalogue>(
 {
     match cat.manifest(port, ask)? {
         Ok(manifest) => Ok(Some(manifest)),
-        Err(_) => Ok(None),
+        Err(wrong) => {
+            drop(wrong);
+            Ok(None)
+        }
     }
 }
 

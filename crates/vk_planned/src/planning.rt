@@ -131,7 +131,7 @@ fn ask_first<C: Catalogue>(cat: &mut C, choices: &Choices) -> Result<(), Outage>
         IsSome (slice_get choices.now.ports.entries 0) → ArePages pages) (C.state cat.old)) }
 {
     if let Some((port, _)) = choices.ports.get_index(0) {
-        let _given = cat.given(port)?;
+        drop(cat.given(port)?);
     }
     Ok(())
 }
@@ -165,8 +165,8 @@ pub fn plan_needs<C: Catalogue, L: Ledger>(
         (C.state cat.old) }
     ensures asked { OnlyAsked (was_out result) (C.state cat.old) (C.state cat.new) }
 {
-    let rules = Rules::new(alloc, setting)?;
     ask_first(cat, choices)?;
+    let rules = Rules::new(alloc, setting)?;
     let basis = Basis {
         setting,
         rules,
