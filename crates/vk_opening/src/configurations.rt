@@ -1,15 +1,14 @@
 //! The configuration of a project.
-ghost use Rattle.std.specs.Prelude.{◌≡◌, ◌∷◌, [], false};
-ghost use Rattle.vk_spec.specs.Reading.{Gives};
+ghost use Rattle.std.specs.Prelude.{◌≡◌, ◌∷◌, [], Err, Ok, false};
+ghost use Rattle.vk_spec.specs.Reading.{Fails, Gives};
 ghost use Rattle.vk_config.specs.Configs as plain;
 ghost use Rattle.vk_config.specs.Readings.{config_of};
 ghost use Rattle.vk_config.specs.Views.{config_view, embedded_view};
 ghost use Rattle.vk_files.specs.Views.{held};
 ghost use Rattle.vk_files.specs.Finds.{ReadsFrom};
-ghost use Rattle.vk_base.specs.Stops.{has_failed};
-ghost use Rattle.vk_base.specs.Stops.{fault_seen};
+ghost use Rattle.vk_base.specs.Stops.{fault_seen, has_failed, is_failure};
 ghost use Rattle.vk_files.specs.StandingViews.{standing_view};
-ghost use Rattle.vk_files.specs.Readings.{early_of, or_told, told_at};
+ghost use Rattle.vk_files.specs.Readings.{bad_at, early_of, or_told, standing_at, told_at};
 ghost use Rattle.vk_model.specs.EarlyViews.{early_view};
 ghost use Rattle.vk_opening.specs.Projects.{manifest_path, config_path};
 ghost use Rattle.vk_opening.specs.Roots.{early_at};
@@ -63,6 +62,22 @@ fn only_of(alloc: Global, embedded: Embedded) -> Result<Config, Stop<Early>>
     }
 }
 
+// A fault of the root manifest in a folder, told with the file.
+fn bad_manifest(alloc: Global, folder: &TreePath, fault: FileFault) -> Stop<Early>
+    ensures told { Fails {Y = plain.Embedded} (fault_seen early_view result)
+        (Err (early_of (bad_at (manifest_path folder.now) fault))) }
+    ensures calm { is_failure result ≡ false }
+{
+    let FileFault { place, why } = fault;
+    match manifest_path(alloc, folder) {
+        Ok(path) => Stop::Fault(Early::BadFile { path, place, why }),
+        Err(memory) => {
+            drop(place);
+            Stop::Memory(memory)
+        }
+    }
+}
+
 // What the root manifest has of a configuration, its faults told at its file.
 fn embedded_of(
     alloc: Global,
@@ -73,10 +88,9 @@ fn embedded_of(
         (or_told early_of (told_at (manifest_path folder.now) (embedded_seen embedded))) }
     ensures calm { has_failed result ≡ false }
 {
-    let path = manifest_path(alloc, folder)?;
     match embedded {
         Ok(embedded) => Ok(embedded),
-        Err(FileFault { place, why }) => Err(Stop::Fault(Early::BadFile { path, place, why })),
+        Err(fault) => Err(bad_manifest(alloc, folder, fault)),
     }
 }
 
@@ -131,9 +145,30 @@ fn config_by<T: Tree>(
 {
     match standing {
         Standing::Missing => embedded_in(archive.alloc(), folder, own),
-        Standing::TooLong => config_file(archive, folder),
-        Standing::Readable => alone_in(archive, folder, &own),
+        Standing::TooLong => {
+            let config = config_file(archive, folder);
+            drop(own);
+            config
+        }
+        Standing::Readable => {
+            let config = alone_in(archive, folder, &own);
+            drop(own);
+            config
+        }
     }
+}
+
+// How the configuration file in a folder stands.
+fn config_standing<T: Tree>(
+    archive: &mut Archive<T>,
+    folder: &TreePath,
+) -> Result<Standing, Stop<Early>>
+    ensures { ReadsFrom early_view standing_view result
+        (λ f. Ok (standing_at (config_path folder.now) f)) (λ f. config_path folder.now ∷ [])
+        (held T.state archive.old) (held T.state archive.new) }
+{
+    let path = config_path(archive.alloc(), folder)?;
+    archive.standing(&path)
 }
 
 /// The configuration of the project in a folder, by what its root manifest has of one.
@@ -146,7 +181,11 @@ pub fn read_configuration<T: Tree>(
         (config_in folder.now (configuration_view own)) (λ f. config_path folder.now ∷ [])
         (held T.state archive.old) (held T.state archive.new) }
 {
-    let path = config_path(archive.alloc(), folder)?;
-    let standing = archive.standing::<Early>(&path)?;
-    config_by(archive, standing, folder, own)
+    match config_standing(archive, folder) {
+        Ok(standing) => config_by(archive, standing, folder, own),
+        Err(stop) => {
+            drop(own);
+            Err(stop)
+        }
+    }
 }

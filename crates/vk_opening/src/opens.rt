@@ -1,5 +1,8 @@
 //! Opening a project.
-ghost use Rattle.std.specs.Prelude.{◌≡◌, ◌∷◌, [], IfOk, Ok, Some, map, option_map};
+ghost use Rattle.std.specs.Prelude.{◌≡◌, ◌∷◌, [], IfOk, Ok, Some, false, map, option_map};
+ghost use Rattle.vk_spec.specs.Reading.{Gives};
+ghost use Rattle.vk_base.specs.Stops.{fault_seen, has_failed};
+ghost use Rattle.vk_config.specs.Configs as plain;
 ghost use Rattle.vk_files.specs.Views.{held};
 ghost use Rattle.vk_files.specs.Finds.{ReadsFrom};
 ghost use Rattle.vk_config.specs.Views.{config_view};
@@ -9,7 +12,7 @@ ghost use Rattle.vk_model.specs.Views.{manifest_view, override_view};
 ghost use Rattle.vk_opening.specs.Projects.{manifest_path};
 ghost use Rattle.vk_opening.specs.Roots.{root_in, early_at};
 ghost use Rattle.vk_opening.specs.Openings.{opened_of, opened_with, triplets_of, overlays_of};
-ghost use Rattle.vk_opening.specs.Openings.{after_root, after_config, stored};
+ghost use Rattle.vk_opening.specs.Openings.{after_root, after_config, opening_with, stored};
 ghost use Rattle.vk_opening.specs.Asked.{triplets_asked, overlays_asked};
 ghost use Rattle.vk_opening.specs.Asked.{found_paths, rest_paths, opening_paths};
 ghost use Rattle.vk_opening.specs.Asked.{paths_with, stored_paths};
@@ -26,6 +29,7 @@ use crate::roots::{Root, RootFile};
 use crate::stores::check_store;
 use crate::triplet_files::{Triplets, read_triplets};
 use std::alloc::Global;
+use std::mem::replace;
 use vk_base::{FeatureName, Instance, List, Memory, Outage, Stop, TreePath};
 use vk_config::Config;
 use vk_files::Archive;
@@ -125,6 +129,34 @@ fn own_of(alloc: Global, project: &Project, root: &Manifest) -> Result<Own, Memo
     })
 }
 
+// The triplets and the overlays, with what else is taken.
+fn found_with(
+    alloc: Global,
+    project: &Project,
+    root: &Manifest,
+    triplets: Triplets,
+    overlays: List<Overlay>,
+) -> Result<Found, Stop<Early>>
+    ensures given { (config : plain.Config) →
+        Gives (opening_found project.now (manifest_view root.now) config) (fault_seen early_view)
+        result (Ok (opening_with project.now (manifest_view root.now) config
+        (triplets_view triplets) (map overlay_view overlays))) }
+    ensures calm { has_failed result ≡ false }
+{
+    match own_of(alloc, project, root) {
+        Ok(own) => Ok(Found {
+            own,
+            triplets,
+            overlays,
+        }),
+        Err(memory) => {
+            drop(triplets);
+            drop(overlays);
+            Err(Stop::Memory(memory))
+        }
+    }
+}
+
 // The triplets and the overlays.
 fn read_found<T: Tree>(
     archive: &mut Archive<T>,
@@ -138,14 +170,14 @@ fn read_found<T: Tree>(
         (found_paths project.now (config_view config.now))
         (held T.state archive.old) (held T.state archive.new) }
 {
-    let own = own_of(archive.alloc(), project, root)?;
     let triplets = triplets_of(archive, project, config)?;
-    let overlays = overlays_of(archive, project, config)?;
-    Ok(Found {
-        own,
-        triplets,
-        overlays,
-    })
+    match overlays_of(archive, project, config) {
+        Ok(overlays) => found_with(archive.alloc(), project, root, triplets, overlays),
+        Err(stop) => {
+            drop(triplets);
+            Err(stop)
+        }
+    }
 }
 
 // All that was read, put together.
@@ -183,6 +215,28 @@ fn put_together(
     }
 }
 
+// The triplets and the overlays under a configuration, and all put together.
+fn read_configured<T: Tree>(
+    archive: &mut Archive<T>,
+    project: &Project,
+    root: Manifest,
+    config: Config,
+) -> Result<Opening, Stop<Early>>
+    ensures { ReadsFrom early_view opening_view result
+        (after_config project.now (manifest_view root) (config_view config))
+        (found_paths project.now (config_view config))
+        (held T.state archive.old) (held T.state archive.new) }
+{
+    match read_found(archive, project, &root, &config) {
+        Ok(found) => Ok(put_together(archive.alloc(), project, root, config, found)),
+        Err(stop) => {
+            drop(root);
+            drop(config);
+            Err(stop)
+        }
+    }
+}
+
 // The configuration, the triplets and the overlays, and all put together.
 fn read_rest<T: Tree>(
     archive: &mut Archive<T>,
@@ -197,9 +251,13 @@ fn read_rest<T: Tree>(
         manifest,
         configuration,
     } = root;
-    let config = read_configuration(archive, &project.folder, configuration)?;
-    let found = read_found(archive, project, &manifest, &config)?;
-    Ok(put_together(archive.alloc(), project, manifest, config, found))
+    match read_configuration(archive, &project.folder, configuration) {
+        Ok(config) => read_configured(archive, project, manifest, config),
+        Err(stop) => {
+            drop(manifest);
+            Err(stop)
+        }
+    }
 }
 
 fn read_opening<T: Tree>(
@@ -286,8 +344,17 @@ fn ready(alloc: Global, opening: Opening) -> Result<Opened, Outage>
         mut setting,
         layout,
     } = opening;
-    setting.off = off_of(alloc, &setting)?;
-    Ok(Opened::Ready { setting, layout })
+    match off_of(alloc, &setting) {
+        Ok(off) => {
+            drop(replace(&mut setting.off, off));
+            Ok(Opened::Ready { setting, layout })
+        }
+        Err(memory) => {
+            drop(setting);
+            drop(layout);
+            Err(Outage::Memory(memory))
+        }
+    }
 }
 
 fn answer(alloc: Global, read: Result<Opening, Stop<Early>>) -> Result<Opened, Outage>

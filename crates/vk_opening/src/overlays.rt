@@ -8,6 +8,7 @@ ghost use Rattle.vk_model.specs.Views.{manifest_view};
 ghost use Rattle.vk_opening.specs.Overlays.{port_at, overlay_by, overlay_at, overlays_at};
 ghost use Rattle.vk_opening.specs.Asked.{overlay_paths};
 ghost use Rattle.vk_opening.specs.Projects.{manifest_path};
+ghost use Rattle.vk_opening.specs.Roots.{early_at, port_in};
 ghost use Rattle.vk_opening.specs.Layouts.{is_port};
 ghost use Rattle.vk_opening.specs.Views.{overlay_view};
 
@@ -20,6 +21,16 @@ use vk_files::{Archive, Standing};
 use vk_model::{Early, Manifest};
 use vk_tree::Tree;
 
+// The manifest in a folder.
+fn port_file<T: Tree>(archive: &mut Archive<T>, folder: &TreePath) -> Result<Manifest, Stop<Early>>
+    ensures { ReadsFrom early_view manifest_view result
+        (early_at port_in (manifest_path folder.now)) (λ f. manifest_path folder.now ∷ [])
+        (held T.state archive.old) (held T.state archive.new) }
+{
+    let path = manifest_path(archive.alloc(), folder)?;
+    archive.read(&path, &PortFile)
+}
+
 // The manifest in a folder that is a port.
 fn port_manifest<T: Tree>(
     archive: &mut Archive<T>,
@@ -29,8 +40,7 @@ fn port_manifest<T: Tree>(
         (port_at folder.now) (λ f. manifest_path folder.now ∷ [])
         (held T.state archive.old) (held T.state archive.new) }
 {
-    let path = manifest_path(archive.alloc(), folder)?;
-    let manifest = archive.read::<PortFile, Early>(&path, &PortFile)?;
+    let manifest = port_file(archive, folder)?;
     Ok(Rc::new(archive.alloc(), manifest)?)
 }
 

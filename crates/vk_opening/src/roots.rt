@@ -3,7 +3,10 @@ ghost use Rattle.vk_spec.specs.Manifests as manifests;
 ghost use Rattle.vk_spec.specs.Conditions as conditions;
 ghost use Rattle.vk_model.specs.Views.{manifest_view};
 ghost use Rattle.vk_opening.specs.Roots as plain;
-ghost use Rattle.std.specs.Prelude.{◌≡◌, IfOk};
+ghost use Rattle.std.specs.Prelude.{◌≡◌, IfOk, Ok, true};
+ghost use Rattle.vk_spec.specs.Reading.{◌>>=◌ as and_then, Gives};
+ghost use Rattle.vk_base.specs.Stops.{fault_in};
+ghost use Rattle.vk_manifest.specs.Manifests.{manifest_at};
 ghost use Rattle.vk_config.specs.Embedding.{embedded_at};
 ghost use Rattle.vk_json.specs.Values.{view};
 ghost use Rattle.vk_opening.specs.Roots.{has_configuration, own_configuration, root_in, port_in};
@@ -60,6 +63,27 @@ fn own_configuration(alloc: Global, document: &Value) -> Result<OwnConfiguration
     })
 }
 
+// What a document has as a root manifest.
+fn root_at(alloc: Global, document: &Value) -> Result<Root, Unread<FileFault>>
+    ensures { Gives root_view fault_in result (and_then (manifest_at true (view document.now))
+        (λ m. Ok (record {
+          manifest = m;
+          configuration = own_configuration (view document.now);
+        }))) }
+{
+    let manifest = read_manifest_in(alloc, document, true)?;
+    match own_configuration(alloc, document) {
+        Ok(configuration) => Ok(Root {
+            manifest,
+            configuration,
+        }),
+        Err(memory) => {
+            drop(manifest);
+            Err(Unread::Memory(memory))
+        }
+    }
+}
+
 /// Reads a root manifest with its configuration.
 #[derive(Drop)]
 pub struct RootFile;
@@ -81,12 +105,7 @@ impl FileReader for RootFile {
         scratch: &mut Scratch,
     ) -> Result<Root, Unread<FileFault>> {
         let document = Doc::read(alloc, bytes, scratch)?;
-        let manifest = read_manifest_in(alloc, document.value(), true)?;
-        let configuration = own_configuration(alloc, document.value())?;
-        Ok(Root {
-            manifest,
-            configuration,
-        })
+        root_at(alloc, document.value())
     }
 }
 

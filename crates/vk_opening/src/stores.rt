@@ -1,9 +1,10 @@
 //! Where packages are installed and kept, which is looked at before any port is.
-ghost use Rattle.std.specs.Prelude.{◌≡◌, ◌++◌, IfOk, OnOk, false, flat_map};
+ghost use Rattle.std.specs.Prelude.{◌≡◌, ◌++◌, ◌∷◌, [], IfOk, IsTrue, OnOk, false, flat_map};
 ghost use Rattle.std.specs.Prelude.{option_map, option_to_list};
 ghost use Rattle.std.specs.List.{find};
 ghost use Rattle.vk_spec.specs.Earlies as early;
 ghost use Rattle.vk_spec.specs.Reading.{Gives};
+ghost use Rattle.vk_base.specs.Paths.{is_part};
 ghost use Rattle.vk_base.specs.Stops.{fault_seen, has_failed};
 ghost use Rattle.vk_config.specs.Views.{config_view, source_view};
 ghost use Rattle.vk_model.specs.EarlyViews.{early_view};
@@ -214,6 +215,19 @@ fn push_prefixes(alloc: Global, places: &mut List<TreePath>, path: &TreePath) ->
     Ok(())
 }
 
+// Puts a folder in another at the end.
+fn push_child(
+    alloc: Global,
+    places: &mut List<TreePath>,
+    folder: &TreePath,
+    name: &str,
+) -> Result<(), Memory>
+    requires { IsTrue (is_part name.now) }
+    ensures { OnOk result (places.new ≡ places.old ++ (folder.now ++ name.now ∷ []) ∷ []) }
+{
+    Ok(places.push(folder.child(alloc, name)?)?)
+}
+
 // Where a store has to have folders.
 fn store_folders(alloc: Global, store: &Store) -> Result<List<TreePath>, Memory>
     ensures { IfOk result (λ places. places ≡ store_folders store.now) }
@@ -221,9 +235,9 @@ fn store_folders(alloc: Global, store: &Store) -> Result<List<TreePath>, Memory>
     let mut places = List::new(alloc);
     push_prefixes(alloc, &mut places, &store.installed)?;
     push_prefixes(alloc, &mut places, &store.cache)?;
-    places.push(store.cache.child(alloc, "abi2")?)?;
-    places.push(store.cache.child(alloc, "tmp")?)?;
-    places.push(store.cache.child(alloc, "damaged")?)?;
+    push_child(alloc, &mut places, &store.cache, "abi2")?;
+    push_child(alloc, &mut places, &store.cache, "tmp")?;
+    push_child(alloc, &mut places, &store.cache, "damaged")?;
     Ok(places)
 }
 
