@@ -107,7 +107,7 @@ impl Baselines {
         requires new { baseline_noted served (notes_of self.old) ≡ None }
         ensures { notes_of self.new ≡ notes_of self.old ++ (served, read_view read) ∷ [] }
     {
-        let _ = self.read.insert(served, read);
+        drop(self.read.insert(served, read));
     }
 
     // Reads the baseline of a registry that wasn't looked at yet, and tells its place among those
@@ -124,12 +124,19 @@ impl Baselines {
             (held T.state archive.old) (held T.state archive.new) }
         ensures there { IfOk result (IsNoteAt (same_served served.now) (notes_of self.new)) }
     {
-        let key = served.clone()?;
         self.read.reserve(1)?;
-        let read = read_baseline(archive, served)?;
-        let place = self.read.len();
-        self.keep(key, read);
-        Ok(place)
+        let key = served.clone()?;
+        match read_baseline(archive, served) {
+            Ok(read) => {
+                let place = self.read.len();
+                self.keep(key, read);
+                Ok(place)
+            }
+            Err(stop) => {
+                drop(key);
+                Err(stop)
+            }
+        }
     }
 
     // Reads the baseline of a registry, unless it was read before, and tells its place among those

@@ -11,7 +11,8 @@ ghost use Rattle.vk_opening.specs.Projects.{manifest_path};
 ghost use Rattle.vk_opening.specs.Views.{overlay_view};
 ghost use Rattle.vk_registry.specs.RegistryFiles.{port_folder};
 ghost use Rattle.vk_pages.specs.Homes.{is_named, has_port, overlay_for, in_overlay};
-ghost use Rattle.vk_pages.specs.Homes.{overlay_home, if_named, named_manifest, home_in};
+ghost use Rattle.vk_pages.specs.Homes.{overlay_home, if_named, named_manifest, folder_home};
+ghost use Rattle.vk_pages.specs.Homes.{home_in};
 ghost use Rattle.vk_pages.specs.Asked.{overlay_path, overlay_paths};
 ghost use Rattle.vk_files.specs.Finds.{ReadsFrom};
 ghost use Rattle.vk_pages.specs.HomeViews.{home_view};
@@ -110,12 +111,18 @@ fn port_home(alloc: Global, folder: TreePath, manifest: Rc<Manifest>) -> Result<
         (overlay_home folder (manifest_view manifest.value)) }
     ensures calm { has_failed result ≡ false }
 {
-    let version = own_version(alloc, &folder, &manifest)?;
-    Ok(Home::Overlay {
-        folder,
-        version,
-        manifest,
-    })
+    match own_version(alloc, &folder, &manifest) {
+        Ok(version) => Ok(Home::Overlay {
+            folder,
+            version,
+            manifest,
+        }),
+        Err(stop) => {
+            drop(folder);
+            drop(manifest);
+            Err(stop)
+        }
+    }
 }
 
 // A manifest that has to have the port's name, to be shared.
@@ -153,6 +160,24 @@ fn named_manifest<T: Tree>(
     named_own(archive.alloc(), &path, port, manifest)
 }
 
+// The home of a port in its folder, whose manifest has to have the port's name.
+fn folder_home<T: Tree>(
+    archive: &mut Archive<T>,
+    folder: TreePath,
+    port: &PortName,
+) -> Result<Home, Stop<Wrong>>
+    ensures { ReadsFrom wrong_view home_view result (folder_home port.now folder)
+        (λ f. manifest_path folder ∷ []) (held T.state archive.old) (held T.state archive.new) }
+{
+    match named_manifest(archive, &folder, port) {
+        Ok(manifest) => port_home(archive.alloc(), folder, manifest),
+        Err(stop) => {
+            drop(folder);
+            Err(stop)
+        }
+    }
+}
+
 /// The home of a port that an overlay has. `Fault` has what is wrong with its manifest, which is
 /// the only file that is looked at.
 pub fn home_in<T: Tree>(
@@ -172,8 +197,7 @@ pub fn home_in<T: Tree>(
         ),
         Overlay::Ports(folder) => {
             let folder = port_folder(archive.alloc(), folder, port)?;
-            let manifest = named_manifest(archive, &folder, port)?;
-            port_home(archive.alloc(), folder, manifest)
+            folder_home(archive, folder, port)
         }
     }
 }

@@ -7,7 +7,7 @@ ghost use Rattle.vk_catalogue.specs.Views.{wrong_view, given_view};
 ghost use Rattle.vk_files.specs.Views.{held};
 ghost use Rattle.vk_base.specs.Stops.{has_failed};
 ghost use Rattle.vk_base.specs.Stops.{fault_seen};
-ghost use Rattle.vk_pages.specs.Homes.{given_by, table_in, served_home, registry_home};
+ghost use Rattle.vk_pages.specs.Homes.{given_by, table_in, home_with, served_home, registry_home};
 ghost use Rattle.vk_registry.specs.RegistryFiles.{table_path};
 ghost use Rattle.vk_pages.specs.Asked.{given_paths, served_paths, registry_paths};
 ghost use Rattle.vk_files.specs.Finds.{Finds, ReadsFrom};
@@ -70,6 +70,32 @@ fn table_in<T: Tree>(
     archive.read(&path, &PortTable)
 }
 
+// A port in a registry, for which this is given.
+fn home_with<T: Tree>(
+    archive: &mut Archive<T>,
+    given: Given,
+    served: Served,
+    port: &PortName,
+) -> Result<Home, Stop<Wrong>>
+    ensures { ReadsFrom wrong_view home_view result
+        (home_with (given_view given) (served_view served) port.now)
+        (λ f. table_path port.now served.folder ∷ [])
+        (held T.state archive.old) (held T.state archive.new) }
+{
+    match table_in(archive, &served, port) {
+        Ok(table) => Ok(Home::Registry {
+            given,
+            folder: served.folder,
+            table,
+        }),
+        Err(stop) => {
+            drop(given);
+            drop(served);
+            Err(stop)
+        }
+    }
+}
+
 // A port in a registry, for which something may be set.
 fn served_home<T: Tree>(
     archive: &mut Archive<T>,
@@ -84,13 +110,13 @@ fn served_home<T: Tree>(
         f port.now) (AreBaselines (notes_of baselines.old)) (AreBaselines (notes_of baselines.new))
         (held T.state archive.old) (held T.state archive.new) }
 {
-    let given = given_by(archive, set, &served, baselines, port)?;
-    let table = table_in(archive, &served, port)?;
-    Ok(Home::Registry {
-        given,
-        folder: served.folder,
-        table,
-    })
+    match given_by(archive, set, &served, baselines, port) {
+        Ok(given) => home_with(archive, given, served, port),
+        Err(stop) => {
+            drop(served);
+            Err(stop)
+        }
+    }
 }
 
 /// The home of a port in the registry that serves it. `Fault` says that none does, that its
