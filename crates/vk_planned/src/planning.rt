@@ -119,8 +119,13 @@ fn plan_from<C: Catalogue, L: Ledger>(
         edges: Vec::new(alloc),
         flaws: Vec::new(alloc),
     };
-    follow(alloc, cat, basis, &mut planned, steps)?;
-    Ok(planned)
+    match follow(alloc, cat, basis, &mut planned, steps) {
+        Ok(()) => Ok(planned),
+        Err(outage) => {
+            drop(planned);
+            Err(outage)
+        }
+    }
 }
 
 // Asks for a port that has a choice, if any has: an answer shows that every page is as pages are,
@@ -173,5 +178,7 @@ pub fn plan_needs<C: Catalogue, L: Ledger>(
         reasons,
         choices,
     };
-    plan_from(alloc, cat, &basis, steps)
+    let planned = plan_from(alloc, cat, &basis, steps);
+    drop(basis);
+    planned
 }
