@@ -83,7 +83,7 @@ impl Homes {
         ensures homes { homes_in self.new ≡ homes_in self.old ++ (port, boxed_home home) ∷ [] }
         ensures baselines { self.new.baselines ≡ self.old.baselines }
     {
-        let _ = self.found.insert(port, home);
+        drop(self.found.insert(port, home));
     }
 
     // Finds the home of a port for which it wasn't found yet. The room for it is taken first.
@@ -101,12 +101,19 @@ impl Homes {
             (held T.state archive.old) (held T.state archive.new) }
         ensures there { IfOk result (IsNoteAt (bytes_eq port.now) (homes_in self.new)) }
     {
-        let key = port.clone()?;
         self.found.reserve(1)?;
-        let found = boxed_home(archive, layout, &mut self.baselines, port)?;
-        let place = self.found.len();
-        self.keep(key, found);
-        Ok(place)
+        let key = port.clone()?;
+        match boxed_home(archive, layout, &mut self.baselines, port) {
+            Ok(found) => {
+                let place = self.found.len();
+                self.keep(key, found);
+                Ok(place)
+            }
+            Err(outage) => {
+                drop(key);
+                Err(outage)
+            }
+        }
     }
 
     /// Looks for the home of a port, for which files are read unless it was found before, and

@@ -126,8 +126,13 @@ impl Library {
             self.old self.new (held T.state archive.old) (held T.state archive.new) }
     {
         let found = self.read_manifest(archive, &key.port, &key.ask)?;
-        self.manifests.keep(archive.alloc(), key, &found)?;
-        Ok(found)
+        match self.manifests.keep(archive.alloc(), key, &found) {
+            Ok(()) => Ok(found),
+            Err(outage) => {
+                drop(found);
+                Err(outage)
+            }
+        }
     }
 
     /// The manifest of the version that an ask means, or what is wrong with it: read once, and then

@@ -73,7 +73,7 @@ impl Manifests {
         ensures calm { was_out result ≡ false }
     {
         let kept = kept(alloc, found)?;
-        self.found.insert(key, kept)?;
+        drop(self.found.insert(key, kept)?);
         Ok(())
     }
 

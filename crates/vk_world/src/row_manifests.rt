@@ -1,10 +1,12 @@
 //! The manifest of a version, which is read where it stands.
-ghost use Rattle.std.specs.Prelude.{◌≡◌, ◌∷◌, [], map, option_map, Some, Ok, Err, IfOk};
+ghost use Rattle.std.specs.Prelude.{◌≡◌, ◌∷◌, [], map, option_map, Some, Ok, Err, IfOk, false};
 ghost use Rattle.vk_spec.specs.Pages.{row_in};
+ghost use Rattle.vk_spec.specs.Reading.{◌>>=◌ as and_then, Gives};
+ghost use Rattle.vk_registry.specs.Agreement.{agreeing};
 ghost use Rattle.vk_registry.specs.TableViews.{row_view};
 ghost use Rattle.vk_version.specs.AskViews.{ask_view};
 ghost use Rattle.vk_base.specs.declared.stops.Outage.TheVariants as outage;
-ghost use Rattle.vk_base.specs.Stops.{out_of_memory};
+ghost use Rattle.vk_base.specs.Stops.{fault_seen, has_failed, out_of_memory};
 ghost use Rattle.vk_model.specs.Views.{manifest_view};
 ghost use Rattle.vk_catalogue.specs.Views.{manifest_said, wrong_view};
 ghost use Rattle.vk_files.specs.Views.{held};
@@ -29,7 +31,7 @@ use vk_opening::{PortFile, manifest_path};
 use vk_pages::{Home, row_folder};
 use vk_registry::{Row, Table, agree};
 use vk_tree::Tree;
-use vk_version::Ask;
+use vk_version::{Ask, Version};
 
 // Where the manifest of a row stands.
 fn row_path(alloc: Global, registry: &TreePath, row: &Row) -> Result<TreePath, Memory>
@@ -37,6 +39,28 @@ fn row_path(alloc: Global, registry: &TreePath, row: &Row) -> Result<TreePath, M
 {
     let folder = row_folder(alloc, registry, row)?;
     manifest_path(alloc, &folder)
+}
+
+// A manifest that has to be that of the port and the version, to be shared.
+fn agreed(
+    alloc: Global,
+    path: &TreePath,
+    port: &PortName,
+    version: &Version,
+    manifest: Manifest,
+) -> Result<Rc<Manifest>, Stop<Wrong>>
+    ensures told { Gives (λ m. manifest_view m.value) (fault_seen wrong_view) result
+        (and_then (agreeing path.now port.now version.now (manifest_view manifest))
+        (λ same. Ok (manifest_view manifest))) }
+    ensures calm { has_failed result ≡ false }
+{
+    match agree(alloc, path, port, version, &manifest) {
+        Ok(()) => Ok(Rc::new(alloc, manifest)?),
+        Err(stop) => {
+            drop(manifest);
+            Err(stop)
+        }
+    }
 }
 
 // The manifest of a row, if it is that of the port and the version.
@@ -53,8 +77,7 @@ fn row_manifest<T: Tree>(
 {
     let path = row_path(archive.alloc(), registry, row)?;
     let manifest = archive.read::<PortFile, Wrong>(&path, &PortFile)?;
-    agree(archive.alloc(), &path, port, &row.version, &manifest)?;
-    Ok(Rc::new(archive.alloc(), manifest)?)
+    agreed(archive.alloc(), &path, port, &row.version, manifest)
 }
 
 // The answer where there is no manifest to answer, which no caller asks for.

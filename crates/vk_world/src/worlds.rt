@@ -94,7 +94,9 @@ impl<T: Tree> World<T> {
         ensures tree { result ≡ self.archive.tree }
         ensures read { IsReadSince (state_of T.state self).origin (T.state result) }
     {
-        self.into_parts().tree
+        let Parts { tree, read } = self.into_parts();
+        drop(read);
+        tree
     }
 
     /// The tree as it stands, as `into_tree` answers it, and what was read of it, which a program
