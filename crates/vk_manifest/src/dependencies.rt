@@ -12,6 +12,7 @@ ghost use Rattle.vk_manifest.specs.Manifests.{uses_under, plainly, dependency_of
 ghost use Rattle.vk_manifest.specs.Manifests.{dependency_with, dependency_of_object};
 ghost use Rattle.vk_manifest.specs.Manifests.{dependency_at, dependencies_in};
 
+use crate::places::put;
 use std::alloc::Global;
 use vk_base::{List, PortName, Unread};
 use vk_expr::Expr;
@@ -108,12 +109,44 @@ fn fill(alloc: Global, value: &Value, dependency: &mut Dependency) -> Result<(),
     ensures { Gives (λ done. dependency_view dependency.new) fault_in result
         (dependency_with dependency.old.name (view value.now)) }
 {
-    dependency.defaults = optional_or(alloc, value, "default-features", &AnyBoolean, true)?;
-    dependency.features = feature_uses(alloc, value, "features")?;
-    dependency.host = optional_or(alloc, value, "host", &AnyBoolean, false)?;
-    dependency.platform = condition(alloc, value, "platform")?;
-    dependency.minimum = optional(alloc, value, "version>=", &AskText)?;
-    Ok(())
+    put(
+        &mut dependency.defaults,
+        optional_or(alloc, value, "default-features", &AnyBoolean, true),
+    )?;
+    put(
+        &mut dependency.features,
+        feature_uses(alloc, value, "features"),
+    )?;
+    put(
+        &mut dependency.host,
+        optional_or(alloc, value, "host", &AnyBoolean, false),
+    )?;
+    put(
+        &mut dependency.platform,
+        condition(alloc, value, "platform"),
+    )?;
+    put(
+        &mut dependency.minimum,
+        optional(alloc, value, "version>=", &AskText),
+    )
+}
+
+// The dependency on a port of this name that an object is.
+fn dependency_named(
+    alloc: Global,
+    name: PortName,
+    value: &Value,
+) -> Result<Dependency, Unread<FileFault>>
+    ensures { Gives dependency_view fault_in result (dependency_with name (view value.now)) }
+{
+    let mut dependency = plainly(alloc, name);
+    match fill(alloc, value, &mut dependency) {
+        Ok(()) => Ok(dependency),
+        Err(fault) => {
+            drop(dependency);
+            Err(fault)
+        }
+    }
 }
 
 #[tactic(auto, unfolding(crate::specs::Manifests::dependency_of_object))]
@@ -121,9 +154,7 @@ fn dependency_of_object(alloc: Global, value: &Value) -> Result<Dependency, Unre
     ensures { Gives dependency_view fault_in result (dependency_of_object (view value.now)) }
 {
     let name = wanted(alloc, value, "name", &PortNameText)?;
-    let mut dependency = plainly(alloc, name);
-    fill(alloc, value, &mut dependency)?;
-    Ok(dependency)
+    dependency_named(alloc, name, value)
 }
 
 // Reads a dependency.

@@ -33,12 +33,18 @@ impl MemberReader for FeatureMember {
         let name = feature_name_of(alloc, key)?;
         object(alloc, value)?;
         let dependencies = dependencies(alloc, value)?;
-        let supports = condition(alloc, value, "supports")?;
-        Ok(Feature {
-            name,
-            dependencies,
-            supports,
-        })
+        match condition(alloc, value, "supports") {
+            Ok(supports) => Ok(Feature {
+                name,
+                dependencies,
+                supports,
+            }),
+            Err(fault) => {
+                drop(name);
+                drop(dependencies);
+                Err(fault)
+            }
+        }
     }
 }
 

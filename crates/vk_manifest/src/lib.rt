@@ -7,6 +7,7 @@ mod features;
 mod laws;
 mod manifests;
 mod overrides;
+mod places;
 
 pub use laws::{fault_places, manifest_names, unknown_members};
 pub use manifests::{read_manifest, read_manifest_in};

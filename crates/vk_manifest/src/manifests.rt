@@ -1,5 +1,5 @@
 //! A manifest whole.
-ghost use Rattle.std.specs.Prelude.{◌≡◌, ◌<◌, ◌^◌, Bool, Ok, Err, IfErr, OnOk, length, map};
+ghost use Rattle.std.specs.Prelude.{◌≡◌, ◌<◌, ◌^◌, Bool, length, map};
 ghost use Rattle.vk_json.specs.Values.{view};
 ghost use Rattle.vk_spec.specs.Reading.{Gives};
 ghost use Rattle.vk_base.specs.Stops.{fault_in};
@@ -10,6 +10,7 @@ ghost use Rattle.vk_manifest.specs.Manifests.{blank, manifest_at, manifest_of};
 use crate::dependencies::{condition, dependencies, feature_uses};
 use crate::features::features;
 use crate::overrides::overrides;
+use crate::places::put;
 use std::alloc::Global;
 use vk_base::{List, PortName, Unread};
 use vk_expr::Expr;
@@ -70,15 +71,6 @@ fn blank(alloc: Global) -> Manifest
     }
 }
 
-// Puts what was read into a place.
-fn put<T: Drop>(place: &mut T, read: Result<T, Unread<FileFault>>) -> Result<(), Unread<FileFault>>
-    ensures ok { OnOk result (read ≡ Ok place.new) }
-    ensures err { IfErr result (λ e. read ≡ Err e) }
-{
-    *place = read?;
-    Ok(())
-}
-
 // Puts all that a value says into a manifest.
 #[tactic(auto, unfolding(crate::specs::Manifests::manifest_at))]
 fn fill(
@@ -100,8 +92,7 @@ fn fill(
         feature_uses(alloc, value, "default-features"),
     )?;
     put(&mut manifest.features, features(alloc, value))?;
-    put(&mut manifest.overrides, overrides_if(alloc, value, root))?;
-    Ok(())
+    put(&mut manifest.overrides, overrides_if(alloc, value, root))
 }
 
 /// The manifest that a value is: the root's, or a port's, which needs a name and a version. Only a
@@ -114,8 +105,13 @@ pub fn read_manifest_in(
     ensures { Gives manifest_view fault_in result (manifest_at root (view value.now)) }
 {
     let mut manifest = blank(alloc);
-    fill(alloc, value, root, &mut manifest)?;
-    Ok(manifest)
+    match fill(alloc, value, root, &mut manifest) {
+        Ok(()) => Ok(manifest),
+        Err(fault) => {
+            drop(manifest);
+            Err(fault)
+        }
+    }
 }
 
 /// The manifest that bytes are, of the root or of a port. The fault is the first one in the order
