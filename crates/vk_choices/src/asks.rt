@@ -33,7 +33,7 @@ fn begin_row<'a>(
 {
     let mut asks = List::new(alloc);
     asks.push(asked)?;
-    rows.insert(port.clone()?, asks)?;
+    drop(rows.insert(port.clone()?, asks)?);
     Ok(())
 }
 

@@ -22,6 +22,7 @@ use std::alloc::Global;
 use vk_base::{List, Memory, Outage, PortName};
 use vk_catalogue::Catalogue;
 use vk_model::Fault;
+use vk_version::Version;
 
 /// The choices of ports, and the conflicts of those that have none.
 #[derive(Drop)]
@@ -37,8 +38,22 @@ fn put_choice(choices: &mut Choices, port: PortName, floor: Floor) -> Result<(),
         ≡ choices_view choices.old ++ choice_on port floor ∷ []) }
 {
     let Floor { version, line } = floor;
-    choices.ports.insert(port, Choice { version, line })?;
+    drop(choices.ports.insert(port, Choice { version, line })?);
     Ok(())
+}
+
+// The versions of two floors, copied.
+fn versions_of(first: &Floor, second: &Floor) -> Result<(Version, Version), Memory>
+    ensures { IfOk result (λ two. two ≡ (first.now.version, second.now.version)) }
+{
+    let one = first.version.clone()?;
+    match second.version.clone() {
+        Ok(other) => Ok((one, other)),
+        Err(lack) => {
+            drop(one);
+            Err(Memory::from(lack))
+        }
+    }
 }
 
 // The fault line of a port with these two floors.
@@ -46,13 +61,19 @@ fn conflict(port: PortName, first: &Floor, second: &Floor) -> Result<Fault, Memo
     ensures { IfOk result (λ fault. fault_view fault ≡ plain.conflicts port first.now.version
         first.now.line second.now.version second.now.line) }
 {
-    Ok(Fault::Conflict {
-        first: first.version.clone()?,
-        first_line: first.line,
-        second: second.version.clone()?,
-        second_line: second.line,
-        port,
-    })
+    match versions_of(first, second) {
+        Ok((one, other)) => Ok(Fault::Conflict {
+            port,
+            first: one,
+            first_line: first.line,
+            second: other,
+            second_line: second.line,
+        }),
+        Err(memory) => {
+            drop(port);
+            Err(memory)
+        }
+    }
 }
 
 // Tells the first two of a port's floors that no other is above.
