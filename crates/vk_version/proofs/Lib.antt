@@ -6,6 +6,7 @@ mod WrittenLemmas
 mod PieceLemmas
 mod FaultLemmas
 mod DateLemmas
+mod DayLemmas
 pub mod OrderLemmas
 mod SameTextLemmas
 pub mod TestLemmas

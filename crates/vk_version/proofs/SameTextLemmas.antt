@@ -98,7 +98,7 @@ pub record IsDay (t : List ℕ) : Type 0 where
   pub month : are_digits 2 (slice_range t 5 7) ≡ true
   pub day : are_digits 2 (slice_range t 8 10) ≡ true
 
-day_form : (t : List ℕ) → is_day t ≡ true → IsDay t
+pub day_form : (t : List ℕ) → is_day t ≡ true → IsDay t
 day_form t e =
     let f = and_parts _ (are_digits 2 (slice_range t 8 10)) e in
     let m = and_parts _ (are_digits 2 (slice_range t 5 7)) f.0 in
