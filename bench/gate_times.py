@@ -1,7 +1,9 @@
 #!/usr/bin/env python3
 """Runs the gate, and tells what it costs: in processor seconds by crate, for proofs and for edits.
 
-usage, at the top of the repository: bench/gate_times.py [--log FILE] [NAME..]
+usage, at the top of the repository: bench/gate_times.py [--log FILE] [COMMAND ..]
+
+The command is `rt ci`, unless another is given that runs the gate, as `./vk` does for a build.
 
 Begin with nothing kept and nothing else running, or the sums say what was left to do. What each
 process of the prover and of the compilers took is read once a second, so a process loses a second
@@ -80,11 +82,12 @@ class Costs:
 def main():
     options = argparse.ArgumentParser(description=__doc__.splitlines()[0])
     options.add_argument("--log")
-    options.add_argument("names", nargs="*")
+    options.add_argument("command", nargs=argparse.REMAINDER)
     options = options.parse_args()
     out = open(options.log, "w") if options.log else sys.stderr
     began = time.time()
-    gate = subprocess.Popen(["rt", "ci", *options.names], stdin=subprocess.DEVNULL, stdout=out, stderr=out)
+    gate = subprocess.Popen(options.command or ["rt", "ci"], stdin=subprocess.DEVNULL,
+                            stdout=out, stderr=out)
     costs = Costs(gate.pid)
     while gate.poll() is None:
         costs.look()
