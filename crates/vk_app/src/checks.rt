@@ -34,7 +34,7 @@ use vk_base::{List, Memory, Steps, Stop, Text, TreePath};
 use vk_check::{Verdict, check, compare};
 use vk_files::Archive;
 use vk_json::Why;
-use vk_model::lines::early_line;
+use vk_model::lines::file_line;
 use vk_model::{Early, Outcome, Project, Setting};
 use vk_opening::Layout;
 use vk_report::report_bytes;
@@ -63,12 +63,7 @@ fn read_report<T: Tree>(
 fn bad_report(alloc: Global, path: &TreePath, why: Why) -> Result<End, Memory>
     ensures { IfOk result (λ e. end_view e ≡ printed 1 (no_report path.now (word_of why))) }
 {
-    let bad = Early::BadFile {
-        path: path.clone()?,
-        place: Text::new(alloc),
-        why,
-    };
-    let line = early_line(alloc, &bad)?;
+    let line = file_line(alloc, path, &Text::new(alloc), why)?;
     let line = line.as_str();
     let text = format!(in alloc; "vcpkg-check 1\n{line}\n")?;
     Ok(End::Printed(1, Text::from_string(text)))
@@ -236,12 +231,15 @@ pub fn check_on<T: Tree>(
 {
     match read_report(&mut archive, checked.report) {
         Ok(bytes) => judge_on(alloc, checked, bytes.as_slice(), setting, layout, archive),
-        Err(stop) => Ended {
-            end: end_of_unread(alloc, checked.report, &stop),
-            tree: archive.into_tree(),
-            read: None,
-            outcome: None,
-        },
+        Err(stop) => {
+            drop(layout);
+            Ended {
+                end: end_of_unread(alloc, checked.report, &stop),
+                tree: archive.into_tree(),
+                read: None,
+                outcome: None,
+            }
+        }
     }
 }
 

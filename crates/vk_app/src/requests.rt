@@ -58,7 +58,11 @@ fn abi_task(
 {
     match or_target(named, &project) {
         Ok(triplet) => Ok(Task::Abi(project, Instance { port, triplet })),
-        Err(memory) => Err(Unread::Memory(memory)),
+        Err(memory) => {
+            drop(project);
+            drop(port);
+            Err(Unread::Memory(memory))
+        }
     }
 }
 
@@ -86,17 +90,21 @@ fn load_triplets(alloc: Global) -> Result<List<TreePath>, Memory>
 fn load_project(alloc: Global) -> Result<Project, Memory>
     ensures { IfOk result (λ project. project ≡ load_project) }
 {
+    let target = load_triplet(alloc)?;
+    let host = load_triplet(alloc)?;
+    let overlay_triplets = load_triplets(alloc)?;
+    let builder = Builder::recorded(alloc)?;
     Ok(Project {
         folder: TreePath::new(alloc),
-        target: load_triplet(alloc)?,
-        host: load_triplet(alloc)?,
+        target,
+        host,
         features: List::new(alloc),
         defaults: true,
         overlay_ports: List::new(alloc),
-        overlay_triplets: load_triplets(alloc)?,
+        overlay_triplets,
         max_facts: 1_000_000,
         max_bytes: 536_870_912,
-        builder: Builder::recorded(alloc)?,
+        builder,
     })
 }
 
@@ -117,7 +125,11 @@ fn task_in(alloc: Global, command: Command) -> Result<Task, Unread<WordFault>>
     match command {
         Command::Plan(project) => Ok(Task::Plan(project)),
         Command::Abi(project, port, triplet) => abi_task(project, port, triplet),
-        Command::Install(_, _) => Err(Unread::Fault(WordFault::Unknown(1))),
+        Command::Install(project, store) => {
+            drop(project);
+            drop(store);
+            Err(Unread::Fault(WordFault::Unknown(1)))
+        }
         Command::Check(project, report) => Ok(Task::Check(project, report)),
         Command::SelfLoad(size) => load_task(alloc, size),
     }

@@ -42,7 +42,11 @@ fn end_of<T: Tree>(alloc: Global, words: &List<Word>, tree: T) -> Ended<T>
         (T.state result.tree) }
 {
     match read_request(alloc, words) {
-        Ok(task) => done(alloc, &task, tree),
+        Ok(task) => {
+            let ended = done(alloc, &task, tree);
+            drop(task);
+            ended
+        }
         Err(unread) => Ended {
             end: end_of_words(alloc, unread),
             tree,

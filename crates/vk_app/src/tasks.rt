@@ -244,7 +244,11 @@ fn done_opened<T: Tree>(alloc: Global, task: &Task, opened: Opened, archive: Arc
         (end_view result.end) (T.state archive.tree) (T.state result.tree) }
 {
     match opened {
-        Opened::Ready { setting, layout } => done_on(alloc, task, &setting, layout, archive),
+        Opened::Ready { setting, layout } => {
+            let ended = done_on(alloc, task, &setting, layout, archive);
+            drop(setting);
+            ended
+        }
         Opened::Refused(early) => done_refused(alloc, task, early, archive),
     }
 }
