@@ -1,19 +1,19 @@
 //! A configuration: in a file of its own, or in a root manifest.
-ghost use Rattle.std.specs.Prelude.{◌≡◌, List, Option, map, option_map};
+ghost use Rattle.std.specs.Prelude.{◌≡◌, List, IfOk, Option, map, option_map};
 ghost use Rattle.vk_json.specs.Values.{view};
 ghost use Rattle.vk_spec.specs.Reading.{Gives};
 ghost use Rattle.vk_base.specs.Stops.{fault_in};
 ghost use Rattle.vk_config.specs.Configs as plain;
 ghost use Rattle.vk_config.specs.Registries.{source_at};
 ghost use Rattle.vk_config.specs.Readings.{unless_null, paths_under, registries_in, config_at};
-ghost use Rattle.vk_config.specs.Readings.{config_of};
+ghost use Rattle.vk_config.specs.Readings.{config_of, with_registries};
 ghost use Rattle.vk_config.specs.Views.{source_view, registry_view, config_view};
 
 use crate::configs::Config;
 use crate::pattern_indexes::PatternIndex;
 use crate::registries::{Registry, RegistryObject, Source, SourceObject};
 use std::alloc::Global;
-use vk_base::{List, TreePath, Unread};
+use vk_base::{List, Memory, TreePath, Unread};
 use vk_fields::PathText;
 use vk_json::{Doc, FileFault, ListOf, Reader, Scratch, Value, is_null, object, optional_or};
 
@@ -71,6 +71,61 @@ impl Config {
     }
 }
 
+// The configuration of these, with the index of its registries.
+fn indexed(
+    alloc: Global,
+    default: Option<Source>,
+    overlay_ports: List<TreePath>,
+    overlay_triplets: List<TreePath>,
+    registries: List<Registry>,
+) -> Result<Config, Memory>
+    ensures { IfOk result (λ c. config_view c ≡ record {
+      registries = map registry_view registries;
+      default = option_map source_view default;
+      overlay_ports = overlay_ports;
+      overlay_triplets = overlay_triplets;
+    }) }
+{
+    match PatternIndex::of(alloc, registries.as_slice()) {
+        Ok(index) => Ok(Config {
+            registries,
+            default,
+            overlay_ports,
+            overlay_triplets,
+            index,
+        }),
+        Err(memory) => {
+            drop(registries);
+            drop(default);
+            drop(overlay_ports);
+            drop(overlay_triplets);
+            Err(memory)
+        }
+    }
+}
+
+// The configuration of these and of the registries that a value has.
+fn with_registries(
+    alloc: Global,
+    value: &Value,
+    default: Option<Source>,
+    overlay_ports: List<TreePath>,
+    overlay_triplets: List<TreePath>,
+) -> Result<Config, Unread<FileFault>>
+    ensures { Gives config_view fault_in result (with_registries (option_map source_view default)
+        overlay_ports overlay_triplets (view value.now)) }
+{
+    match registries(alloc, value) {
+        Ok(registries) => Ok(indexed(alloc, default, overlay_ports, overlay_triplets, registries)?),
+        Err(fault) => {
+            drop(default);
+            drop(overlay_ports);
+            drop(overlay_triplets);
+            Err(fault)
+        }
+    }
+}
+
 /// Reads a configuration.
 #[derive(Drop)]
 pub struct ConfigObject;
@@ -90,15 +145,7 @@ impl Reader for ConfigObject {
         let default = optional_or(alloc, value, "default-registry", &DefaultSource, None)?;
         let overlay_ports = paths(alloc, value, "overlay-ports")?;
         let overlay_triplets = paths(alloc, value, "overlay-triplets")?;
-        let registries = registries(alloc, value)?;
-        let index = PatternIndex::of(alloc, registries.as_slice())?;
-        Ok(Config {
-            registries,
-            default,
-            overlay_ports,
-            overlay_triplets,
-            index,
-        })
+        with_registries(alloc, value, default, overlay_ports, overlay_triplets)
     }
 }
 

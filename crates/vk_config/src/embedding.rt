@@ -36,8 +36,13 @@ fn read_one(alloc: Global, value: &Value) -> Result<Embedded, Unread<FileFault>>
     ensures { Gives embedded_view fault_in result (only_one (view value.now)) }
 {
     let first = optional(alloc, value, "vcpkg-configuration", &ConfigObject)?;
-    let second = optional(alloc, value, "configuration", &ConfigObject)?;
-    Ok(either(first, second))
+    match optional(alloc, value, "configuration", &ConfigObject) {
+        Ok(second) => Ok(either(first, second)),
+        Err(fault) => {
+            drop(first);
+            Err(fault)
+        }
+    }
 }
 
 /// The configuration in a root manifest that is read already. `Two` comes where both keys are

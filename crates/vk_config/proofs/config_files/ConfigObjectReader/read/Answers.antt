@@ -1,4 +1,3 @@
-use Rattle.std.proofs.Common.{refl}
 use Rattle.std.proofs.lemmas.Result.{err_from_is_err_and}
 use Rattle.vk_base.specs.Stops.{fault_in}
 use Rattle.vk_config.specs.Readings.{config_at}
@@ -15,22 +14,6 @@ returns-in_err-overlay_triplets c =
     (fails_then (fault_in c.in_err-overlay_triplets.field-0.0) _ _
     c.in_err-overlay_triplets.ensures)
 
-pub returns-in_err-registries : goal.returns-in_err-registries
-unfolding config_at
-returns-in_err-registries c =
-    let p =
-    err_from_is_err_and c.from_residual-in_err-registries.result
-    c.from_residual-in_err-registries.ensures.1 in
-    rw (
-      p.1,
-      p.2,
-      c.in_ok-object.ensures,
-      c.in_ok-default.ensures,
-      c.in_ok-overlay_ports.ensures,
-      c.in_ok-overlay_triplets.ensures,
-    )
-    (fails_then (fault_in c.in_err-registries.field-0.0) _ _ c.in_err-registries.ensures)
-
 pub returns : goal.returns
 unfolding config_at
 returns c =
@@ -39,5 +22,4 @@ returns c =
       c.in_ok-default.ensures,
       c.in_ok-overlay_ports.ensures,
       c.in_ok-overlay_triplets.ensures,
-      c.in_ok-registries.ensures,
-    ) refl
+    ) c.with_registries.ensures
