@@ -11,3 +11,4 @@ pub mod FirstPlaces
 pub mod RegistryViews
 pub mod IndexViews
 pub mod Views
+pub mod Steps

@@ -27,19 +27,6 @@ registries_in = optional_or [] (each_item registry_at) (codes "registries")
 abbrev pub default_in : Reading (Option Source)
 default_in = optional_or None (unless_null source_at) (codes "default-registry")
 
--- what is read first, and then the registries
-abbrev pub with_registries : Option Source → List Path → List Path → Reading Config
-with_registries default overlay_ports overlay_triplets d = do
-  registries ← registries_in d
-  Ok (record {
-    registries =
-        registries;
-    default =
-        default;
-    overlay_ports = overlay_ports;
-    overlay_triplets = overlay_triplets;
-  })
-
 unfoldable pub config_at : Reading Config
 config_at d = do
   object ← object_at d

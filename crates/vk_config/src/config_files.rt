@@ -6,7 +6,8 @@ ghost use Rattle.vk_base.specs.Stops.{fault_in};
 ghost use Rattle.vk_config.specs.Configs as plain;
 ghost use Rattle.vk_config.specs.Registries.{source_at};
 ghost use Rattle.vk_config.specs.Readings.{unless_null, paths_under, registries_in, config_at};
-ghost use Rattle.vk_config.specs.Readings.{config_of, with_registries};
+ghost use Rattle.vk_config.specs.Readings.{config_of};
+ghost use Rattle.vk_config.specs.Steps.{with_overlays, with_registries};
 ghost use Rattle.vk_config.specs.Views.{source_view, registry_view, config_view};
 
 use crate::configs::Config;
@@ -126,6 +127,28 @@ fn with_registries(
     }
 }
 
+// The configuration with this default, and of the overlays and the registries that a value has.
+fn with_overlays(
+    alloc: Global,
+    value: &Value,
+    default: Option<Source>,
+) -> Result<Config, Unread<FileFault>>
+    ensures { Gives config_view fault_in result
+        (with_overlays (option_map source_view default) (view value.now)) }
+{
+    let overlay_ports = paths(alloc, value, "overlay-ports")?;
+    match paths(alloc, value, "overlay-triplets") {
+        Ok(overlay_triplets) => {
+            with_registries(alloc, value, default, overlay_ports, overlay_triplets)
+        }
+        Err(fault) => {
+            drop(default);
+            drop(overlay_ports);
+            Err(fault)
+        }
+    }
+}
+
 /// Reads a configuration.
 #[derive(Drop)]
 pub struct ConfigObject;
@@ -143,9 +166,7 @@ impl Reader for ConfigObject {
     fn read(&self, alloc: Global, value: &Value) -> Result<Config, Unread<FileFault>> {
         object(alloc, value)?;
         let default = optional_or(alloc, value, "default-registry", &DefaultSource, None)?;
-        let overlay_ports = paths(alloc, value, "overlay-ports")?;
-        let overlay_triplets = paths(alloc, value, "overlay-triplets")?;
-        with_registries(alloc, value, default, overlay_ports, overlay_triplets)
+        with_overlays(alloc, value, default)
     }
 }
 
