@@ -6,6 +6,7 @@ ghost use Rattle.vk_base.specs.Stops.{fault_in};
 ghost use Rattle.vk_model.specs.Views.{manifest_view, override_view};
 ghost use Rattle.vk_manifest.specs.Manifests.{name_in, version_in, overrides_if};
 ghost use Rattle.vk_manifest.specs.Manifests.{blank, manifest_at, manifest_of};
+ghost use Rattle.vk_manifest.specs.Steps.{manifest_with};
 
 use crate::dependencies::{condition, dependencies, feature_uses};
 use crate::features::features;
@@ -71,6 +72,27 @@ fn blank(alloc: Global) -> Manifest
     }
 }
 
+// Puts what a value says besides the name and the version into a manifest.
+fn fill_besides(
+    alloc: Global,
+    value: &Value,
+    root: bool,
+    manifest: &mut Manifest,
+) -> Result<(), Unread<FileFault>>
+    ensures { Gives (λ done. manifest_view manifest.new) fault_in result
+        (manifest_with (manifest_view manifest.old).name (manifest_view manifest.old).version
+        root (view value.now)) }
+{
+    put(&mut manifest.supports, condition(alloc, value, "supports"))?;
+    put(&mut manifest.dependencies, dependencies(alloc, value))?;
+    put(
+        &mut manifest.default_features,
+        feature_uses(alloc, value, "default-features"),
+    )?;
+    put(&mut manifest.features, features(alloc, value))?;
+    put(&mut manifest.overrides, overrides_if(alloc, value, root))
+}
+
 // Puts all that a value says into a manifest.
 #[tactic(auto, unfolding(crate::specs::Manifests::manifest_at))]
 fn fill(
@@ -85,14 +107,7 @@ fn fill(
     object(alloc, value)?;
     put(&mut manifest.name, name(alloc, value, root))?;
     put(&mut manifest.version, version_of(alloc, value, root))?;
-    put(&mut manifest.supports, condition(alloc, value, "supports"))?;
-    put(&mut manifest.dependencies, dependencies(alloc, value))?;
-    put(
-        &mut manifest.default_features,
-        feature_uses(alloc, value, "default-features"),
-    )?;
-    put(&mut manifest.features, features(alloc, value))?;
-    put(&mut manifest.overrides, overrides_if(alloc, value, root))
+    fill_besides(alloc, value, root, manifest)
 }
 
 /// The manifest that a value is: the root's, or a port's, which needs a name and a version. Only a
