@@ -5,7 +5,7 @@ ghost use Rattle.vk_base.specs.Paths.{lacks};
 ghost use Rattle.vk_report_reader.specs.Causes.{IsLine};
 ghost use Rattle.vk_report_reader.specs.Forms.{ReadsAs};
 ghost use Rattle.vk_model.specs.EarlyViews.{early_view};
-ghost use Rattle.vk_model.specs.FactViews.{reasons_view};
+ghost use Rattle.vk_model.specs.FactViews.{reason_view, reasons_view};
 ghost use Rattle.vk_model.specs.FaultViews.{fault_view, faults_view, item_view, outcome_view};
 ghost use Rattle.vk_report_reader.specs.Choices.{either_plain};
 ghost use Rattle.vk_report_reader.specs.Places as plain;
@@ -287,13 +287,40 @@ fn at_early(alloc: Global, early: Early, line: &str) -> Result<Option<Place>, Me
     ensures { IfOk result (λ next. Advances (plain.after_early (early_view early)) line.now
         (option_map place_view next)) }
 {
-    match Word("reasons 0").read(alloc, line)? {
-        Some(_) => Ok(Some(Place::Reasons {
-            body: Body::Early(early),
-            wanted: 0,
-            reasons: List::new(alloc),
-        })),
-        None => Ok(None),
+    match Word("reasons 0").read(alloc, line) {
+        Ok(Some(_)) => Ok(Some(reasons_from(alloc, Body::Early(early), 0))),
+        Ok(None) => {
+            drop(early);
+            Ok(None)
+        }
+        Err(memory) => {
+            drop(early);
+            Err(memory)
+        }
+    }
+}
+
+// The place after one reason more.
+fn with_reason(
+    body: Body,
+    wanted: u32,
+    mut reasons: List<Reason>,
+    reason: Reason,
+) -> Result<Place, Memory>
+    ensures { IfOk result (λ p. place_view p ≡ plain.reasons (body_view body) wanted
+        (reasons_view reasons ++ reason_view reason ∷ [])) }
+{
+    match reasons.push(reason) {
+        Ok(()) => Ok(Place::Reasons {
+            body,
+            wanted,
+            reasons,
+        }),
+        Err(lack) => {
+            drop(body);
+            drop(reasons);
+            Err(Memory::from(lack))
+        }
     }
 }
 
@@ -301,7 +328,7 @@ fn next_reason(
     alloc: Global,
     body: Body,
     wanted: u32,
-    mut reasons: List<Reason>,
+    reasons: List<Reason>,
     line: &str,
 ) -> Result<Option<Place>, Memory>
     requires { length reasons < wanted }
@@ -310,16 +337,18 @@ fn next_reason(
         (option_map place_view next)) }
 {
     let number = next_number(&reasons);
-    match read_numbered(alloc, number, AnyReason, line)? {
-        Some(reason) => {
-            reasons.push(reason)?;
-            Ok(Some(Place::Reasons {
-                body,
-                wanted,
-                reasons,
-            }))
+    match read_numbered(alloc, number, AnyReason, line) {
+        Ok(Some(reason)) => Ok(Some(with_reason(body, wanted, reasons, reason)?)),
+        Ok(None) => {
+            drop(body);
+            drop(reasons);
+            Ok(None)
         }
-        None => Ok(None),
+        Err(memory) => {
+            drop(body);
+            drop(reasons);
+            Err(memory)
+        }
     }
 }
 
@@ -337,9 +366,18 @@ fn at_reasons(
     if reasons.len() < wanted as usize {
         return next_reason(alloc, body, wanted, reasons, line);
     }
-    match Word("end").read(alloc, line)? {
-        Some(_) => Ok(Some(Place::Finished(outcome_of(body, reasons)))),
-        None => Ok(None),
+    match Word("end").read(alloc, line) {
+        Ok(Some(_)) => Ok(Some(Place::Finished(outcome_of(body, reasons)))),
+        Ok(None) => {
+            drop(body);
+            drop(reasons);
+            Ok(None)
+        }
+        Err(memory) => {
+            drop(body);
+            drop(reasons);
+            Err(memory)
+        }
     }
 }
 
@@ -361,6 +399,9 @@ pub(crate) fn advance(alloc: Global, place: Place, line: &str) -> Result<Option<
             wanted,
             reasons,
         } => at_reasons(alloc, body, wanted, reasons, line),
-        Place::Finished(_) => Ok(None),
+        Place::Finished(outcome) => {
+            drop(outcome);
+            Ok(None)
+        }
     }
 }

@@ -57,8 +57,23 @@ fn outcome_at(place: Place) -> Option<Outcome>
     match place {
         Place::Finished(outcome) => Some(outcome),
         Place::Status | Place::ItemCount | Place::FaultCount | Place::OnlyFault => None,
-        Place::Items { .. } | Place::Faults { .. } => None,
-        Place::AfterEarly(_) | Place::Reasons { .. } => None,
+        Place::Items { items, .. } => {
+            drop(items);
+            None
+        }
+        Place::Faults { faults, .. } => {
+            drop(faults);
+            None
+        }
+        Place::AfterEarly(early) => {
+            drop(early);
+            None
+        }
+        Place::Reasons { body, reasons, .. } => {
+            drop(body);
+            drop(reasons);
+            None
+        }
     }
 }
 
