@@ -75,32 +75,35 @@ fn input_of(gathering: Gathering) -> Option<AbiInput>
     }
     let Gathering {
         builder,
+        deps,
+        features,
+        files,
         native,
         port,
         triplet,
         version,
-        features,
-        files,
-        deps,
-        ..
     } = gathering;
-    let (Some(builder), Some(port), Some(version)) = (builder, port, version) else {
-        return None;
-    };
-    let (Some(native), Some((triplet, triplet_digest))) = (native, triplet) else {
-        return None;
-    };
-    Some(AbiInput {
-        builder,
-        port,
-        version,
-        features,
-        triplet,
-        triplet_digest,
-        native,
-        files,
-        deps,
-    })
+    match (builder, native, port, triplet, version) {
+        (Some(builder), Some(native), Some(port), Some((triplet, triplet_digest)), Some(version)) =>
+            {
+                Some(AbiInput {
+                    builder,
+                    port,
+                    version,
+                    features,
+                    triplet,
+                    triplet_digest,
+                    native,
+                    files,
+                    deps,
+                })
+            }
+        (builder, _, port, triplet, version) => {
+            drop((builder, port, triplet, version));
+            drop((deps, features, files));
+            None
+        }
+    }
 }
 
 // What bytes come to of which the lines are read; this is left of them, and so many is the next
@@ -138,8 +141,16 @@ pub fn read_abi(alloc: Global, bytes: &[u8]) -> Result<AbiInput, Unread<AbiFault
     let mut number = 2;
     let mut left = rest;
     while let Some((line, more)) = text_line(left) {
-        if !follow(alloc, &mut gathering, last, line)? {
-            return Err(refused(number));
+        match follow(alloc, &mut gathering, last, line) {
+            Ok(true) => {}
+            Ok(false) => {
+                drop(gathering);
+                return Err(refused(number));
+            }
+            Err(memory) => {
+                drop(gathering);
+                return Err(Unread::from(memory));
+            }
         }
         last = line;
         number += 1;

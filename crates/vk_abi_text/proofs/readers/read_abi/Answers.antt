@@ -23,18 +23,18 @@ loop-line-init c =
 pub follow-requires-text-last : goal.follow-requires-text-last
 follow-requires-text-last c κs = led_utf8 c.args.bytes.now (gathering_view c.loop-line.gathering) c.loop-line.last.now c.loop-line.left.now c.loop-line.number c.loop-line.invariant
 
-pub returns-then-not-branch : goal.returns-then-not-branch
-returns-then-not-branch c =
-    ends_refused c.args.bytes.now c.loop-line.number c.refused-then-not-branch.result c.refused-then-not-branch.ensures
+pub returns-in-Ok-false : goal.returns-in-Ok-false
+returns-in-Ok-false c =
+    ends_refused c.args.bytes.now c.loop-line.number c.refused-in-Ok-false.result c.refused-in-Ok-false.ensures
     (led_refused c.args.bytes.now (gathering_view c.loop-line.gathering) (gathering_view c.follow.new.gathering) c.loop-line.last.now c.loop-line.left.now c.in-Some-text_line.line.now c.in-Some-text_line.more.now c.loop-line.number
     c.loop-line.invariant c.in-Some-text_line.ensures.0 c.in-Some-text_line.ensures.1
-    (rw c.if-not-branch.true at c.in_ok-follow.ensures))
+    (rw c.in-Ok-false.field-0-test at c.in-Ok-false.ensures))
 
 pub loop-line-preserved : goal.loop-line-preserved
 loop-line-preserved c =
     led_more c.args.bytes.now (gathering_view c.loop-line.gathering) (gathering_view c.follow.new.gathering) c.loop-line.last.now c.loop-line.left.now c.in-Some-text_line.line.now c.in-Some-text_line.more.now c.loop-line.number
     c.loop-line.invariant c.in-Some-text_line.ensures.0
-    (rw c.if-not-branch.false at c.in_ok-follow.ensures)
+    (rw c.in-Ok-true.field-0-test at c.in-Ok-true.ensures)
 
 pub returns : goal.returns
 returns c = c.finish.ensures c.args.bytes.now c.loop-line.last.now c.loop-line.invariant
