@@ -39,6 +39,37 @@ fn version_of(version: Option<&Version>) -> Result<Option<Version>, Memory>
     }
 }
 
+// Who needs a feature, and the feature, copied.
+fn need_of(who: &Who, feature: &FeatureName) -> Result<(Who, FeatureName), Memory>
+    ensures { IfOk result (λ need. (who_view need.0 ≡ who_view who.now)
+        × (feature_view need.1 ≡ feature_view feature.now)) }
+{
+    let feature = feature.clone()?;
+    let who = copy_of(who)?;
+    Ok((who, feature))
+}
+
+// A flaw of a need as it is told.
+fn flawed(flaw: Flaw, who: Who, feature: FeatureName, version: Option<Version>, line: u32) -> Fault
+    ensures { fault_view result ∷ [] ≡ flaw_faults (who_view who) (feature_view feature) version
+        line (Some flaw) }
+{
+    match flaw {
+        Flaw::NoFeature => Fault::NoFeature {
+            who,
+            feature,
+            version,
+            line,
+        },
+        Flaw::Unsupported => Fault::Unsupported {
+            who,
+            feature,
+            version,
+            line,
+        },
+    }
+}
+
 // A flaw as it is told.
 fn fault_of(
     flaw: Flaw,
@@ -50,22 +81,13 @@ fn fault_of(
     ensures { IfOk result (λ f. fault_view f ∷ [] ≡ flaw_faults (who_view who.now)
         (feature_view feature.now) (option_map (λ w. w.now) version.entry) line (Some flaw)) }
 {
-    let who = copy_of(who)?;
-    let feature = feature.clone()?;
     let version = version_of(version)?;
-    match flaw {
-        Flaw::NoFeature => Ok(Fault::NoFeature {
-            who,
-            feature,
-            version,
-            line,
-        }),
-        Flaw::Unsupported => Ok(Fault::Unsupported {
-            who,
-            feature,
-            version,
-            line,
-        }),
+    match need_of(who, feature) {
+        Ok((who, feature)) => Ok(flawed(flaw, who, feature, version, line)),
+        Err(memory) => {
+            drop(version);
+            Err(memory)
+        }
     }
 }
 

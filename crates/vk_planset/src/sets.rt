@@ -13,7 +13,7 @@ ghost use Rattle.vk_resolution.specs.Reasons.{facts_of};
 ghost use Rattle.vk_resolution.specs.Selections.{IsChoices};
 ghost use Rattle.vk_model.specs.FactViews.{fact_view, reasons_view};
 ghost use Rattle.vk_model.specs.FaultViews.{fault_view, item_view};
-ghost use Rattle.vk_model.specs.SettingViews.{setting_view};
+ghost use Rattle.vk_model.specs.SettingViews.{instance_view, setting_view};
 ghost use Rattle.vk_worklist.specs.Ticks.{ticks};
 ghost use Rattle.vk_choices.specs.ChoiceViews.{choices_view};
 ghost use Rattle.vk_choices.specs.Clear.{IsClear};
@@ -21,19 +21,21 @@ ghost use Rattle.vk_order.specs.Sets.{AreItems};
 ghost use Rattle.vk_planned.specs.Flaws.{flaw_in};
 ghost use Rattle.vk_planset.specs.Assembled.{AreAssembled, IsTold};
 ghost use Rattle.vk_planset.specs.Judging.{IsJudged};
+ghost use Rattle.vk_planset.specs.Places.{seat_order};
 ghost use Rattle.vk_planset.specs.Sets.{AreThird, IsSet, OnFaults};
 
 use crate::items::items_of;
 use crate::judging::third_faults;
 use crate::orders::order_of;
 use crate::seats::seats_of;
+use indexmap::IndexSet;
 use std::alloc::Global;
 use std::sync::ledger::Ledger;
-use vk_base::{List, Memory, Steps, Stop};
+use vk_base::{Instance, List, Memory, Steps, Stop};
 use vk_catalogue::Catalogue;
 use vk_choices::Choices;
 use vk_fault_lines::sorted;
-use vk_model::{Fault, PlanSet, Reason, Setting};
+use vk_model::{Fact, Fault, Item, PlanSet, Reason, Setting};
 use vk_planned::{Planned, plan_needs};
 use vk_rules::Flaw;
 
@@ -43,6 +45,23 @@ pub enum PlanSetFault {
     /// The features that are needed and that the chosen versions lack, and what isn't supported,
     /// in the order in which the lines are printed.
     Faults(List<Fault>),
+}
+
+// The items of needs and of the edges between them, whose instances stand in this order.
+fn items_in(
+    alloc: Global,
+    choices: &Choices,
+    needs: &[Fact],
+    edges: &[(usize, usize)],
+    order: &IndexSet<Instance>,
+) -> Result<List<Item>, Memory>
+    requires { map instance_view order.now.keys
+        ≡ seat_order choices.now.ports.entries (map fact_view needs.now) }
+    ensures { IfOk result (λ items. AreAssembled choices.now.ports.entries
+        (map fact_view needs.now) edges.now (map item_view items)) }
+{
+    let seats = seats_of(alloc, order, needs, edges)?;
+    Ok(items_of(alloc, choices, order, &seats)?)
 }
 
 // The items of the planned needs. Those are among the facts of the reasons, so where the pages are
@@ -62,9 +81,8 @@ fn assembled(
         return Err(Memory::without_allocation());
     }
     let order = order_of(alloc, choices, needs)?;
-    let seats = seats_of(alloc, &order, needs, planned.edges.as_slice())?;
     Ok(PlanSet {
-        items: items_of(alloc, choices, &order, &seats)?,
+        items: items_in(alloc, choices, needs, planned.edges.as_slice(), &order)?,
     })
 }
 
