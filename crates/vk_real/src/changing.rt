@@ -12,11 +12,15 @@ impl<R: Files + AllocGlobal> Host<R> {
     /// Writes a file anew, in place of the one that stands there.
     pub(crate) fn write(&self, path: &TreePath, bytes: &[u8]) -> io::Result<()> {
         let path = self.text(path)?;
-        if self.file(path.as_str())?.is_some() {
-            fs::remove_file(&self.rt, path.as_str())?;
+        self.write_at(path.as_str(), bytes)
+    }
+
+    fn write_at(&self, path: &str, bytes: &[u8]) -> io::Result<()> {
+        if self.file(path)?.is_some() {
+            fs::remove_file(&self.rt, path)?;
         }
-        self.make_room(path.as_str())?;
-        File::create_new(&self.rt, path.as_str())?.write_all(bytes)
+        self.make_room(path)?;
+        File::create_new(&self.rt, path)?.write_all(bytes)
     }
 
     /// Moves a file or a folder with files, never into or out of itself, and removes the folders

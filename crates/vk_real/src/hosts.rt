@@ -136,9 +136,13 @@ impl<R: Files + AllocGlobal> Host<R> {
     /// What counts at a path: a folder without files is absent.
     pub(crate) fn kind(&self, path: &TreePath) -> io::Result<Kind> {
         let path = self.text(path)?;
-        match self.stand(path.as_str())? {
+        self.kind_at(path.as_str())
+    }
+
+    fn kind_at(&self, path: &str) -> io::Result<Kind> {
+        match self.stand(path)? {
             Stand::File => Ok(Kind::File),
-            Stand::Folder | Stand::Linked if self.holds_files(path.as_str())? => Ok(Kind::Folder),
+            Stand::Folder | Stand::Linked if self.holds_files(path)? => Ok(Kind::Folder),
             Stand::Folder | Stand::Linked | Stand::Absent | Stand::Other => Ok(Kind::Absent),
         }
     }
@@ -152,15 +156,23 @@ impl<R: Files + AllocGlobal> Host<R> {
     pub(crate) fn bare_folders(&self, folder: &str) -> io::Result<Option<Vec<String>>> {
         let mut folders = Vec::new(self.rt.alloc());
         folders.push(String::from_str(self.rt.alloc(), folder)?)?;
+        if self.has_file_below(&mut folders)? {
+            return Ok(None);
+        }
+        Ok(Some(folders))
+    }
+
+    // Whether a file lies in the folders of the list or below; the folders below join the list.
+    fn has_file_below(&self, folders: &mut Vec<String>) -> io::Result<bool> {
         for at in 0..usize::MAX {
             if at >= folders.len() {
                 break;
             }
-            if self.has_file_in(at, &mut folders)? {
-                return Ok(None);
+            if self.has_file_in(at, folders)? {
+                return Ok(true);
             }
         }
-        Ok(Some(folders))
+        Ok(false)
     }
 
     // Whether a file lies in the folder at a place of the list; the folders in it join the list.
