@@ -136,6 +136,27 @@ impl Settled {
         self.settle_port(port.clone()?, floors)?;
         Ok(())
     }
+
+    // Settles these ports, where none is settled yet.
+    fn settle_rows<C: Catalogue>(
+        &mut self,
+        alloc: Global,
+        cat: &mut C,
+        rows: &Rows<'_>,
+    ) -> Result<(), Outage>
+        requires none { self.old.choices.ports.entries ≡ [] }
+        requires untold { self.old.conflicts.items ≡ [] }
+        requires ordered { AreInOrder rows.now.entries }
+        requires given { OnPages (CanAskPorts (keys_of rows.now.entries)) (C.state cat.old) }
+        ensures asked { OnlyAsked (was_out result) (C.state cat.old) (C.state cat.new) }
+        ensures settled { OnOk result
+            (OnPages (λ pages. AreSettledFor pages rows.now.entries self.new) (C.state cat.old)) }
+    {
+        for (port, asks) in rows.iter() {
+            self.settle_asked(alloc, cat, port, asks.as_slice())?;
+        }
+        Ok(())
+    }
 }
 
 /// The choices and the conflicts of these ports, of which the catalogue is asked for the versions
@@ -157,8 +178,11 @@ pub(crate) fn settle<C: Catalogue>(
         },
         conflicts: Vec::new(alloc),
     };
-    for (port, asks) in rows.iter() {
-        settled.settle_asked(alloc, cat, port, asks.as_slice())?;
+    match settled.settle_rows(alloc, cat, rows) {
+        Ok(()) => Ok(settled),
+        Err(outage) => {
+            drop(settled);
+            Err(outage)
+        }
     }
-    Ok(settled)
 }

@@ -73,16 +73,37 @@ fn pages_of(alloc: Global, shape: Shape, size: u32) -> Result<MemCatalogue, Unma
     }
 }
 
-fn load_with(alloc: Global, root: Manifest, pages: MemCatalogue) -> Result<Load, Unmade> {
+// The triplets of the target and of the host, which are one.
+fn triplets(alloc: Global) -> Result<(Triplet, Triplet), Unmade> {
     let target = triplet(alloc)?;
-    let host = target.clone()?;
-    let setting = setting_of(alloc, root, target, host);
-    Ok(Load { pages, setting })
+    match triplet(alloc) {
+        Ok(host) => Ok((target, host)),
+        Err(unmade) => {
+            drop(target);
+            Err(unmade)
+        }
+    }
+}
+
+fn setting_for(alloc: Global, shape: Shape, size: u32) -> Result<Setting, Unmade> {
+    let root = root_of(alloc, shape, size)?;
+    match triplets(alloc) {
+        Ok((target, host)) => Ok(setting_of(alloc, root, target, host)),
+        Err(unmade) => {
+            drop(root);
+            Err(unmade)
+        }
+    }
 }
 
 /// The load of so many ports.
 pub fn load_of(alloc: Global, shape: Shape, size: u32) -> Result<Load, Unmade> {
-    let root = root_of(alloc, shape, size)?;
-    let pages = pages_of(alloc, shape, size)?;
-    load_with(alloc, root, pages)
+    let setting = setting_for(alloc, shape, size)?;
+    match pages_of(alloc, shape, size) {
+        Ok(pages) => Ok(Load { pages, setting }),
+        Err(unmade) => {
+            drop(setting);
+            Err(unmade)
+        }
+    }
 }

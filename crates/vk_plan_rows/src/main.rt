@@ -33,12 +33,23 @@ fn answer<R: Eprint + Clock + Drop>(rt: &HostRuntime, rows: &mut Rows<R>) -> Exi
     }
 }
 
-fn main(rt: HostRuntime) -> ExitCode {
-    let Ok(clock) = rt.clone() else {
-        return ExitCode::FAILURE;
-    };
+fn answer_with<R: Eprint + Clock + Drop>(rt: &HostRuntime, clock: R, session: Session) -> ExitCode {
+    let mut rows = Rows { rt: clock, session };
+    let status = answer(rt, &mut rows);
+    drop(rows);
+    status
+}
+
+fn begin<R: Eprint + Clock + Drop>(rt: &HostRuntime, clock: R) -> ExitCode {
     match Session::new(rt.alloc()) {
-        Ok(session) => answer(&rt, &mut Rows { rt: clock, session }),
+        Ok(session) => answer_with(rt, clock, session),
+        Err(_) => ExitCode::FAILURE,
+    }
+}
+
+fn main(rt: HostRuntime) -> ExitCode {
+    match rt.clone() {
+        Ok(clock) => begin(&rt, clock),
         Err(_) => ExitCode::FAILURE,
     }
 }

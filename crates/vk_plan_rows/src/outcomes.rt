@@ -75,7 +75,10 @@ fn tell_outcome(outcome: &Outcome, reply: &mut Reply) {
 /// requires more than may be, `failed` where the catalogue failed.
 pub fn tell_plan(pages: &mut MemCatalogue, setting: &Setting, reply: &mut Reply) {
     match resolved(reply.alloc(), pages, setting) {
-        Ok(outcome) => tell_outcome(&outcome, reply),
+        Ok(outcome) => {
+            tell_outcome(&outcome, reply);
+            drop(outcome);
+        }
         Err(Stop::Fault(CloseFault::Facts(most))) => {
             reply.push("facts ");
             reply.push_number(u64::from(most));

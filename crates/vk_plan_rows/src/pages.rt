@@ -100,16 +100,34 @@ fn shared(alloc: Global, manifest: Manifest) -> Result<Rc<Manifest>, Memory> {
     Ok(Rc::new(alloc, manifest)?)
 }
 
+fn own_version(manifest: &Manifest) -> Result<Version, Unread<NoRow>> {
+    match &manifest.version {
+        Some(version) => Ok(version.clone()?),
+        None => Err(Unread::Fault(NoRow)),
+    }
+}
+
+fn row_of(alloc: Global, version: Version, manifest: Manifest) -> Result<PageRow, Unread<NoRow>> {
+    match shared(alloc, manifest) {
+        Ok(manifest) => Ok(PageRow {
+            version,
+            manifest: Ok(manifest),
+        }),
+        Err(memory) => {
+            drop(version);
+            Err(Unread::Memory(memory))
+        }
+    }
+}
+
 fn row_with(alloc: Global, manifest: Manifest) -> Result<PageRow, Unread<NoRow>> {
-    let Some(version) = &manifest.version else {
-        return Err(Unread::Fault(NoRow));
-    };
-    let version = version.clone()?;
-    let manifest = shared(alloc, manifest)?;
-    Ok(PageRow {
-        version,
-        manifest: Ok(manifest),
-    })
+    match own_version(&manifest) {
+        Ok(version) => row_of(alloc, version, manifest),
+        Err(unread) => {
+            drop(manifest);
+            Err(unread)
+        }
+    }
 }
 
 fn good_row(row: &str, reply: &mut Reply) -> Option<PageRow> {
@@ -148,7 +166,13 @@ pub fn push_row(page: &mut Page, what: &str, row: &str, reply: &mut Reply) {
 pub fn put_page(pages: &mut MemCatalogue, page: Page) -> Result<(), Unread<NoRow>> {
     match pages.fits(&page) {
         Ok(true) => pages.put(page).map_err(Unread::Memory),
-        Ok(false) => Err(Unread::Fault(NoRow)),
-        Err(memory) => Err(Unread::Memory(memory)),
+        Ok(false) => {
+            drop(page);
+            Err(Unread::Fault(NoRow))
+        }
+        Err(memory) => {
+            drop(page);
+            Err(Unread::Memory(memory))
+        }
     }
 }

@@ -64,16 +64,23 @@ fn higher_of(alloc: Global) -> Result<Version, Unmade> {
 impl Parts {
     /// Those of the ports from the first number up to the end.
     pub fn of(alloc: Global, making: Making, first: u64, end: u64) -> Result<Parts, Unmade> {
+        let names = names_of(alloc, first, end)?;
         let lower = lower_of(alloc)?;
-        let higher = higher_of(alloc)?;
-        Ok(Parts {
-            alloc,
-            making,
-            first,
-            names: names_of(alloc, first, end)?,
-            lower,
-            higher,
-        })
+        match higher_of(alloc) {
+            Ok(higher) => Ok(Parts {
+                alloc,
+                making,
+                first,
+                names,
+                lower,
+                higher,
+            }),
+            Err(unmade) => {
+                drop(names);
+                drop(lower);
+                Err(unmade)
+            }
+        }
     }
 
     fn kept_name(&self, number: u64) -> Result<PortName, Unmade> {

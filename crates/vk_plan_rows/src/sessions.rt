@@ -14,6 +14,7 @@ use crate::outcomes::tell_plan;
 use crate::pages::{page_of, push_row, put_page};
 use crate::settings::{set, stock_setting};
 use std::alloc::Global;
+use std::mem::replace;
 use vk_base::{List, Memory, Unread};
 use vk_catalogue::{MemCatalogue, Page};
 use vk_model::Setting;
@@ -44,18 +45,23 @@ impl Session {
     /// A root that asks for nothing, and no pages.
     pub fn new(alloc: Global) -> Result<Session, Unread<NoRow>> {
         let setting = stock_setting(alloc)?;
-        let pages = MemCatalogue::new(alloc)?;
-        Ok(Session {
-            setting,
-            pages,
-            page: None,
-        })
+        match MemCatalogue::new(alloc) {
+            Ok(pages) => Ok(Session {
+                setting,
+                pages,
+                page: None,
+            }),
+            Err(memory) => {
+                drop(setting);
+                Err(Unread::Memory(memory))
+            }
+        }
     }
 
     fn restart(&mut self, alloc: Global) -> Result<(), Unread<NoRow>> {
-        self.setting = stock_setting(alloc)?;
-        self.pages = MemCatalogue::new(alloc)?;
-        self.page = None;
+        drop(replace(&mut self.setting, stock_setting(alloc)?));
+        drop(replace(&mut self.pages, MemCatalogue::new(alloc)?));
+        drop(self.page.take());
         Ok(())
     }
 
@@ -70,7 +76,7 @@ impl Session {
     fn begin(&mut self, row: &str, reply: &mut Reply) {
         let put = self.put();
         done(reply, put);
-        self.page = page_of(row, reply);
+        drop(replace(&mut self.page, page_of(row, reply)));
         if self.page.is_none() {
             reply.refuse();
         }

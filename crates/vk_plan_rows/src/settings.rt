@@ -1,6 +1,7 @@
 //! What a plan is made under, as rows set it.
 
 use std::alloc::Global;
+use std::mem::replace;
 use vk_base::{FeatureName, List, Memory, TripletName, Unread};
 use vk_expr::Expr;
 use vk_manifest::read_manifest;
@@ -107,6 +108,13 @@ fn set_features(setting: &mut Setting, row: &str, reply: &mut Reply) {
     }
 }
 
+// Puts what was made into its place.
+fn put<T: Drop>(place: &mut T, made: Option<T>) {
+    if let Some(made) = made {
+        drop(replace(place, made));
+    }
+}
+
 /// Sets a part of the setting:
 /// - `root FILE`: the root manifest; `target NAME FILE`, `host NAME FILE`: a triplet;
 /// - `features NAME ..`, `no-defaults`: what the words ask of the root;
@@ -114,21 +122,9 @@ fn set_features(setting: &mut Setting, row: &str, reply: &mut Reply) {
 pub fn set(setting: &mut Setting, what: &str, row: &str, reply: &mut Reply) {
     reply.silence();
     match what {
-        "root" => {
-            if let Some(root) = manifest_of(row, true, reply) {
-                setting.root = root;
-            }
-        }
-        "target" => {
-            if let Some(target) = triplet_of(row, reply) {
-                setting.target = target;
-            }
-        }
-        "host" => {
-            if let Some(host) = triplet_of(row, reply) {
-                setting.host = host;
-            }
-        }
+        "root" => put(&mut setting.root, manifest_of(row, true, reply)),
+        "target" => put(&mut setting.target, triplet_of(row, reply)),
+        "host" => put(&mut setting.host, triplet_of(row, reply)),
         "features" => set_features(setting, row, reply),
         "no-defaults" => setting.defaults = false,
         "most" => setting.max_facts = reply.number(row),

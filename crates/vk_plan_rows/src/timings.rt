@@ -8,6 +8,8 @@ use std::alloc::Global;
 use std::io::{self, Eprint};
 use std::rt::Clock;
 use std::time::Instant;
+use vk_base::Stop;
+use vk_close::CloseFault;
 use vk_model::{Closure, Outcome};
 use vk_row_text::{Reply, cut};
 
@@ -18,16 +20,19 @@ struct Timed {
     micros: u128,
 }
 
-fn facts_of(closure: Option<Closure>) -> Option<usize> {
-    Some(closure?.reasons.len())
+fn facts_of(closure: &Result<Closure, Stop<CloseFault>>) -> Option<usize> {
+    match closure {
+        Ok(closure) => Some(closure.reasons.len()),
+        Err(_) => None,
+    }
 }
 
 // A refused project has none.
-fn items_of(outcome: Option<Outcome>) -> Option<usize> {
-    match outcome? {
-        Outcome::Planned(plan, _) => Some(plan.items.len()),
-        Outcome::Refused(_, _) => Some(0),
-        Outcome::Early(_) => None,
+fn items_of(outcome: &Result<Outcome, Stop<CloseFault>>) -> Option<usize> {
+    match outcome {
+        Ok(Outcome::Planned(plan, _)) => Some(plan.items.len()),
+        Ok(Outcome::Refused(_, _)) => Some(0),
+        Ok(Outcome::Early(_)) | Err(_) => None,
     }
 }
 
@@ -36,7 +41,8 @@ fn measure_closing<R: Clock>(rt: &R, alloc: Global, load: &mut Load) -> io::Resu
     let start = Instant::now(rt)?;
     let closure = closed(alloc, &mut load.pages, &load.setting);
     let end = Instant::now(rt);
-    let facts = facts_of(closure.ok());
+    let facts = facts_of(&closure);
+    drop(closure);
     let micros = end?.duration_since(start).as_micros();
     match facts {
         Some(count) => Ok(Some(Timed { count, micros })),
@@ -48,7 +54,8 @@ fn measure_planning<R: Clock>(rt: &R, alloc: Global, load: &mut Load) -> io::Res
     let start = Instant::now(rt)?;
     let outcome = resolved(alloc, &mut load.pages, &load.setting);
     let end = Instant::now(rt);
-    let items = items_of(outcome.ok());
+    let items = items_of(&outcome);
+    drop(outcome);
     let micros = end?.duration_since(start).as_micros();
     match items {
         Some(count) => Ok(Some(Timed { count, micros })),
@@ -74,7 +81,9 @@ fn measure<R: Clock>(rt: &R, alloc: Global, load: &mut Load) -> io::Result<Optio
 }
 
 fn measure_made<R: Clock>(rt: &R, alloc: Global, mut load: Load) -> io::Result<Option<Both>> {
-    measure(rt, alloc, &mut load)
+    let both = measure(rt, alloc, &mut load);
+    drop(load);
+    both
 }
 
 fn measure_at<R: Clock>(

@@ -13,8 +13,14 @@ use vk_version::Ask;
 
 fn given<C: Catalogue>(cat: &mut C, port: &PortName, reply: &mut Reply) -> Result<(), Outage> {
     match cat.given(port)? {
-        Ok(given) => tell_given(&given, reply),
-        Err(wrong) => tell_wrong(port, &wrong, reply),
+        Ok(given) => {
+            tell_given(&given, reply);
+            drop(given);
+        }
+        Err(wrong) => {
+            tell_wrong(port, &wrong, reply);
+            drop(wrong);
+        }
     }
     Ok(())
 }
@@ -70,7 +76,10 @@ fn manifest<C: Catalogue>(
     requires { OnPage port.now CanAskVersion (C.state cat.old) }
 {
     match cat.version(port, ask)? {
-        Some(_) => listed(cat, port, ask, reply),
+        Some(version) => {
+            drop(version);
+            listed(cat, port, ask, reply)
+        }
         None => {
             reply.refuse();
             Ok(())
@@ -87,8 +96,12 @@ fn version_of<C: Catalogue>(
     reply: &mut Reply,
 ) -> Result<(), Outage> {
     match cat.given(port)? {
-        Ok(_) => version(cat, port, ask, reply),
-        Err(_) => {
+        Ok(given) => {
+            drop(given);
+            version(cat, port, ask, reply)
+        }
+        Err(wrong) => {
+            drop(wrong);
             reply.refuse();
             Ok(())
         }
@@ -104,8 +117,12 @@ fn manifest_of<C: Catalogue>(
     reply: &mut Reply,
 ) -> Result<(), Outage> {
     match cat.given(port)? {
-        Ok(_) => manifest(cat, port, ask, reply),
-        Err(_) => {
+        Ok(given) => {
+            drop(given);
+            manifest(cat, port, ask, reply)
+        }
+        Err(wrong) => {
+            drop(wrong);
             reply.refuse();
             Ok(())
         }

@@ -40,12 +40,23 @@ where
     }
 }
 
-fn main(rt: HostRuntime) -> ExitCode {
-    let Ok(host) = rt.clone() else {
-        return ExitCode::FAILURE;
-    };
+fn begin<R: Files + Alloc<A = Global> + Clone + Drop>(rt: &HostRuntime, host: R) -> ExitCode
+where
+    R::File: FileExt,
+{
     match Rows::new(host) {
-        Ok(mut rows) => answer(&rt, &mut rows),
+        Ok(mut rows) => {
+            let status = answer(rt, &mut rows);
+            drop(rows);
+            status
+        }
+        Err(_) => ExitCode::FAILURE,
+    }
+}
+
+fn main(rt: HostRuntime) -> ExitCode {
+    match rt.clone() {
+        Ok(host) => begin(&rt, host),
         Err(_) => ExitCode::FAILURE,
     }
 }

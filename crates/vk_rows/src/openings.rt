@@ -36,6 +36,27 @@ fn stopped(stop: Outage, reply: &mut Reply) {
     }
 }
 
+// Tells what a project was opened to, and keeps its world or its tree.
+fn opening_of(
+    alloc: Global,
+    opened: Opened,
+    archive: Archive<MemTree>,
+    reply: &mut Reply,
+) -> Opening {
+    match opened {
+        Opened::Ready { setting, layout } => {
+            tell_ready(&setting, &layout, reply);
+            drop(setting);
+            Opening::World(World::on(archive, layout))
+        }
+        Opened::Refused(early) => {
+            reply.push_made(early_line(alloc, &early));
+            drop(early);
+            Opening::Refused(archive.into_tree())
+        }
+    }
+}
+
 /// Opens a project on a tree, and looks where packages are to be kept, if a store is given.
 pub fn open_on(
     alloc: Global,
@@ -46,14 +67,7 @@ pub fn open_on(
 ) -> Opening {
     let mut archive = Archive::new(alloc, tree);
     match World::open(&mut archive, project, store) {
-        Ok(Opened::Ready { setting, layout }) => {
-            tell_ready(&setting, &layout, reply);
-            Opening::World(World::on(archive, layout))
-        }
-        Ok(Opened::Refused(early)) => {
-            reply.push_made(early_line(alloc, &early));
-            Opening::Refused(archive.into_tree())
-        }
+        Ok(opened) => opening_of(alloc, opened, archive, reply),
         Err(stop) => {
             stopped(stop, reply);
             Opening::Refused(archive.into_tree())

@@ -113,8 +113,14 @@ fn page_of(row: &str, reply: &mut Reply) -> Option<Page> {
 fn put_page(pages: &mut MemCatalogue, page: Page) -> Result<(), Unread<NoRow>> {
     match pages.fits(&page) {
         Ok(true) => pages.put(page).map_err(Unread::Memory),
-        Ok(false) => Err(Unread::Fault(NoRow)),
-        Err(memory) => Err(Unread::Memory(memory)),
+        Ok(false) => {
+            drop(page);
+            Err(Unread::Fault(NoRow))
+        }
+        Err(memory) => {
+            drop(page);
+            Err(Unread::Memory(memory))
+        }
     }
 }
 
@@ -131,6 +137,13 @@ fn tell_fits(pages: &MemCatalogue, page: &Page, reply: &mut Reply) {
     }
 }
 
+fn fits(pages: &MemCatalogue, row: &str, reply: &mut Reply) {
+    if let Some(page) = page_of(row, reply) {
+        tell_fits(pages, &page, reply);
+        drop(page);
+    }
+}
+
 fn fail_at(alloc: Global, pages: &mut MemCatalogue, row: &str) -> Result<(), Unread<NoRow>> {
     let calls = numbers_of(alloc, row)?;
     Ok(pages.fail_at(calls.as_slice())?)
@@ -144,11 +157,7 @@ pub fn answer(pages: &mut MemCatalogue, row: &str, reply: &mut Reply) {
     let (question, rest) = cut(row);
     match question {
         "put" => put(pages, rest, reply),
-        "fits" => {
-            if let Some(page) = page_of(rest, reply) {
-                tell_fits(pages, &page, reply);
-            }
-        }
+        "fits" => fits(pages, rest, reply),
         "fails" => {
             let set = fail_at(reply.alloc(), pages, rest);
             done(reply, set);

@@ -23,8 +23,13 @@ where
     pub fn new(rt: R) -> Result<Rows<R>, Memory> {
         let alloc = rt.alloc();
         let trees = TreeCalls::new(rt)?;
-        let projects = Session::new(alloc)?;
-        Ok(Rows { projects, trees })
+        match Session::new(alloc) {
+            Ok(projects) => Ok(Rows { projects, trees }),
+            Err(memory) => {
+                drop(trees);
+                Err(memory)
+            }
+        }
     }
 }
 

@@ -12,6 +12,8 @@
 //! - `log`: ends the world, and tells the paths that its tree was asked for;
 //! - `tree ..`, `sink ..`, `pages ..`: asks a tree, a sink or a catalogue in memory.
 
+ghost use Rattle.std.specs.Prelude.{◌<◌, ◌^◌, length};
+
 use crate::asks::ask;
 use crate::lines::tell_paths;
 use crate::openings::{Opening, folder, open_on};
@@ -20,6 +22,7 @@ use crate::runs::{ROOM, Room, Sinks, room_of, tell_ended, words_of};
 use crate::workspaces::{Workspace, done};
 use crate::{page_rows, sink_rows, tree_rows};
 use std::alloc::Global;
+use std::mem::replace;
 use vk_app::{Ran, run};
 use vk_base::{List, Memory, Unread, Word};
 use vk_catalogue::MemCatalogue;
@@ -61,22 +64,22 @@ impl Session {
     // Ends the world: its tree is the one that rows put files into.
     fn close(&mut self) {
         if let Some(world) = self.world.take() {
-            self.files.tree = world.into_tree();
+            drop(replace(&mut self.files.tree, world.into_tree()));
         }
     }
 
     fn restart(&mut self, alloc: Global) -> Result<(), Unread<NoRow>> {
         self.room = ROOM;
-        self.store = None;
-        self.pages = MemCatalogue::new(alloc)?;
+        drop(self.store.take());
+        drop(replace(&mut self.pages, MemCatalogue::new(alloc)?));
         self.files.restart(alloc)
     }
 
     // Keeps the world, or the tree, that opening gave.
     fn keep(&mut self, opening: Opening) {
         match opening {
-            Opening::World(world) => self.world = Some(world),
-            Opening::Refused(tree) => self.files.tree = tree,
+            Opening::World(world) => drop(replace(&mut self.world, Some(world))),
+            Opening::Refused(tree) => drop(replace(&mut self.files.tree, tree)),
         }
     }
 
@@ -97,6 +100,27 @@ impl Session {
         if !reply.is_stopped() {
             self.open_project(&project, reply);
         }
+        drop(project);
+    }
+
+    // Runs the planner over a tree, which is the one that rows put files into afterwards.
+    fn run_over(
+        &mut self,
+        alloc: Global,
+        words: &List<Word>,
+        tree: MemTree,
+        sinks: &mut Sinks,
+    ) -> u8
+        requires { length words.now < 2 ^ 32 }
+    {
+        let Ran {
+            status,
+            tree,
+            spent,
+        } = run(alloc, words, tree, &mut sinks.out, &mut sinks.err);
+        drop(spent);
+        drop(replace(&mut self.files.tree, tree));
+        status
     }
 
     // Runs the planner, and answers its status.
@@ -110,9 +134,7 @@ impl Session {
             return Err(Unread::Fault(NoRow));
         }
         let tree = self.files.take_tree(alloc)?;
-        let Ran { status, tree, .. } = run(alloc, words, tree, &mut sinks.out, &mut sinks.err);
-        self.files.tree = tree;
-        Ok(status)
+        Ok(self.run_over(alloc, words, tree, sinks))
     }
 
     fn run_words(&mut self, words: &List<Word>, reply: &mut Reply) {
@@ -140,7 +162,7 @@ impl Session {
 
     fn set_store(&mut self, row: &str, reply: &mut Reply) {
         reply.silence();
-        self.store = Some(store_of(row, reply));
+        drop(replace(&mut self.store, Some(store_of(row, reply))));
     }
 
     // Begins a group or a case, or sets files, a store or room.

@@ -4,7 +4,7 @@ use Rattle.vk_choices.specs.declared.asks.Asked.{Asked}
 use Rattle.vk_choices.specs.Rows.{Rows, AreInOrder}
 use Rattle.vk_choices.specs.Settling.{AreSettledFor}
 use Rattle.vk_choices.proofs.SettleLemmas.{AreBehind}
-use Rattle.vk_choices.proofs.settling.settle.Given as goal
+use Rattle.vk_choices.proofs.settling.Settled.settle_rows.Given as goal
 
 abbrev pub invariant-loop-port : goal.invariant-loop-port
 invariant-loop-port g l = record {
@@ -12,6 +12,6 @@ invariant-loop-port g l = record {
   done : Rows Asked;
   split : done ++ l.port-iterator ≡ l.rows.entries;
   ordered : AreInOrder l.port-iterator;
-  settled : OnPages (λ pages. AreSettledFor pages done l.settled) (g.C.Catalogue.state l.initial.cat);
-  behind : AreBehind l.port-iterator l.settled;
+  settled : OnPages (λ pages. AreSettledFor pages done l.self) (g.C.Catalogue.state l.initial.cat);
+  behind : AreBehind l.port-iterator l.self;
 }
