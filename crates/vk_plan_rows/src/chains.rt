@@ -2,7 +2,7 @@
 //! for the next port at the higher one.
 
 use crate::parts::{Making, NoLoad, Parts, Unmade};
-use std::alloc::Global;
+use std::alloc::{AllocError, Global};
 use std::rc::Rc;
 use vk_base::{List, Memory, PortName, Unread};
 use vk_catalogue::{MemCatalogue, Page, PageRow};
@@ -23,7 +23,7 @@ fn dependency(alloc: Global, name: PortName, minimum: Option<Ask>) -> Dependency
 
 // The ask that means a version, which is let go.
 fn ask_of(version: Version) -> Result<Ask, Memory> {
-    let ask = version.ask().clone();
+    let ask: Result<Ask, AllocError> = version.ask().clone();
     drop(version);
     Ok(ask?)
 }
