@@ -1,15 +1,17 @@
 -- Keys of paths and what their anchors say.
-use Rattle.std.proofs.Common.{◌≡◌, ◌≢◌, ◌+◌, ◌-◌, ◌/◌, ◌*◌, ◌==◌, ◌<◌, ◌≤◌, ◌++◌, ◌&&◌, not, ℕ, zero, suc, Bool, true, false, List, [], ◌∷◌, length, take, get_or, refl, ap, sym, ◌∙◌, arith}
+use Rattle.std.proofs.Common.{◌≡◌, ◌≢◌, ◌↔◌, ◌+◌, ◌-◌, ◌/◌, ◌*◌, ◌==◌, ◌<◌, ◌≤◌, ◌++◌, ◌&&◌, not, ℕ, zero, suc, Bool, true, false, List, [], ◌∷◌, length, take, drop, get_or, refl, ap, sym, ◌∙◌, arith}
 use Rattle.std.specs.Prelude.{slice_index}
+use Rattle.std.specs.Bool.{IsTrue}
 use Rattle.std.specs.List.{All}
 use Rattle.std.proofs.lemmas.List.{take_all}
+use Rattle.std.proofs.lemmas.Bool.{true≢false}
 use Rattle.std.proofs.lemmas.Bool.Decides.{nat_tests}
 use Rattle.std.proofs.lemmas.List.Elements.{All-from_get_or, All-weaker, All-nil, All-cons, All-tail}
-use Rattle.std.proofs.lemmas.Slice.Eq.{bytes_eq-Decides}
+use Rattle.std.proofs.lemmas.Slice.Eq.{bytes_eq-Decides, starts_is}
 use Rattle.std.specs.Str.{bytes_eq}
 use Rattle.std.proofs.lemmas.List.Splits.{slice_split_none, slice_split_at}
-use Rattle.vk_spec.specs.Paths.{Path, steps_up, anchor, Begins}
-use Rattle.vk_base.specs.Paths.{Lacks, IsPart, IsPathOf, IsPath, lacks, is_part, anchor_of, is_rooted, ups_of, parts_of, climbed, joined, steps_of, front_of}
+use Rattle.vk_spec.specs.Paths.{Path, steps_up, anchor, Begins, IsApart}
+use Rattle.vk_base.specs.Paths.{Lacks, IsPart, IsPathOf, IsPath, lacks, is_part, anchor_of, is_rooted, ups_of, parts_of, climbed, joined, begins, steps_of, front_of}
 use Rattle.vk_base.specs.PathReading.{with_segment, segments, walked}
 
 rooted_anchor : (rooted : Bool) (ups : ℕ) → (slice_index (anchor rooted ups) 0 == 47) ≡ rooted
@@ -99,6 +101,22 @@ begins_parts one other front parts same begins = (begins.0, rw (← same) (ap (�
 
 pub anchors_begin : (one other : List ℕ) (front parts : Path) → Begins (one ∷ front) (other ∷ parts) → (one ≡ other) × Begins front parts
 anchors_begin one other front parts begins = (sym (ap anchor_of begins.1), (begins.0, ap parts_of begins.1))
+
+begins_both : (folder path : Path) → (begins folder path ≡ true → path ≡ folder ++ drop (length folder) path) × ((rest : Path) → path ≡ folder ++ rest → begins folder path ≡ true)
+begins_both folder path = starts_is bytes_eq-Decides path folder (begins folder path) refl
+
+-- a test that says whether the one path begins the other
+pub begins_is : (test : Bool) (folder path : Path) → IsTrue test ↔ Begins folder path → test ≡ begins folder path
+begins_is true folder path says = let rest = says.0 refl in sym ((begins_both folder path).1 rest.0 rest.1)
+begins_is false folder path says = by (begins folder path) refl
+  where
+    by : (b : Bool) → begins folder path ≡ b → false ≡ b
+    by true is = says.1 (drop (length folder) path, (begins_both folder path).0 is)
+    by false is = refl
+
+-- where the test fails it doesn't begin it
+pub no_begin : (folder path : Path) → begins folder path ≡ false → IsApart folder path
+no_begin folder path fails has = absurd (true≢false (sym ((begins_both folder path).1 has.0 has.1) ∙ fails))
 
 steps_more : (n : ℕ) → steps_of n ++ 46 ∷ 46 ∷ 47 ∷ [] ≡ steps_of (suc n)
 steps_more zero = refl

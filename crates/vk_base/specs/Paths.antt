@@ -1,9 +1,9 @@
 -- What a path is, as plain data, and what can be done with one.
-use Rattle.std.specs.Prelude.{◌≡◌, ◌≢◌, ◌<◌, ◌+◌, ◌-◌, ◌/◌, ◌^◌, ◌==◌, ◌&&◌, ◌++◌, ℕ, zero, suc}
-use Rattle.std.specs.Prelude.{Bool, true, not, List, [], ◌∷◌, length, take, slice_index}
+use Rattle.std.specs.Prelude.{◌≡◌, ◌≢◌, ◌<◌, ◌+◌, ◌-◌, ◌/◌, ◌^◌, ◌==◌, ◌&&◌, ◌||◌, ◌++◌, ℕ, zero, suc}
+use Rattle.std.specs.Prelude.{Bool, true, not, List, [], ◌∷◌, length, take, slice_index, nat_lt}
 use Rattle.std.specs.Prelude.{if◌then◌else◌}
 use Rattle.std.specs.Prelude.{Option, Some, None}
-use Rattle.std.specs.List.{All, join_with_byte}
+use Rattle.std.specs.List.{All, join_with_byte, starts_with}
 use Rattle.std.specs.Str.{bytes_eq}
 use Rattle.vk_spec.specs.Paths.{Path, anchor, Begins}
 
@@ -69,6 +69,23 @@ joined key more = if is_rooted more then more else climbed key (ups_of more) ++ 
 abbrev pub IsFrom : Path → Path → Option Path → Type 0
 IsFrom folder path None = Begins folder path → ⊥
 IsFrom folder path (Some seen) = (rest : Path) × (path ≡ folder ++ rest) × (seen ≡ (46 ∷ []) ∷ rest)
+
+-- the one path begins the other, as a test
+abbrev pub begins : Path → Path → Bool
+begins folder path = starts_with bytes_eq path folder
+
+-- a folder without parts that is `/`, or more steps up than a path that isn't rooted
+abbrev pub is_far_up : Path → Path → Bool
+is_far_up folder path =
+    (length (parts_of folder) == 0) && (is_rooted folder || (not (is_rooted path) && nat_lt (ups_of path) (ups_of folder)))
+
+-- a folder has a path in it, as far as their texts tell
+abbrev pub has_in_it : Path → Path → Bool
+has_in_it folder path = begins folder path || is_far_up folder path
+
+-- one of two folders has the other in it
+abbrev pub overlaps : Path → Path → Bool
+overlaps one other = has_in_it one other || has_in_it other one
 
 -- so many times `../`
 abbrev pub steps_of : ℕ → List ℕ

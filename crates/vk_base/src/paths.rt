@@ -1,4 +1,4 @@
-ghost use Rattle.std.specs.Prelude.{◌≡◌, ◌≢◌, ◌↔◌, ◌==◌, ◌<◌, ◌≤◌, ◌+◌, ◌-◌, ◌^◌, ◌++◌, ◌∷◌, ◌⊎◌};
+ghost use Rattle.std.specs.Prelude.{◌≡◌, ◌≢◌, ◌↔◌, ◌==◌, ◌<◌, ◌≤◌, ◌+◌, ◌-◌, ◌^◌, ◌++◌, ◌∷◌};
 ghost use Rattle.std.specs.Prelude.{[]};
 ghost use Rattle.std.specs.Prelude.{List, ℕ, Ok, bytes_eq, drop, length, slice_index, take, true};
 ghost use Rattle.std.specs.Prelude.{IfOk, OnOk, OnErr, IsTrue};
@@ -15,6 +15,7 @@ ghost use Rattle.vk_spec.specs.Reading.{Gives};
 ghost use Rattle.vk_base.specs.Paths.{Lacks, IsPart, IsPath, IsFrom, is_part, is_rooted, ups_of};
 ghost use Rattle.vk_base.specs.Paths.{parts_of};
 ghost use Rattle.vk_base.specs.Paths.{climbed, joined, front_of, text_of_path, steps_of};
+ghost use Rattle.vk_base.specs.Paths.{has_in_it, is_far_up, overlaps};
 ghost use Rattle.vk_base.specs.PathHash.{path_fed};
 ghost use Rattle.vk_base.specs.PathReading.{checked, segments, stays, climbs, with_segment, walked};
 ghost use Rattle.vk_base.specs.PathReading.{start_of, path_of};
@@ -141,11 +142,29 @@ impl TreePath {
             && self.parts.begins(&other.parts)
     }
 
-    /// Whether one of the two begins the other. Takes no memory.
-    pub fn overlaps(&self, other: &TreePath) -> bool
-        ensures { IsTrue result ↔ (Begins self.now other.now ⊎ Begins other.now self.now) }
+    /// Whether a folder here has the other path in it, as far as the two texts tell: it begins that
+    /// one, is `/`, or has no parts and more steps up than that one, which isn't rooted. Takes no
+    /// memory.
+    pub fn has_in_it(&self, path: &TreePath) -> bool
+        ensures { result ≡ has_in_it self.now path.now }
     {
-        self.begins(other) || other.begins(self)
+        self.begins(path) || self.is_far_up(path)
+    }
+
+    /// Whether one of two folders has the other in it: one begins the other, one is `/`, or neither
+    /// is rooted and the one with more steps up has no parts. Takes no memory.
+    pub fn overlaps(&self, other: &TreePath) -> bool
+        ensures { result ≡ overlaps self.now other.now }
+    {
+        self.has_in_it(other) || other.has_in_it(self)
+    }
+
+    // Whether it is `/`, or has no parts and more steps up than a path that isn't rooted.
+    fn is_far_up(&self, path: &TreePath) -> bool
+        ensures { result ≡ is_far_up self.now path.now }
+    {
+        self.part_count() == 0
+            && (self.is_rooted() || (!path.is_rooted() && path.steps_up() < self.steps_up()))
     }
 
     /// The prefix of this path that has so many parts, or the path itself where it hasn't as many.

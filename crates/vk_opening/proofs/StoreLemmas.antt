@@ -1,19 +1,17 @@
--- One path begins another, and what follows where nothing is wrong with a store.
-use Rattle.std.proofs.Common.{◌≡◌, ◌↔◌, ◌++◌, ◌||◌, ◌+◌, ◌<◌, ◌≤◌, ℕ, Bool, true, false, cond, List, [], ◌∷◌, length, take, drop, map, flat_map, refl, ap, sym, subst, ◌∙◌, append_assoc, arith}
+-- The folders of a project, and what follows where nothing is wrong with a store.
+use Rattle.std.proofs.Common.{◌≡◌, ◌++◌, ◌||◌, ◌+◌, ◌<◌, ◌≤◌, ℕ, Bool, true, false, cond, List, [], ◌∷◌, length, take, map, flat_map, refl, ap, sym, subst, ◌∙◌, append_assoc, arith}
 use Rattle.std.specs.Prelude.{Option, Some, None, Result, Ok}
-use Rattle.std.specs.Bool.{IsTrue}
 use Rattle.std.specs.List.{All, find}
-use Rattle.std.proofs.lemmas.Bool.{true≢false}
 use Rattle.std.proofs.lemmas.List.{take_all, take_more}
 use Rattle.std.proofs.lemmas.List.Elements.{All-nil, All-cons}
 use Rattle.std.proofs.lemmas.List.FromFn.{length-map-range_with_len, get_or-map-range_with_len}
-use Rattle.std.proofs.lemmas.Slice.Eq.{bytes_eq-Decides, starts_is}
 use Rattle.vk_spec.specs.Earlies.{Early}
 use Rattle.vk_spec.specs.Files.{Files}
-use Rattle.vk_spec.specs.Paths.{Path, Begins, IsApart}
+use Rattle.vk_spec.specs.Paths.{Path}
 use Rattle.vk_spec.specs.Reading.{◌>>=◌}
 use Rattle.vk_spec.proofs.ReadingLemmas.{bind_ok}
-use Rattle.vk_base.specs.Paths.{parts_of}
+use Rattle.vk_base.specs.Paths.{parts_of, begins, is_far_up, has_in_it, overlaps}
+use Rattle.vk_base.proofs.PathLemmas.{no_begin}
 use Rattle.vk_config.specs.Configs.{Config}
 use Rattle.vk_config.specs.Views.{registry_view, source_view}
 use Rattle.vk_config.specs.declared.registries.Registry.{Registry}
@@ -21,19 +19,7 @@ use Rattle.vk_files.specs.Readings.{is_at}
 use Rattle.vk_model.specs.declared.projects.Project.{Project}
 use Rattle.vk_model.specs.declared.projects.Store.{Store}
 use Rattle.vk_opening.specs.Laws.{AreApart, IsFree, IsOutside, IsStored}
-use Rattle.vk_opening.specs.Stores.{above, prefixes, source_folder, begins, overlaps, is_far_up, has_in_it, outer_folders, refused_if, refused_beside, apart_from, apart_by, apart, store_folders, unblocked, stored_at}
-
-begins_both : (folder path : Path) → (begins folder path ≡ true → path ≡ folder ++ drop (length folder) path) × ((rest : Path) → path ≡ folder ++ rest → begins folder path ≡ true)
-begins_both folder path = starts_is bytes_eq-Decides path folder (begins folder path) refl
-
--- a test that says whether the one begins the other
-pub begins_is : (test : Bool) (folder path : Path) → IsTrue test ↔ Begins folder path → test ≡ begins folder path
-begins_is true folder path says = let rest = says.0 refl in sym ((begins_both folder path).1 rest.0 rest.1)
-begins_is false folder path says = by (begins folder path) refl
-  where
-    by : (b : Bool) → begins folder path ≡ b → false ≡ b
-    by true is = says.1 (drop (length folder) path, (begins_both folder path).0 is)
-    by false is = refl
+use Rattle.vk_opening.specs.Stores.{above, prefixes, source_folder, outer_folders, refused_if, refused_beside, apart_from, apart_by, apart, store_folders, unblocked, stored_at}
 
 -- ---- lists of folders
 
@@ -59,15 +45,16 @@ registries_seen project (r ∷ registries) = ap (λ l. source_folder project (so
 
 -- ---- what follows where nothing is refused
 
-no_begin : (folder path : Path) → begins folder path ≡ false → IsApart folder path
-no_begin folder path fails has = absurd (true≢false (sym ((begins_both folder path).1 has.0 has.1) ∙ fails))
-
 neither : (a b : Bool) → (a || b) ≡ false → (a ≡ false) × (b ≡ false)
 neither true b e = (cc)
 neither false b e = (refl, e)
 
+-- a folder that hasn't a path in it doesn't begin it, and isn't far up
+outside : (folder path : Path) → has_in_it folder path ≡ false → IsOutside folder path
+outside folder path fails = let n = neither (begins folder path) (is_far_up folder path) fails in (no_begin folder path n.0, n.1)
+
 no_overlap : (one other : Path) → overlaps one other ≡ false → AreApart one other
-no_overlap one other fails = let n = neither (begins one other) (begins other one) fails in (no_begin one other n.0, no_begin other one n.1)
+no_overlap one other fails = let n = neither (has_in_it one other) (has_in_it other one) fails in (outside one other n.0, outside other one n.1)
 
 not_refused : (wrong : Bool) (one other : Path) → refused_if wrong one other ≡ Ok tt → wrong ≡ false
 not_refused true one other e = (cc)
@@ -110,11 +97,6 @@ stored_is project store config files e =
       both = no_overlap store.installed store.cache (not_refused _ store.installed store.cache both.0);
       installed = apart_all store.installed outer installed.0;
       cache = apart_all store.cache outer cache.0;
-      around = (outside store.installed around.0, outside store.cache around.1);
+      around = (outside store.installed project.folder (not_refused _ store.installed project.folder around.0), outside store.cache project.folder (not_refused _ store.cache project.folder around.1));
       free = none_passes (IsFree files) (is_at files) (λ p is. is) (store_folders store) (unblocked_none _ place.1);
     }
-  where
-    outside : (folder : Path) → refused_if (has_in_it folder project.folder) folder project.folder ≡ Ok tt → IsOutside folder project.folder
-    outside folder e =
-        let n = neither (begins folder project.folder) (is_far_up folder project.folder) (not_refused _ folder project.folder e) in
-        (no_begin folder project.folder n.0, n.1)

@@ -8,8 +8,9 @@ use Rattle.vk_config.specs.Configs.{Config}
 use Rattle.vk_model.specs.declared.projects.Project.{Project}
 use Rattle.vk_model.specs.declared.projects.Store.{Store}
 use Rattle.vk_opening.specs.Projects.{manifest_path, config_path, triplet_path, folders_of}
+use Rattle.vk_base.specs.Paths.{is_far_up}
 use Rattle.vk_files.specs.Readings.{is_at}
-use Rattle.vk_opening.specs.Stores.{is_far_up, outer_folders, store_folders}
+use Rattle.vk_opening.specs.Stores.{outer_folders, store_folders}
 
 -- a folder hasn't the triplet; none of these has it
 abbrev pub LacksTriplet : List ℕ → Files → Path → Type 0
@@ -34,13 +35,13 @@ abbrev pub AgreeAt : List Path → Files → Files → Type 0
 AgreeAt [] one other = Unit {0}
 AgreeAt (path ∷ paths) one other = (files_map.get other path ≡ files_map.get one path) × AgreeAt paths one other
 
+-- a folder hasn't a path in it: it doesn't begin it, nor is it so far up
+abbrev pub IsOutside : Path → Path → Type 0
+IsOutside folder path = IsApart folder path × (is_far_up folder path ≡ false)
+
 -- neither of two folders has the other in it
 abbrev pub AreApart : Path → Path → Type 0
-AreApart one other = IsApart one other × IsApart other one
-
--- a folder hasn't a project's folder in it: it doesn't begin it, nor is it so far up
-abbrev pub IsOutside : Path → Path → Type 0
-IsOutside folder project = IsApart folder project × (is_far_up folder project ≡ false)
+AreApart one other = IsOutside one other × IsOutside other one
 
 abbrev pub IsFree : Files → Path → Type 0
 IsFree files path = is_at files path ≡ false

@@ -1,11 +1,11 @@
 -- Where packages are installed and kept: what these two folders have to be apart from, and where no file may stand.
-use Rattle.std.specs.Prelude.{◌++◌, ◌==◌, ◌&&◌, ◌||◌, ◌+◌, Bool, not, List, [], ◌∷◌, length, take, map, flat_map, Option, Some, None, option_to_list, Result, Ok, Err, codes, bytes_eq, nat_lt, if◌then◌else◌}
-use Rattle.std.specs.List.{find, starts_with, range_with_len}
+use Rattle.std.specs.Prelude.{◌++◌, ◌+◌, Bool, List, [], ◌∷◌, length, take, map, flat_map, Option, Some, None, option_to_list, Result, Ok, Err, codes, if◌then◌else◌}
+use Rattle.std.specs.List.{find, range_with_len}
 use Rattle.vk_spec.specs.Paths.{Path}
 use Rattle.vk_spec.specs.Files.{Files}
 use Rattle.vk_spec.specs.Reading.{◌>>=◌}
 use Rattle.vk_spec.specs.Earlies.{Early, overlap, blocked}
-use Rattle.vk_base.specs.Paths.{is_rooted, ups_of, parts_of, joined}
+use Rattle.vk_base.specs.Paths.{parts_of, joined, has_in_it, overlaps}
 use Rattle.vk_config.specs.Configs.{Config, Source, filesystem, git, builtin, artifact}
 use Rattle.vk_files.specs.Readings.{is_at}
 use Rattle.vk_model.specs.declared.projects.Project.{Project}
@@ -13,23 +13,6 @@ use Rattle.vk_model.specs.declared.projects.Store.{Store}
 use Rattle.vk_opening.specs.Projects.{folders_of}
 
 -- ---- apart
-
--- the one path begins the other
-abbrev pub begins : Path → Path → Bool
-begins folder path = starts_with bytes_eq path folder
-
--- one of the two begins the other
-abbrev pub overlaps : Path → Path → Bool
-overlaps one other = begins one other || begins other one
-
--- a folder without parts that is `/`, or more steps up than a project that isn't rooted
-abbrev pub is_far_up : Path → Path → Bool
-is_far_up folder project =
-    (length (parts_of folder) == 0) && (is_rooted folder || (not (is_rooted project) && nat_lt (ups_of project) (ups_of folder)))
-
--- a folder has a project's folder in it
-abbrev pub has_in_it : Path → Path → Bool
-has_in_it folder project = begins folder project || is_far_up folder project
 
 -- the folder of a registry of files, from the project's folder on; no other has one
 abbrev pub source_folder : Path → Source → List Path

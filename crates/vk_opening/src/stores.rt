@@ -4,7 +4,7 @@ ghost use Rattle.std.specs.Prelude.{option_map, option_to_list};
 ghost use Rattle.std.specs.List.{find};
 ghost use Rattle.vk_spec.specs.Earlies as early;
 ghost use Rattle.vk_spec.specs.Reading.{Gives};
-ghost use Rattle.vk_base.specs.Paths.{is_part};
+ghost use Rattle.vk_base.specs.Paths.{is_part, overlaps};
 ghost use Rattle.vk_base.specs.Stops.{fault_seen, has_failed};
 ghost use Rattle.vk_config.specs.Views.{config_view, source_view};
 ghost use Rattle.vk_model.specs.EarlyViews.{early_view};
@@ -14,7 +14,6 @@ ghost use Rattle.vk_files.specs.Within.{up_to_first};
 ghost use Rattle.vk_files.specs.Finds.{ReadsFrom};
 ghost use Rattle.vk_opening.specs.Asked.{stored_paths};
 ghost use Rattle.vk_opening.specs.Stores.{apart, apart_by, apart_from, refused_if, unblocked};
-ghost use Rattle.vk_opening.specs.Stores.{begins, has_in_it, is_far_up, overlaps};
 ghost use Rattle.vk_opening.specs.Stores.{outer_folders, prefixes, source_folder, store_folders};
 ghost use Rattle.vk_opening.specs.Stores.{stored_at};
 
@@ -25,31 +24,6 @@ use vk_config::{Config, Registry, Source};
 use vk_files::Archive;
 use vk_model::{Early, Project, Store};
 use vk_tree::Tree;
-
-fn begins(folder: &TreePath, path: &TreePath) -> bool
-    ensures { result ≡ begins folder.now path.now }
-{
-    folder.begins(path)
-}
-
-fn overlaps(one: &TreePath, other: &TreePath) -> bool
-    ensures { result ≡ overlaps one.now other.now }
-{
-    begins(one, other) || begins(other, one)
-}
-
-fn is_far_up(folder: &TreePath, project: &TreePath) -> bool
-    ensures { result ≡ is_far_up folder.now project.now }
-{
-    folder.part_count() == 0
-        && (folder.is_rooted() || (!project.is_rooted() && project.steps_up() < folder.steps_up()))
-}
-
-fn has_in_it(folder: &TreePath, project: &TreePath) -> bool
-    ensures { result ≡ has_in_it folder.now project.now }
-{
-    begins(folder, project) || is_far_up(folder, project)
-}
 
 // The line of two folders.
 fn overlap(first: &TreePath, second: &TreePath) -> Result<Early, Memory>
@@ -76,7 +50,7 @@ fn refused_if(wrong: bool, one: &TreePath, other: &TreePath) -> Result<(), Stop<
 fn first_overlap<'a>(folder: &TreePath, others: &'a [TreePath]) -> Option<&'a TreePath>
     ensures { option_map (λ other. other.now) result ≡ find (overlaps folder.now) others.now }
 {
-    others.iter().find(|other| overlaps(folder, other))
+    others.iter().find(|other| folder.overlaps(other))
 }
 
 // That a folder overlaps none of these, or else its line with the first that it overlaps.
@@ -103,11 +77,11 @@ fn apart_by(project: &TreePath, store: &Store, folders: &[TreePath]) -> Result<(
         cache,
         ..
     } = store;
-    refused_if(overlaps(installed, cache), installed, cache)?;
+    refused_if(installed.overlaps(cache), installed, cache)?;
     apart_from(installed, folders)?;
     apart_from(cache, folders)?;
-    refused_if(has_in_it(installed, project), installed, project)?;
-    refused_if(has_in_it(cache, project), cache, project)
+    refused_if(installed.has_in_it(project), installed, project)?;
+    refused_if(cache.has_in_it(project), cache, project)
 }
 
 // Puts the folder of a source at the end, if it is one of files.

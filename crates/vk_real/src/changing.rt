@@ -26,7 +26,7 @@ impl<R: Files + AllocGlobal> Host<R> {
     /// Moves a file or a folder with files, never into or out of itself, and removes the folders
     /// that this empties.
     pub(crate) fn rename(&self, from: &TreePath, to: &TreePath) -> Came<(), MoveFault> {
-        if from.overlaps(to) {
+        if from.begins(to) || to.begins(from) {
             return Err(ErrorKind::InvalidInput.into());
         }
         if self.kind(from)? == Kind::Absent {
