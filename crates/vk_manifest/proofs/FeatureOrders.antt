@@ -1,7 +1,8 @@
 -- Features ascend by name, as the keys of their object do.
-use Rattle.std.proofs.Common.{◌≡◌, ◌+◌, ℕ, List, [], ◌∷◌, ◌++◌, refl, ap, ◌∙◌}
+use Rattle.std.proofs.Common.{◌≡◌, ◌+◌, ℕ, List, [], ◌∷◌, ◌++◌, map, refl, ap, subst, ◌∙◌}
 use Rattle.std.specs.Prelude.{Option, Some, None, Result, Ok, Err, codes}
 use Rattle.std.specs.List.Sorted.{IsStrictlySortedBy}
+use Rattle.std.proofs.lemmas.Simd.{map-map}
 use Rattle.serde_json.specs.Data.{Data, Members, no_members, member}
 use Rattle.serde_json.specs.Data as json
 use Rattle.serde_json.specs.Find.{get}
@@ -22,6 +23,9 @@ use Rattle.vk_fields.specs.Wording.{name_word}
 use Rattle.vk_fields.specs.Saying.{said_here}
 use Rattle.vk_manifest.specs.Manifests.{feature_at, features_in, dependencies_in, supports_in}
 use Rattle.vk_manifest.specs.Names.{feature_names}
+use Rattle.vk_model.specs.PortFeatures.{AreInOrder}
+use Rattle.vk_model.specs.Views.{port_feature_view}
+use Rattle.vk_model.specs.declared.manifests.Feature as the
 use Rattle.vk_spec.proofs.ReadingLemmas.{bind_ok}
 
 -- ---- what a reading that gave a value gave on the way
@@ -67,6 +71,9 @@ each_ascend (json.number n) features e ascend = (cc)
 each_ascend (json.string s) features e ascend = (cc)
 each_ascend (json.array ds) features e ascend = (cc)
 each_ascend (json.object ms) features e ascend = rw (names_are ms 0 features e) ascend
+
+pub read_in_order : (d : Data) (features : List the.Feature) → each_member feature_at d ≡ Ok (map port_feature_view features) → KeysAscend d → AreInOrder features
+read_in_order d features e ascend = subst Ascend (map-map (λ f. f.name) port_feature_view features) (each_ascend d (map port_feature_view features) e ascend)
 
 none_ascend : Ascend []
 unfolding IsStrictlySortedBy

@@ -1,5 +1,6 @@
 //! The features of a port.
 ghost use Rattle.std.specs.Prelude.{◌≡◌, List, map};
+ghost use Rattle.vk_json.specs.Readings.{each_member};
 ghost use Rattle.vk_json.specs.Values.{view};
 ghost use Rattle.vk_spec.specs.Reading.{Gives};
 ghost use Rattle.vk_spec.specs.Manifests as plain;
@@ -10,10 +11,10 @@ ghost use Rattle.vk_manifest.specs.Manifests.{feature_at, features_in};
 
 use crate::dependencies::{condition, dependencies};
 use std::alloc::Global;
-use vk_base::{List, Unread};
+use vk_base::Unread;
 use vk_fields::feature_name_of;
-use vk_json::{FileFault, MemberReader, ObjectOf, Value, object, optional_or};
-use vk_model::Feature;
+use vk_json::{FileFault, MemberReader, Reader, Value, each_member, object, optional_or};
+use vk_model::{Feature, PortFeatures};
 
 // Reads a feature, whose key is its name.
 #[derive(Drop)]
@@ -48,15 +49,34 @@ impl MemberReader for FeatureMember {
     }
 }
 
-/// The features, in byte order of their names.
-pub fn features(alloc: Global, value: &Value) -> Result<List<Feature>, Unread<FileFault>>
+// Reads the features of an object, each under its name.
+#[derive(Drop)]
+struct AllFeatures;
+
+impl Reader for AllFeatures {
+    type Out = PortFeatures;
+
+    ghost Plain = { List (plain.Feature Condition) };
+
+    ghost plain = { map port_feature_view };
+
+    ghost reads = { λ r. each_member feature_at };
+
+    fn read(&self, alloc: Global, value: &Value) -> Result<PortFeatures, Unread<FileFault>> {
+        let list = each_member(alloc, value, &FeatureMember)?;
+        Ok(PortFeatures::new(list))
+    }
+}
+
+/// The features.
+pub fn features(alloc: Global, value: &Value) -> Result<PortFeatures, Unread<FileFault>>
     ensures { Gives (map port_feature_view) fault_in result (features_in (view value.now)) }
 {
     optional_or(
         alloc,
         value,
         "features",
-        &ObjectOf(FeatureMember),
-        List::new(alloc),
+        &AllFeatures,
+        PortFeatures::none(alloc),
     )
 }

@@ -17,7 +17,7 @@ use vk_base::{List, PortName, Unread};
 use vk_expr::Expr;
 use vk_fields::{PortNameText, version, version_needed};
 use vk_json::{Doc, FileFault, Scratch, Value, object, optional, wanted};
-use vk_model::{Manifest, Override};
+use vk_model::{Manifest, Override, PortFeatures};
 use vk_version::Version;
 
 #[tactic(auto, unfolding(crate::specs::Manifests::name_in))]
@@ -67,7 +67,7 @@ fn blank(alloc: Global) -> Manifest
         supports: Expr::Always,
         dependencies: List::new(alloc),
         default_features: List::new(alloc),
-        features: List::new(alloc),
+        features: PortFeatures::none(alloc),
         overrides: List::new(alloc),
     }
 }

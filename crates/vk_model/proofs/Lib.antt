@@ -1,2 +1,3 @@
 mod BuilderLemmas
 pub mod FeatureLines
+pub mod Searches

@@ -39,12 +39,12 @@ looked_key f a = feature_view f ∷ ask_key a
 abbrev pub visit_key : Instance → FeatureName → Ask → Key
 visit_key i f a = i.port ∷ i.triplet ∷ looked_key f a
 
--- what is fed to a hash: no port-version and no instance's triplet, which seldom tell facts apart
+-- what is fed to a hash: all but an instance's triplet, which seldom tells facts apart
 abbrev pub plain_hash : plain.Fact → fed.HashWrites
 plain_hash (plain.need (root t) f) = text_fed t ++ fed.str f
 plain_hash (plain.need (inst i) f) = text_fed i.port ++ fed.str f
-plain_hash (plain.floor p a) = text_fed p ++ text_fed a.text
-plain_hash (plain.visit i f a) = text_fed i.port ++ fed.str f ++ text_fed a.text
+plain_hash (plain.floor p a) = text_fed p ++ text_fed a.text ++ fed.u32 a.port
+plain_hash (plain.visit i f a) = text_fed i.port ++ fed.str f ++ text_fed a.text ++ fed.u32 a.port
 
 abbrev pub fact_hash : Fact → fed.HashWrites
 fact_hash x = plain_hash (fact_view x)

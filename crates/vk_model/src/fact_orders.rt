@@ -268,6 +268,7 @@ impl Hash for Fact {
             Fact::Floor { port: p, ask: a } => {
                 p.hash(state);
                 a.text.hash(state);
+                a.port.hash(state);
             }
             Fact::Visit {
                 inst: i,
@@ -277,6 +278,7 @@ impl Hash for Fact {
                 i.port.hash(state);
                 f.hash(state);
                 a.text.hash(state);
+                a.port.hash(state);
             }
         }
     }

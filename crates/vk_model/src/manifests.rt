@@ -1,5 +1,6 @@
 ghost use Rattle.std.specs.Prelude.{◌≡◌};
 
+use crate::port_features::PortFeatures;
 use std::alloc::AllocError;
 use vk_base::{FeatureName, List, PortName};
 use vk_expr::Expr;
@@ -75,8 +76,8 @@ pub struct Manifest {
     pub dependencies: List<Dependency>,
     /// The features that it has by default.
     pub default_features: List<FeatureUse>,
-    /// Its features, in byte order of their names.
-    pub features: List<Feature>,
+    /// Its features.
+    pub features: PortFeatures,
     /// The versions that a root sets; a port has none.
     pub overrides: List<Override>,
 }

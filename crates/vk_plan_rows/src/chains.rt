@@ -7,7 +7,7 @@ use std::rc::Rc;
 use vk_base::{List, Memory, PortName, Unread};
 use vk_catalogue::{MemCatalogue, Page, PageRow};
 use vk_expr::Expr;
-use vk_model::{Dependency, Given, Manifest};
+use vk_model::{Dependency, Given, Manifest, PortFeatures};
 use vk_version::{Ask, Version};
 
 fn dependency(alloc: Global, name: PortName, minimum: Option<Ask>) -> Dependency {
@@ -86,7 +86,7 @@ pub fn manifest_of(
         supports: Expr::Always,
         dependencies,
         default_features: List::new(alloc),
-        features: List::new(alloc),
+        features: PortFeatures::none(alloc),
         overrides: List::new(alloc),
     }
 }

@@ -5,7 +5,7 @@ use std::mem::replace;
 use vk_base::{FeatureName, List, Memory, TripletName, Unread};
 use vk_expr::Expr;
 use vk_manifest::read_manifest;
-use vk_model::{Manifest, Setting};
+use vk_model::{Manifest, PortFeatures, Setting};
 use vk_row_text::{NoRow, Reply, cut};
 use vk_triplet::{Triplet, read};
 
@@ -27,7 +27,7 @@ pub fn empty_root(alloc: Global) -> Manifest {
         supports: Expr::Always,
         dependencies: List::new(alloc),
         default_features: List::new(alloc),
-        features: List::new(alloc),
+        features: PortFeatures::none(alloc),
         overrides: List::new(alloc),
     }
 }

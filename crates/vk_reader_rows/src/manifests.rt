@@ -83,7 +83,7 @@ impl Show for Manifest {
         push_condition(reply, &self.supports);
         push_list(reply, " deps", &self.dependencies);
         push_list(reply, " defaults", &self.default_features);
-        push_list(reply, " features", &self.features);
+        push_list(reply, " features", self.features.as_list());
         push_list(reply, " overrides", &self.overrides);
     }
 }

@@ -4,7 +4,7 @@ use crate::jobs::{TARGET, instance_of, item_of, triplet_of};
 use vk_abi::{AbiPair, texts};
 use vk_base::{Instance, Limit, List, Stop, TreePath};
 use vk_expr::Expr;
-use vk_model::{Builder, Item, Manifest, Plan, Setting};
+use vk_model::{Builder, Item, Manifest, Plan, PortFeatures, Setting};
 use vk_row_text::{Reply, cut};
 use vk_tree::MemTree;
 use vk_triplet::Triplet;
@@ -24,7 +24,7 @@ fn empty_root(reply: &Reply) -> Manifest {
         supports: Expr::Always,
         dependencies: List::new(reply.alloc()),
         default_features: List::new(reply.alloc()),
-        features: List::new(reply.alloc()),
+        features: PortFeatures::none(reply.alloc()),
         overrides: List::new(reply.alloc()),
     }
 }

@@ -8,21 +8,12 @@ ghost use Rattle.vk_model.specs.Views.{manifest_view, dependency_view, use_view}
 use vk_base::FeatureName;
 use vk_model::{Dependency, Feature, FeatureUse, Manifest};
 
-fn is_named(feature: &Feature, name: &str) -> bool
-    ensures { result ≡ bytes_eq (feature_view feature.now.name) name.now }
-{
-    feature.name.as_str() == name
-}
-
-// The first feature of this name.
+// The feature of this name.
 pub fn feature_of<'a>(manifest: &'a Manifest, name: &str) -> Option<&'a Feature>
     ensures { option_map (λ f. f.now) result
         ≡ find (λ f. bytes_eq (feature_view f.name) name.now) manifest.now.features }
 {
-    manifest
-        .features
-        .iter()
-        .find(|feature| is_named(feature, name))
+    manifest.features.get(name)
 }
 
 // The dependencies of the feature of this name, if there is one.

@@ -9,7 +9,7 @@ use vk_base::{List, Memory, PortName, Text, TreePath, Unread};
 use vk_catalogue::{Catalogue, MemCatalogue, Page, PageRow};
 use vk_expr::Expr;
 use vk_json::Why;
-use vk_model::{Given, Manifest, Wrong};
+use vk_model::{Given, Manifest, PortFeatures, Wrong};
 use vk_row_text::{NoRow, Reply, cut};
 use vk_version::{Scheme, Version};
 
@@ -26,7 +26,7 @@ fn manifest_with(alloc: Global, name: PortName) -> Manifest {
         supports: Expr::Always,
         dependencies: List::new(alloc),
         default_features: List::new(alloc),
-        features: List::new(alloc),
+        features: PortFeatures::none(alloc),
         overrides: List::new(alloc),
     }
 }
