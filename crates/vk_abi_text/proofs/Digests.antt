@@ -8,7 +8,7 @@ use Rattle.hex.specs.Hex.{IsBytes, decode_of, encode_lower, encode_with, lower_d
 use Rattle.hex.proofs.HexLemmas.{decode_of-encode_lower}
 use Rattle.vk_base.specs.Tokens.{IsPlain}
 use Rattle.vk_base.proofs.PathLemmas.{both}
-use Rattle.vk_report_reader.specs.Forms.{TellsApart}
+use Rattle.vk_forms.specs.Forms.{TellsApart}
 use Rattle.vk_abi_text.specs.Rights.{IsDigest}
 
 ok_one : {X F : Type 0} (r : Result X F) (x y : X) → r ≡ Ok x → r ≡ Ok y → x ≡ y

@@ -24,14 +24,14 @@ use Rattle.vk_model.specs.BuilderTexts.{reads_builder_text}
 use Rattle.vk_model.specs.Retold.{told_as}
 use Rattle.vk_model.specs.declared.builders.BuilderFault.{BuilderFault}
 use Rattle.vk_model.specs.declared.builders.BuilderFault.TheVariants as fault
-use Rattle.vk_report_reader.specs.Causes.{IsLine}
-use Rattle.vk_report_reader.specs.Forms.{FindsOrNot, ReadsAs, pair_text, IsRightPair}
-use Rattle.vk_report_reader.specs.Paths.{IsRightPath}
-use Rattle.vk_report_reader.specs.Texts.{IsText}
-use Rattle.vk_report_reader.proofs.Apart.{number_apart}
-use Rattle.vk_report_reader.proofs.NameForms.{name_lacks, name_token}
-use Rattle.vk_report_reader.proofs.PairForms.{same_pair}
-use Rattle.vk_report_reader.proofs.Through.{AreParts}
+use Rattle.vk_forms.specs.Lines.{IsLine}
+use Rattle.vk_forms.specs.Forms.{FindsOrNot, ReadsAs, pair_text, IsRightPair}
+use Rattle.vk_forms.specs.Paths.{IsRightPath}
+use Rattle.vk_forms.specs.Texts.{IsText}
+use Rattle.vk_forms.proofs.Apart.{number_apart}
+use Rattle.vk_forms.proofs.NameForms.{name_lacks, name_token}
+use Rattle.vk_forms.proofs.PairForms.{same_pair}
+use Rattle.vk_forms.proofs.Through.{AreParts}
 use Rattle.vk_abi_text.specs.Forms.{IsBuilderText, IsRightTriplet, ReadsVersion, builder_of, dep_of, file_of, scheme_of, version_of}
 use Rattle.vk_abi_text.specs.Lines.{builder_line, dep_line, file_line, version_line}
 use Rattle.vk_abi_text.specs.Parts.{builder_text, dep_text, file_text, triplet_text, version_text}

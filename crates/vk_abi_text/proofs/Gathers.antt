@@ -23,10 +23,10 @@ use Rattle.vk_base.specs.Tokens.{token_of}
 use Rattle.vk_base.proofs.TokenLemmas.{tokens_differ}
 use Rattle.vk_resolution.specs.Keys.{Ascends, Key, key_cmp}
 use Rattle.vk_resolution.proofs.Members.{contains_map, contains_single, map_contains}
-use Rattle.vk_report_reader.specs.Names.{IsRightInstance}
-use Rattle.vk_report_reader.proofs.Apart.{name_apart}
-use Rattle.vk_report_reader.proofs.NameForms.{name_lacks}
-use Rattle.vk_report_reader.proofs.PairForms.{same_pair}
+use Rattle.vk_forms.specs.Names.{IsRightInstance}
+use Rattle.vk_forms.proofs.Apart.{name_apart}
+use Rattle.vk_forms.proofs.NameForms.{name_lacks}
+use Rattle.vk_forms.proofs.PairForms.{same_pair}
 use Rattle.vk_abi_text.specs.Adding.{AreOrdered, IsNew, IsOtherThanLast, last_text, with_line, with_more}
 use Rattle.vk_abi_text.specs.Gathered.{Gathered, builders_in, deps_in, features_in, files_in, gathered, natives_in, ports_in, triplets_in, versions_in}
 use Rattle.vk_abi_text.specs.Inputs.{DepDigest, FileDigest}

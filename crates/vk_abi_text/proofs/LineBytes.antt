@@ -16,8 +16,8 @@ use Rattle.vk_base.specs.Tokens.{IsByte, token_of}
 use Rattle.vk_base.proofs.TokenLemmas.{token_plain}
 use Rattle.hex.specs.Hex.{encode_lower}
 use Rattle.vk_version.specs.ClassWords.{class_word}
-use Rattle.vk_report_reader.proofs.Numbers.{decimal_plain}
-use Rattle.vk_report_reader.proofs.Shown.{IsShown, shown_by, shown_from, spaced_shown}
+use Rattle.vk_forms.proofs.Numbers.{decimal_plain}
+use Rattle.vk_forms.proofs.Shown.{IsShown, shown_by, shown_from, spaced_shown}
 use Rattle.vk_abi_text.specs.Lines.{AbiLine, builder_line, dep_line, feature_line, file_line, line_text, native_line, port_line, triplet_line, version_line, yes_or_no}
 use Rattle.vk_abi_text.specs.Rights.{IsDigest, IsRightLine}
 use Rattle.vk_abi_text.proofs.Digests.{digest_plain}

@@ -14,15 +14,15 @@ use Rattle.vk_base.proofs.PathLemmas.{lacks_byte}
 use Rattle.vk_base.proofs.TokenLemmas.{token_plain, tokens_differ}
 use Rattle.vk_version.specs.ClassWords.{class_word}
 use Rattle.vk_model.specs.declared.builders.Builder.{Builder}
-use Rattle.vk_report_reader.specs.Choices.{either_text, IsRightEither}
-use Rattle.vk_report_reader.specs.Forms.{TellsApart, pair_text, IsRightPair}
-use Rattle.vk_report_reader.specs.Places.{Any}
-use Rattle.vk_report_reader.proofs.Apart.{name_apart, number_apart}
-use Rattle.vk_report_reader.proofs.Heads.{AreKinds, one_kind, one_or}
-use Rattle.vk_report_reader.proofs.NameForms.{name_lacks}
-use Rattle.vk_report_reader.proofs.PairForms.{same_pair}
-use Rattle.vk_report_reader.proofs.Through.{AreParts, parts_apart}
-use Rattle.vk_report_reader.proofs.WordForms.{plain_blank}
+use Rattle.vk_forms.specs.Choices.{either_text, IsRightEither}
+use Rattle.vk_forms.specs.Forms.{TellsApart, pair_text, IsRightPair}
+use Rattle.vk_forms.specs.Words.{Any}
+use Rattle.vk_forms.proofs.Apart.{name_apart, number_apart}
+use Rattle.vk_forms.proofs.Heads.{AreKinds, one_kind, one_or}
+use Rattle.vk_forms.proofs.NameForms.{name_lacks}
+use Rattle.vk_forms.proofs.PairForms.{same_pair}
+use Rattle.vk_forms.proofs.Through.{AreParts, parts_apart}
+use Rattle.vk_forms.proofs.WordForms.{plain_blank}
 use Rattle.vk_abi_text.specs.Inputs.{DepDigest, FileDigest}
 use Rattle.vk_abi_text.specs.Lines.{AbiLine, builder_line, dep_line, feature_line, file_line, line_text, native_line, port_line, triplet_line, version_line, yes_or_no}
 use Rattle.vk_abi_text.specs.Parts.{LineParts, builder_text, dep_text, file_text, line_of, triplet_text, version_text}

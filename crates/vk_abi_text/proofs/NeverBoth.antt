@@ -1,5 +1,5 @@
 -- No text is refused.
-use Rattle.std.proofs.Common.{◌≡◌, ◌≤◌, ◌+◌, ◌++◌, ◌∷◌, ℕ, List, [], length, length-append, map, refl, ap, sym, ◌∙◌, subst, append_assoc, arith}
+use Rattle.std.proofs.Common.{◌≡◌, ◌≤◌, ◌+◌, ◌++◌, ◌∷◌, ℕ, List, [], length, length-append, map, inr, refl, ap, sym, ◌∙◌, subst, append_assoc, arith}
 use Rattle.std.specs.Prelude.{flat_map}
 use Rattle.std.specs.List.{All, Contains}
 use Rattle.std.proofs.lemmas.List.{append-nil, append_cancel_left, map-append}
@@ -15,18 +15,19 @@ use Rattle.vk_resolution.specs.Keys.{Ascends, in_order}
 use Rattle.vk_resolution.specs.Lines.{ended}
 use Rattle.vk_resolution.proofs.Members.{contains_single}
 use Rattle.vk_resolution.proofs.Orders.{ascends-NoRepeats, contains-in_order, in_order-ascends}
-use Rattle.vk_report_reader.proofs.PairForms.{same_pair}
+use Rattle.vk_base.specs.Paths.{Lacks}
+use Rattle.vk_forms.proofs.PairForms.{lacks_none, same_pair}
 use Rattle.vk_abi_text.specs.Gathered.{builders_in, deps_in, features_in, files_in, gathered, natives_in, ports_in, triplets_in, versions_in}
 use Rattle.vk_abi_text.specs.Inputs.{Input}
-use Rattle.vk_abi_text.specs.Lines.{AbiLine, abi_text_of, builder_line, dep_line, feature_line, file_line, heading, line_text, lines_of, native_line, port_line, texts_of, triplet_line, version_line}
-use Rattle.vk_abi_text.specs.Readings.{AreAll, Ends, IsInput, IsRead, IsRefusedAt, MayStand, Reading, by_heading, by_line, line_key, ordered, text_of_lines}
-use Rattle.vk_abi_text.specs.Rights.{IsReadable, IsReadableLine, IsRightDep, IsRightFeature, IsRightFile, IsRightInput, IsShortFile}
+use Rattle.vk_abi_text.specs.Lines.{AbiLine, abi_text_of, builder_line, dep_line, feature_line, file_line, first_text, heading, line_text, lines_of, native_line, port_line, texts_of, triplet_line, version_line}
+use Rattle.vk_abi_text.specs.Readings.{AreAll, Ends, IsFirstOf, IsInput, IsRead, IsRefusedAt, MayStand, Reading, by_end, by_heading, by_heading_end, by_line, line_key, ordered, text_of_lines}
+use Rattle.vk_abi_text.specs.Rights.{IsReadable, IsReadableLine, IsRightDep, IsRightFeature, IsRightFile, IsRightInput, IsRightLine, IsShortFile}
 use Rattle.vk_abi_text.specs.Views.{input_view, line_in}
 use Rattle.vk_abi_text.proofs.Gathers.{builders_back, deps_back, features_back, files_back, natives_back, ports_back, right_of, triplets_back, versions_back}
 use Rattle.vk_abi_text.proofs.LineBytes.{line_whole}
 use Rattle.vk_abi_text.proofs.LineParts.{lines_apart}
 use Rattle.vk_abi_text.proofs.OneInput.{keys_tell, no_repeats_by, one_input, read_again, sorted_map, sorted_same}
-use Rattle.vk_abi_text.proofs.ReadLemmas.{all_from}
+use Rattle.vk_abi_text.proofs.ReadLemmas.{all_from, readable_last, some_line}
 use Rattle.vk_abi_text.proofs.SameTexts.{lines_right}
 use Rattle.vk_abi_text.proofs.Selections.{builder_of, deps_of, each_line, files_of, has_builder, has_feature, has_native, has_port, has_triplet, has_version, in_front, native_of, port_of, selected, triplet_of, version_of}
 
@@ -180,13 +181,29 @@ stand_first xs ys stand = let old = stand.no_second in record {
 }
 
 stuck : (lines rest : List AbiLine) (left : List ℕ) → MayStand (lines ++ rest) → AreAll (gathered (lines ++ rest)) → left ≡ text_of_lines rest
-    → ((line : AbiLine) (more : List ℕ) → left ≡ ended (line_text line) ++ more → MayStand (lines ++ line ∷ []) → ⊥) → (left ≡ [] → AreAll (gathered lines) → ⊥) → ⊥
+    → ((line : AbiLine) → IsFirstOf line left → MayStand (lines ++ line ∷ []) → ⊥) → (left ≡ [] → AreAll (gathered lines) → ⊥) → ⊥
 stuck lines [] left stand all e unwanted lacking = lacking e (subst (λ l. AreAll (gathered l)) (append-nil lines) all)
 stuck lines (x ∷ rest) left stand all e unwanted lacking =
-    unwanted x (text_of_lines rest) e (stand_first (lines ++ x ∷ []) rest (subst MayStand (sym (append_assoc lines (x ∷ []) rest)) stand))
+    unwanted x (inr (text_of_lines rest, e)) (stand_first (lines ++ x ∷ []) rest (subst MayStand (sym (append_assoc lines (x ∷ []) rest)) stand))
+
+first_alone : (more : List ℕ) → first_text ≡ heading ++ more → ⊥
+first_alone more e = (cc)
+
+-- a line without its end isn't lines with theirs
+unended : (last : AbiLine) → IsRightLine last → (rest : List AbiLine) → line_text last ≡ text_of_lines rest → ⊥
+unended last right [] e = some_line last e
+unended last right (x ∷ rest) e =
+    lacks_none 10 (line_text x) (text_of_lines rest) (subst (Lacks 10) (e ∙ append_assoc (line_text x) (10 ∷ []) (text_of_lines rest)) (line_whole last right))
 
 pub never_both : (bytes : List ℕ) (i : Input) (n : ℕ) → IsRead bytes i → IsRefusedAt bytes n → ⊥
-never_both bytes i n read (by_heading number none) = none (flat_map ended (texts_of i)) read.text
+never_both bytes i n read (by_heading number alone none) = none (flat_map ended (texts_of i)) read.text
+never_both bytes i n read (by_heading_end number alone) = first_alone (flat_map ended (texts_of i)) (sym alone ∙ read.text)
+never_both bytes i n read (by_end lines last split stand number) =
+    let here : heading ++ flat_map ended (texts_of i) ≡ heading ++ (text_of_lines lines ++ line_text last) = sym read.text ∙ split ∙ append_assoc heading (text_of_lines lines) (line_text last) in
+    let same = append_cancel_left heading (flat_map ended (texts_of i)) (text_of_lines lines ++ line_text last) here in
+    let whole = ls_stand i read.right read.readable in
+    let it = begins lines (ls i read.right read.readable) (line_text last) (stand_first lines (last ∷ []) stand).readable whole.readable (ls_text i read.right read.readable ∙ same) in
+    unended last (right_of last (readable_last lines last stand)) it.0 it.1.1
 never_both bytes i n read (by_line lines left split stand number unwanted lacking) =
     let here : heading ++ flat_map ended (texts_of i) ≡ heading ++ (text_of_lines lines ++ left) = sym read.text ∙ split ∙ append_assoc heading (text_of_lines lines) left in
     let same = append_cancel_left heading (flat_map ended (texts_of i)) (text_of_lines lines ++ left) here in

@@ -1,5 +1,5 @@
 -- An ABI text is read line by line.
-use Rattle.std.proofs.Common.{◌≡◌, ◌≢◌, ◌<◌, ◌==◌, ◌+◌, ◌^◌, ◌++◌, ◌∷◌, ℕ, Bool, true, false, Decides, List, [], length, length-append, map, refl, ap, sym, ◌∙◌, subst, append_assoc, arith, codes}
+use Rattle.std.proofs.Common.{◌≡◌, ◌≢◌, ◌<◌, ◌==◌, ◌+◌, ◌^◌, ◌++◌, ◌∷◌, ℕ, Bool, true, false, Decides, List, [], length, length-append, map, inl, inr, refl, ap, sym, ◌∙◌, subst, append_assoc, arith, codes}
 use Rattle.std.specs.Prelude.{IfSome, Err, flat_map, not}
 use Rattle.std.specs.List.{All, Contains}
 use Rattle.std.specs.Str.{IsUtf8}
@@ -22,14 +22,14 @@ use Rattle.vk_resolution.specs.Keys.{Ascends, Key, in_order, key_cmp, put_by, pu
 use Rattle.vk_resolution.specs.Lines.{ended}
 use Rattle.vk_resolution.proofs.Members.{contains_map, contains_single, map_contains}
 use Rattle.vk_resolution.proofs.Orders.{ascending_one, contains-in_order, in_order-ascends, in_order-contains}
-use Rattle.vk_report_reader.specs.Cuts.{NoLine}
-use Rattle.vk_report_reader.proofs.PairForms.{same_pair}
-use Rattle.vk_report_reader.proofs.Shown.{IsShown, shown_by}
-use Rattle.vk_abi_text.specs.Adding.{Adds, AreOrdered, Follows, IsInputOf, IsNew, Led, last_text, with_line}
+use Rattle.vk_forms.specs.Lines.{IsLineText, NoLine}
+use Rattle.vk_forms.proofs.PairForms.{lacks_none, same_pair}
+use Rattle.vk_forms.proofs.Shown.{IsShown, shown_by}
+use Rattle.vk_abi_text.specs.Adding.{Adds, AreOrdered, CountsLast, Follows, IsInputOf, IsNew, IsNext, Led, last_text, with_line}
 use Rattle.vk_abi_text.specs.Gathered.{Gathered, builders_in, deps_in, features_in, files_in, gathered, natives_in, ports_in, triplets_in, versions_in}
 use Rattle.vk_abi_text.specs.Inputs.{DepDigest, FileDigest, Input}
 use Rattle.vk_abi_text.specs.Lines.{AbiLine, builder_line, dep_line, feature_line, file_line, heading, line_text, lines_of, native_line, port_line, text_key, texts_of, triplet_line, version_line}
-use Rattle.vk_abi_text.specs.Readings.{AreAll, Ends, HaveNoSecond, IsRead, IsRefusedAt, MayStand, by_heading, by_line, line_key, ordered, text_of_lines}
+use Rattle.vk_abi_text.specs.Readings.{AreAll, Ends, HaveNoSecond, IsFirstOf, IsRead, IsRefusedAt, MayStand, by_end, by_heading, by_line, line_key, ordered, text_of_lines}
 use Rattle.vk_abi_text.specs.Rights.{IsReadable, IsReadableLine, IsRightDep, IsRightFeature, IsRightFile, IsRightInput, IsShortFile}
 use Rattle.vk_abi_text.specs.Views.{line_in}
 use Rattle.vk_abi_text.specs.declared.readers.AbiFault.{AbiFault}
@@ -92,47 +92,97 @@ led_more bytes said after last left text rest n led cut next =
       room = omega (arith, room, count, parts);
     }
 
-readable_last : (lines : List AbiLine) (x : AbiLine) → MayStand (lines ++ x ∷ []) → IsReadableLine x
+pub readable_last : (lines : List AbiLine) (x : AbiLine) → MayStand (lines ++ x ∷ []) → IsReadableLine x
 readable_last lines x stand = All-contains IsReadableLine (lines ++ x ∷ []) x stand.readable (in_back lines (x ∷ []) x (contains_first x []))
 
 not_empty : (line rest : List ℕ) → line ++ 10 ∷ rest ≡ [] → ⊥
 not_empty [] rest e = (cc)
 not_empty (x ∷ line) rest e = (cc)
 
+-- a line that may stand behind those that were read comes next
+comes_next : (bytes : List ℕ) (said : Gathered) (last left : List ℕ) (n : ℕ) (led : Led bytes said last left n) (line : AbiLine) (text : List ℕ) → line_text line ≡ text → MayStand (led.lines ++ line ∷ []) → IsNext last text said line
+comes_next bytes said last left n led line text is stand = record {
+  readable = readable_last led.lines line stand;
+  is = sym is;
+  above = subst (λ l. bytes_cmp l text ≡ Less) (sym led.last_is) (subst (λ t. bytes_cmp (last_text led.lines) t ≡ Less) is (above_last led.lines line stand.ascends));
+  new = subst (IsNew line) (sym led.all) (new_from line (gathered led.lines) (subst HaveNoSecond (gathered_more led.lines line) stand.no_second));
+}
+
 pub led_refused : (bytes : List ℕ) (said after : Gathered) (last left text rest : List ℕ) (n : ℕ) → Led bytes said last left n → left ≡ text ++ 10 ∷ rest → Lacks 10 text → Follows last text said after false → IsRefusedAt bytes n
 led_refused bytes said after last left text rest n led cut whole none =
-    by_line led.lines left led.split led.stand led.count
-    (λ line more e stand.
-    let readable = readable_last led.lines line stand in
-    let same = same_pair 10 (line_text line) text more rest (line_whole line (right_of line readable)) whole (sym (append_assoc (line_text line) (10 ∷ []) more) ∙ sym e ∙ cut) in
-    let above : bytes_cmp last text ≡ Less = subst (λ l. bytes_cmp l text ≡ Less) (sym led.last_is) (subst (λ t. bytes_cmp (last_text led.lines) t ≡ Less) same.0 (above_last led.lines line stand.ascends)) in
-    none line record {
-      readable = readable;
-      is = sym same.0;
-      above = above;
-      new = subst (IsNew line) (sym led.all) (new_from line (gathered led.lines) (subst HaveNoSecond (gathered_more led.lines line) stand.no_second));
-    })
-    (λ empty all. absurd (not_empty text rest (sym cut ∙ empty)))
+    by_line led.lines left led.split led.stand led.count unwanted (λ empty all. absurd (not_empty text rest (sym cut ∙ empty)))
+  where
+    unwanted : (line : AbiLine) → IsFirstOf line left → MayStand (led.lines ++ line ∷ []) → ⊥
+    unwanted line (inl alone) stand =
+        lacks_none 10 text rest (subst (Lacks 10) (sym alone ∙ cut) (line_whole line (right_of line (readable_last led.lines line stand))))
+    unwanted line (inr begins) stand =
+        let right = right_of line (readable_last led.lines line stand) in
+        let same = same_pair 10 (line_text line) text begins.0 rest (line_whole line right) whole (sym (append_assoc (line_text line) (10 ∷ []) begins.0) ∙ sym begins.1 ∙ cut) in
+        none line (comes_next bytes said last left n led line text same.0 stand)
 
 no_line_stands : (lines : List AbiLine) (left : List ℕ) → NoLine left → (line : AbiLine) (more : List ℕ) → left ≡ ended (line_text line) ++ more → MayStand (lines ++ line ∷ []) → ⊥
 no_line_stands lines left none line more e stand =
     let right = right_of line (readable_last lines line stand) in
     none (line_text line) more record { whole = line_whole line right; utf8 = line_utf8 line right } e
 
-pub led_unended : (bytes : List ℕ) (said : Gathered) (last left : List ℕ) (n : ℕ) → Led bytes said last left n → NoLine left → (left ≡ [] → ⊥) → IsRefusedAt bytes n
-led_unended bytes said last left n led none some = by_line led.lines left led.split led.stand led.count (no_line_stands led.lines left none) (λ empty all. some empty)
+-- last bytes are left without a line feed
+pub led_unended : (bytes : List ℕ) (said : Gathered) (last left : List ℕ) (number n : ℕ) → Led bytes said last left number → NoLine left → (left ≡ [] → ⊥) → CountsLast last left said number n → IsRefusedAt bytes n
+led_unended bytes said last left number n led none some (inl counts) =
+    let line = counts.0 in
+    let next = counts.1 in
+    let above : bytes_cmp (last_text led.lines) (line_text line) ≡ Less = subst (λ t. bytes_cmp (last_text led.lines) t ≡ Less) next.is (subst (λ l. bytes_cmp l left ≡ Less) led.last_is next.above) in
+    let stand = (stand_more led.lines led.stand led.ordered line next.readable above (subst (IsNew line) led.all next.new)).0 in
+    let before = led.count in
+    let behind = counts.2 in
+    by_end led.lines line (led.split ∙ ap (λ l. (heading ++ text_of_lines led.lines) ++ l) next.is) stand (omega (arith, before, behind))
+led_unended bytes said last left number n led none some (inr counts) =
+    by_line led.lines left led.split led.stand (counts.1 ∙ led.count) unwanted (λ empty all. some empty)
+  where
+    unwanted : (line : AbiLine) → IsFirstOf line left → MayStand (led.lines ++ line ∷ []) → ⊥
+    unwanted line (inl alone) stand = counts.0 line (comes_next bytes said last left number led line left (sym alone) stand)
+    unwanted line (inr begins) stand = no_line_stands led.lines left none line begins.0 begins.1 stand
 
-pub led_lacking : (bytes : List ℕ) (said : Gathered) (last left : List ℕ) (n : ℕ) → Led bytes said last left n → NoLine left → (AreAll said → ⊥) → IsRefusedAt bytes n
-led_lacking bytes said last left n led none lacking = by_line led.lines left led.split led.stand led.count (no_line_stands led.lines left none) (λ empty all. lacking (subst AreAll (sym led.all) all))
+-- bytes that are no line are none that comes next
+pub not_a_line : (last left : List ℕ) (said : Gathered) (number : ℕ) → (IsLineText left → ⊥) → CountsLast last left said number number
+not_a_line last left said number none = inr (
+  (λ line next. let right = right_of line next.readable in none (record { whole = subst (Lacks 10) (sym next.is) (line_whole line right); utf8 = subst IsUtf8 (sym next.is) (line_utf8 line right) })),
+  refl,
+)
+
+-- no line is empty
+pub some_line : (line : AbiLine) → line_text line ≡ [] → ⊥
+some_line (builder_line b) e = (cc)
+some_line (dep_line d) e = (cc)
+some_line (feature_line f) e = (cc)
+some_line (file_line f) e = (cc)
+some_line (native_line native) e = (cc)
+some_line (port_line p) e = (cc)
+some_line (triplet_line t digest) e = (cc)
+some_line (version_line v) e = (cc)
+
+no_more : (text more : List ℕ) → [] ≡ ended text ++ more → ⊥
+no_more [] more e = (cc)
+no_more (b ∷ text) more e = (cc)
+
+-- nothing is left, and a line lacks
+pub led_lacking : (bytes : List ℕ) (said : Gathered) (last : List ℕ) (n : ℕ) → Led bytes said last [] n → (AreAll said → ⊥) → IsRefusedAt bytes n
+led_lacking bytes said last n led lacking =
+    by_line led.lines [] led.split led.stand led.count unwanted (λ empty all. lacking (subst AreAll (sym led.all) all))
+  where
+    unwanted : (line : AbiLine) → IsFirstOf line [] → MayStand (led.lines ++ line ∷ []) → ⊥
+    unwanted line (inl alone) stand = some_line line (sym alone)
+    unwanted line (inr begins) stand = no_more (line_text line) begins.0 begins.1
 
 first_utf8 : IsUtf8 (codes "abi 2")
 first_utf8 = IsUtf8-from_ascii (codes "abi 2") (IsAscii-from_all (codes "abi 2") (All-weaker IsShown (λ c. c < 128) (λ c shown. omega (arith, shown.1)) (codes "abi 2") (shown_by (codes "abi 2") refl)))
 
-pub none_refused : (bytes : List ℕ) → NoLine bytes → IsRefusedAt bytes 1
-none_refused bytes none = by_heading refl (λ rest e. none (codes "abi 2") rest (record { whole = lacks_byte 10 (codes "abi 2") refl; utf8 = first_utf8 }) e)
+pub none_refused : (bytes : List ℕ) → NoLine bytes → (bytes ≡ codes "abi 2" → ⊥) → IsRefusedAt bytes 1
+none_refused bytes none other = by_heading refl other (λ rest e. none (codes "abi 2") rest (record { whole = lacks_byte 10 (codes "abi 2") refl; utf8 = first_utf8 }) e)
 
 pub heading_refused : (bytes line rest : List ℕ) → bytes ≡ line ++ 10 ∷ rest → Lacks 10 line → line ≢ codes "abi 2" → IsRefusedAt bytes 1
-heading_refused bytes line rest cut whole other = by_heading refl (λ more e. other (same_pair 10 line (codes "abi 2") rest more whole (lacks_byte 10 (codes "abi 2") refl) (sym cut ∙ e)).0)
+heading_refused bytes line rest cut whole other = by_heading refl
+    (λ e. lacks_none 10 line rest (subst (Lacks 10) (sym e ∙ cut) (lacks_byte 10 (codes "abi 2") refl)))
+    (λ more e. other (same_pair 10 line (codes "abi 2") rest more whole (lacks_byte 10 (codes "abi 2") refl) (sym cut ∙ e)).0)
 
 pub ends_refused : (bytes : List ℕ) (n : ℕ) (e : Unread AbiFault) → IfSome (fault_in e) (λ fault. line_in fault ≡ n) → IsRefusedAt bytes n → Ends bytes (Err e)
 ends_refused bytes n (unread.Fault fault) is at = subst (IsRefusedAt bytes) (sym is) at
@@ -258,10 +308,10 @@ module _ (lines : List AbiLine) (stand : MayStand lines) (order : AreOrdered (ga
     deps = order_itself (λ d. line_key (dep_line d)) i.deps (subst (Ascends (λ d. line_key (dep_line d))) is.deps order.deps) k;
   }
 
-pub led_read : (bytes : List ℕ) (said : Gathered) (last left : List ℕ) (n : ℕ) (i : Input) → Led bytes said last left n → left ≡ [] → IsInputOf said i → IsRead bytes i
-led_read bytes said last left n i led empty is =
+pub led_read : (bytes : List ℕ) (said : Gathered) (last : List ℕ) (n : ℕ) (i : Input) → Led bytes said last [] n → IsInputOf said i → IsRead bytes i
+led_read bytes said last n i led is =
     let here = subst (λ g. IsInputOf g i) led.all is in record {
-      text = led.split ∙ ap (λ l. (heading ++ text_of_lines led.lines) ++ l) empty ∙ append-nil (heading ++ text_of_lines led.lines) ∙ ap (λ l. heading ++ l) (text_is led.lines led.stand led.ordered i here);
+      text = led.split ∙ append-nil (heading ++ text_of_lines led.lines) ∙ ap (λ l. heading ++ l) (text_is led.lines led.stand led.ordered i here);
       right = right led.lines led.stand led.ordered i here;
       readable = readable led.lines led.stand led.ordered i here;
       ordered = order_is led.lines led.stand led.ordered i here;

@@ -9,7 +9,7 @@ use Rattle.vk_resolution.specs.Lines.{ended}
 use Rattle.vk_resolution.proofs.Members.{contains_map, contains_single, map_contains}
 use Rattle.vk_resolution.proofs.Orders.{contains-in_order, in_order-contains}
 use Rattle.vk_spec.proofs.ListLemmas.{contains_first, contains_later}
-use Rattle.vk_report_reader.proofs.PairForms.{same_pair}
+use Rattle.vk_forms.proofs.PairForms.{same_pair}
 use Rattle.vk_abi_text.specs.Inputs.{DepDigest, FileDigest, Input}
 use Rattle.vk_abi_text.specs.Lines.{AbiLine, abi_text_of, builder_line, dep_line, feature_line, file_line, heading, line_text, lines_of, native_line, port_line, text_key, texts_of, triplet_line, version_line}
 use Rattle.vk_abi_text.specs.Gathered.{builders_in, deps_in, features_in, files_in, natives_in, ports_in, triplets_in, versions_in}

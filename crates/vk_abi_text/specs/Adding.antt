@@ -1,5 +1,5 @@
 -- How what lines say is gathered line by line.
-use Rattle.std.specs.Prelude.{◌≡◌, ◌≢◌, ◌<◌, ◌+◌, ◌^◌, ◌++◌, ℕ, Bool, true, false, List, [], ◌∷◌, length, map, option_to_list, Option, Some, None}
+use Rattle.std.specs.Prelude.{◌≡◌, ◌≢◌, ◌⊎◌, ◌<◌, ◌+◌, ◌^◌, ◌++◌, ℕ, Bool, true, false, List, [], ◌∷◌, length, map, option_to_list, Option, Some, None}
 use Rattle.std.specs.Cmp.Lexicographic.{slice_cmp}
 use Rattle.std.specs.Ordering.{nat_cmp}
 use Rattle.std.specs.declared.cmp.Ordering.TheVariants.{Less}
@@ -115,6 +115,11 @@ pub record IsNext (last text : List ℕ) (said : Gathered) (line : AbiLine) : Ty
 abbrev pub Follows : List ℕ → List ℕ → Gathered → Gathered → Bool → Type 0
 Follows last text before after true = (line : AbiLine) × (IsNext last text before line × (after ≡ with_line line before))
 Follows last text before after false = (line : AbiLine) → IsNext last text before line → ⊥
+
+-- which line is refused where last bytes lack their line feed: the one behind them where they are a line that comes next, else they
+abbrev pub CountsLast : List ℕ → List ℕ → Gathered → ℕ → ℕ → Type 0
+CountsLast last left said number n =
+    ((line : AbiLine) × IsNext last left said line × (n ≡ number + 1)) ⊎ (((line : AbiLine) → IsNext last left said line → ⊥) × (n ≡ number))
 
 -- the input that was gathered, where nothing lacks
 pub record IsInputOf (said : Gathered) (i : Input) : Type 0 where

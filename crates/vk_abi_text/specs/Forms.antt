@@ -10,11 +10,11 @@ use Rattle.vk_version.specs.Schemes.{Scheme}
 use Rattle.vk_digest.specs.declared.Digest.{Digest}
 use Rattle.vk_model.specs.BuilderTexts.{reads_builder_text}
 use Rattle.vk_model.specs.declared.builders.Builder.{Builder}
-use Rattle.vk_report_reader.specs.Choices.{either_plain}
-use Rattle.vk_report_reader.specs.declared.choices.Either.{Either}
-use Rattle.vk_report_reader.specs.declared.choices.Either.TheVariants as either
-use Rattle.vk_report_reader.specs.Forms.{pair_plain}
-use Rattle.vk_report_reader.specs.Texts.{IsText}
+use Rattle.vk_forms.specs.Choices.{either_plain}
+use Rattle.vk_forms.specs.declared.choices.Either.{Either}
+use Rattle.vk_forms.specs.declared.choices.Either.TheVariants as either
+use Rattle.vk_forms.specs.Forms.{pair_plain}
+use Rattle.vk_forms.specs.Texts.{IsText}
 use Rattle.vk_abi_text.specs.Inputs as said
 use Rattle.vk_abi_text.specs.Lines.{AbiLine, builder_line, dep_line, feature_line, file_line, native_line, port_line, triplet_line, version_line}
 use Rattle.vk_abi_text.specs.Parts.{LineParts}

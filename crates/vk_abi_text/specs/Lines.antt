@@ -56,9 +56,12 @@ text_key text = text ∷ []
 abbrev pub texts_of : Input → List (List ℕ)
 texts_of i = in_order text_key (map line_text (lines_of i))
 
--- the first line
+-- the first line, and with its end
+abbrev pub first_text : List ℕ
+first_text = codes "abi 2"
+
 abbrev pub heading : List ℕ
-heading = ended (codes "abi 2")
+heading = ended first_text
 
 abbrev pub abi_text_of : Input → List ℕ
 abi_text_of i = heading ++ flat_map ended (texts_of i)

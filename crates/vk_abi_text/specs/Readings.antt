@@ -1,5 +1,5 @@
 -- Which bytes are the ABI text of which input, and which line breaks every other text.
-use Rattle.std.specs.Prelude.{◌≡◌, ◌≢◌, ◌≤◌, ◌+◌, ◌++◌, ℕ, List, [], ◌∷◌, length, map, flat_map, Result, Ok, Err}
+use Rattle.std.specs.Prelude.{◌≡◌, ◌≢◌, ◌⊎◌, ◌≤◌, ◌+◌, ◌++◌, ℕ, List, [], ◌∷◌, length, map, flat_map, Result, Ok, Err}
 use Rattle.std.specs.List.{All, Contains}
 use Rattle.vk_spec.specs.Manifests.{core}
 use Rattle.vk_spec.specs.Lists.{NoRepeats}
@@ -9,7 +9,7 @@ use Rattle.vk_resolution.specs.Keys.{Ascends, Key, in_order}
 use Rattle.vk_resolution.specs.Lines.{ended}
 use Rattle.vk_abi_text.specs.Gathered.{Gathered, gathered}
 use Rattle.vk_abi_text.specs.Inputs.{Input}
-use Rattle.vk_abi_text.specs.Lines.{AbiLine, abi_text_of, dep_line, feature_line, file_line, heading, line_text, text_key}
+use Rattle.vk_abi_text.specs.Lines.{AbiLine, abi_text_of, dep_line, feature_line, file_line, first_text, heading, line_text, text_key}
 use Rattle.vk_abi_text.specs.Rights.{IsReadable, IsReadableLine, IsRightInput}
 use Rattle.vk_abi_text.specs.Views.{input_view, line_in}
 use Rattle.vk_abi_text.specs.declared.inputs.AbiInput.{AbiInput}
@@ -70,14 +70,22 @@ pub record AreAll (said : Gathered) : Type 0 where
 abbrev pub text_of_lines : List AbiLine → List ℕ
 text_of_lines lines = flat_map (λ l. ended (line_text l)) lines
 
--- the first line of the bytes, counted from 1, that breaks the rules; it is the one behind the last where a line lacks or the end of the last
+-- the bytes begin with this line, or are it without its end
+abbrev pub IsFirstOf : AbiLine → List ℕ → Type 0
+IsFirstOf line bytes = (bytes ≡ line_text line) ⊎ ((more : List ℕ) × (bytes ≡ ended (line_text line) ++ more))
+
+-- the first line of the bytes, counted from 1, that breaks the rules, where last bytes without a line feed are a line; it is the one behind the last where a line lacks or the end of the last
 pub data IsRefusedAt (bytes : List ℕ) (n : ℕ) : Type 0 where
   -- the bytes don't begin with the first line
-  by_heading : n ≡ 1 → ((rest : List ℕ) → bytes ≡ heading ++ rest → ⊥) → IsRefusedAt bytes n
+  by_heading : n ≡ 1 → (bytes ≡ first_text → ⊥) → ((rest : List ℕ) → bytes ≡ heading ++ rest → ⊥) → IsRefusedAt bytes n
+  -- they are the first line, which lacks its end
+  by_heading_end : n ≡ 2 → bytes ≡ first_text → IsRefusedAt bytes n
   -- these lines may stand there, and none that may stand behind them follows; where nothing follows, one of them lacks
   by_line : (lines : List AbiLine) (left : List ℕ) → bytes ≡ heading ++ text_of_lines lines ++ left → MayStand lines → n ≡ length lines + 2
-      → ((line : AbiLine) (more : List ℕ) → left ≡ ended (line_text line) ++ more → MayStand (lines ++ line ∷ []) → ⊥)
+      → ((line : AbiLine) → IsFirstOf line left → MayStand (lines ++ line ∷ []) → ⊥)
       → (left ≡ [] → AreAll (gathered lines) → ⊥) → IsRefusedAt bytes n
+  -- all lines may stand there, and the last one lacks its end
+  by_end : (lines : List AbiLine) (last : AbiLine) → bytes ≡ heading ++ text_of_lines lines ++ line_text last → MayStand (lines ++ last ∷ []) → n ≡ length lines + 3 → IsRefusedAt bytes n
 
 -- what reading answers
 abbrev pub Reading : Type 0

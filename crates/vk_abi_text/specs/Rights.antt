@@ -12,7 +12,7 @@ use Rattle.vk_base.specs.Tokens.{IsByte}
 use Rattle.vk_version.specs.Readings.{IsVersion}
 use Rattle.vk_model.specs.BuilderTexts.{reads_builder_text}
 use Rattle.vk_model.specs.declared.builders.Builder.{Builder}
-use Rattle.vk_report_reader.specs.Names.{IsRightInstance}
+use Rattle.vk_forms.specs.Names.{IsRightInstance}
 use Rattle.vk_abi_text.specs.Inputs.{DepDigest, FileDigest, Input}
 use Rattle.vk_abi_text.specs.Lines.{AbiLine, builder_line, dep_line, feature_line, file_line, native_line, port_line, triplet_line, version_line}
 

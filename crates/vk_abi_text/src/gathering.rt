@@ -14,8 +14,8 @@ use std::cmp::Ordering;
 use vk_base::{FeatureName, Instance, List, Memory, PortName, TreePath, TripletName};
 use vk_digest::Digest;
 use vk_folder::FileDigest;
+use vk_forms::Form;
 use vk_model::Builder;
-use vk_report_reader::Form;
 use vk_version::Version;
 
 /// What the lines so far say.

@@ -12,8 +12,8 @@ use std::alloc::Global;
 use vk_base::{FeatureName, Memory, PortName, TripletName};
 use vk_digest::Digest;
 use vk_folder::FileDigest;
+use vk_forms::{Either, Form, Or, Port, Then, Word};
 use vk_model::Builder;
-use vk_report_reader::{Either, Form, Or, Port, Then, Word};
 use vk_version::Version;
 
 /// What a line says.

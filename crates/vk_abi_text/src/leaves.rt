@@ -7,7 +7,7 @@ ghost use Rattle.vk_base.specs.Names.{IsName, word_rule};
 ghost use Rattle.vk_base.specs.Tokens.{token_of};
 ghost use Rattle.vk_version.specs.ClassWords.{class_word};
 ghost use Rattle.vk_version.specs.Views.{class_view, scheme_view};
-ghost use Rattle.vk_report_reader.specs.Forms.{FindsOrNot};
+ghost use Rattle.vk_forms.specs.Forms.{FindsOrNot};
 ghost use Rattle.vk_abi_text.specs.Forms.{IsBuilderText, ReadsVersion, digest_bytes, scheme_of};
 ghost use Rattle.vk_abi_text.specs.Lines.{native_line, version_line, yes_or_no};
 ghost use Rattle.vk_abi_text.specs.Parts.{version_text};
@@ -16,8 +16,8 @@ ghost use Rattle.vk_abi_text.specs.Rights.{IsDigest, IsReadableLine, IsRightFeat
 use std::alloc::Global;
 use vk_base::{AgentName, FeatureName, Memory, Text, Unread};
 use vk_digest::Digest;
+use vk_forms::{Feature, Form, Number, Then, TokenText};
 use vk_model::BuilderText;
-use vk_report_reader::{Feature, Form, Number, Then, TokenText};
 use vk_version::laws::semantic_is_relaxed;
 use vk_version::{Class, Scheme, Version, read};
 

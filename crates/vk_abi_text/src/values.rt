@@ -14,8 +14,8 @@ use std::alloc::Global;
 use vk_base::{Instance, Memory, PortName, TripletName};
 use vk_digest::Digest;
 use vk_folder::FileDigest;
+use vk_forms::{Form, Port, ShortPath, Then, Triplet};
 use vk_model::Builder;
-use vk_report_reader::{Form, Port, ShortPath, Then, Triplet};
 
 /// A builder.
 #[derive(Drop)]

@@ -7,8 +7,8 @@ use Rattle.hex.specs.Hex.{IsBytes, decode_of, encode_lower, encode_with, lower_d
 use Rattle.hex.proofs.HexLemmas.{decode_of-encode_lower, decode_of-same}
 use Rattle.vk_base.specs.Tokens.{IsPlain, is_escaped, token_byte, token_of}
 use Rattle.vk_base.proofs.PathLemmas.{both}
-use Rattle.vk_report_reader.specs.Forms.{TellsApart}
-use Rattle.vk_report_reader.proofs.WordForms.{plain_from}
+use Rattle.vk_forms.specs.Forms.{TellsApart}
+use Rattle.vk_forms.proofs.WordForms.{plain_from}
 use Rattle.vk_entry.specs.ContentLists.{IsDigest}
 
 -- no byte of a text is escaped

@@ -14,14 +14,14 @@ use Rattle.vk_base.specs.Printed.{path_text}
 use Rattle.vk_base.specs.Tokens.{IsPlain}
 use Rattle.vk_base.proofs.PathLemmas.{lacks_byte}
 use Rattle.vk_base.proofs.TokenLemmas.{token_plain}
-use Rattle.vk_report_reader.specs.Forms.{ReadsAs, TellsApart, pair_text, IsRightPair}
-use Rattle.vk_report_reader.specs.Paths.{IsRightPath}
-use Rattle.vk_report_reader.specs.Places.{Any}
-use Rattle.vk_report_reader.proofs.Apart.{either_apart, pair_apart, path_apart, word_apart}
-use Rattle.vk_report_reader.proofs.PathForms.{path_blank}
-use Rattle.vk_report_reader.proofs.Shown.{AreShown, IsShown, either_shown, pair_shown, shown_from, word}
-use Rattle.vk_report_reader.proofs.Through.{AreParts, parts_apart, parts_hold}
-use Rattle.vk_report_reader.proofs.WordForms.{plain_blank}
+use Rattle.vk_forms.specs.Forms.{ReadsAs, TellsApart, pair_text, IsRightPair}
+use Rattle.vk_forms.specs.Paths.{IsRightPath}
+use Rattle.vk_forms.specs.Words.{Any}
+use Rattle.vk_forms.proofs.Apart.{either_apart, pair_apart, path_apart, word_apart}
+use Rattle.vk_forms.proofs.PathForms.{path_blank}
+use Rattle.vk_forms.proofs.Shown.{AreShown, IsShown, either_shown, pair_shown, shown_from, word}
+use Rattle.vk_forms.proofs.Through.{AreParts, parts_apart, parts_hold}
+use Rattle.vk_forms.proofs.WordForms.{plain_blank}
 use Rattle.vk_entry.specs.Packages.{IsPackagePath}
 use Rattle.vk_entry.specs.Contents.{Content, content_text}
 use Rattle.vk_entry.specs.ContentLists.{HasForm, IsContent, IsDigest, IsListedPath, IsSize}

@@ -7,8 +7,8 @@ use Rattle.std.proofs.lemmas.List.Elements.{All-nil, All-cons, All-head, All-tai
 use Rattle.vk_base.specs.Paths.{Lacks}
 use Rattle.vk_base.proofs.PathLemmas.{lacks_byte}
 use Rattle.vk_resolution.specs.Lines.{ended}
-use Rattle.vk_report_reader.proofs.PairForms.{lacks_none, same_pair}
-use Rattle.vk_report_reader.proofs.ReportForms.{ended_line}
+use Rattle.vk_forms.proofs.PairForms.{lacks_none, same_pair}
+use Rattle.vk_forms.proofs.LineLemmas.{ended_line}
 use Rattle.vk_entry.specs.Contents.{Content, content_text, contents_text, opening}
 use Rattle.vk_entry.specs.ContentLists.{Ascend, AreBefore, AreContents, BeginsWith, HasForm, IsContent, IsList, IsRefused, lines_before}
 use Rattle.vk_base.specs.declared.stops.Unread.TheVariants as unread

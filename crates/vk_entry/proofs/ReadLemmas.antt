@@ -8,8 +8,8 @@ use Rattle.vk_base.specs.Paths.{Lacks}
 use Rattle.vk_base.specs.declared.stops.Unread.{Unread}
 use Rattle.vk_base.specs.declared.stops.Unread.TheVariants as unread
 use Rattle.vk_resolution.specs.Lines.{ended}
-use Rattle.vk_report_reader.specs.Forms.{ReadsAs}
-use Rattle.vk_report_reader.proofs.ReportForms.{ended_line}
+use Rattle.vk_forms.specs.Forms.{ReadsAs}
+use Rattle.vk_forms.proofs.LineLemmas.{ended_line}
 use Rattle.vk_entry.specs.Contents.{Content, content_text, contents_text, opening}
 use Rattle.vk_entry.specs.ContentViews.{content_view}
 use Rattle.vk_entry.specs.ContentLists.{AreContents, HasForm, HasWrongLine, IsContent, IsRefused}

@@ -9,7 +9,7 @@ use Rattle.hex.specs.Hex.{IsBytes}
 use Rattle.vk_spec.specs.Paths.{Path}
 use Rattle.vk_base.specs.Paths.{Lacks, text_of_path}
 use Rattle.vk_resolution.specs.Lines.{ended}
-use Rattle.vk_report_reader.specs.Paths.{IsRightPath}
+use Rattle.vk_forms.specs.Paths.{IsRightPath}
 use Rattle.vk_entry.specs.Packages.{File, IsPackagePath}
 use Rattle.vk_entry.specs.Contents.{Content, content_text, contents_text, opening}
 use Rattle.vk_entry.specs.declared.reading.EntryFault.{EntryFault}

@@ -6,9 +6,9 @@ use Rattle.vk_base.specs.declared.stops.Unread.{Unread}
 use Rattle.vk_base.specs.declared.stops.Unread.TheVariants as unread
 use Rattle.vk_digest.specs.declared.Digest.{Digest}
 use Rattle.vk_resolution.specs.Lines.{ended}
-use Rattle.vk_report_reader.specs.Choices.{either_text, IsRightEither}
-use Rattle.vk_report_reader.specs.Forms.{pair_plain}
-use Rattle.vk_report_reader.specs.Places.{Any}
+use Rattle.vk_forms.specs.Choices.{either_text, IsRightEither}
+use Rattle.vk_forms.specs.Forms.{pair_plain}
+use Rattle.vk_forms.specs.Words.{Any}
 use Rattle.vk_entry.specs.Contents.{Content, content_text, opening}
 use Rattle.vk_entry.specs.ContentLists.{Ascend, AreContents, HasForm, IsContent}
 use Rattle.vk_entry.specs.Answers.{Reading}

@@ -7,7 +7,7 @@ use std::alloc::Global;
 use std::fmt;
 use vk_base::{Memory, TokenOf};
 use vk_digest::Digest;
-use vk_report_reader::Form;
+use vk_forms::Form;
 
 /// A digest that is printed as its text, which takes no memory.
 #[derive(Clone, Copy)]

@@ -3,8 +3,8 @@ ghost use Rattle.std.specs.Prelude.{◌≡◌, IfOk, ℕ, option_map};
 ghost use Rattle.std.specs.Fmt.{decimal};
 ghost use Rattle.vk_spec.specs.Paths.{Path};
 ghost use Rattle.vk_base.specs.Printed.{path_text};
-ghost use Rattle.vk_report_reader.specs.Choices.{either_plain};
-ghost use Rattle.vk_report_reader.specs.Forms.{ReadsAs};
+ghost use Rattle.vk_forms.specs.Choices.{either_plain};
+ghost use Rattle.vk_forms.specs.Forms.{ReadsAs};
 ghost use Rattle.vk_entry.specs.Contents as plain;
 ghost use Rattle.vk_entry.specs.Contents.{content_text};
 ghost use Rattle.vk_entry.specs.ContentViews.{content_view};
@@ -17,7 +17,7 @@ use crate::packages::is_package_path;
 use std::alloc::Global;
 use vk_base::{Memory, TreePath, read_u64};
 use vk_digest::Digest;
-use vk_report_reader::{Either, Form, Or, ShortPath, Then, Word};
+use vk_forms::{Either, Form, Or, ShortPath, Then, Word};
 
 // A path that a package's files may have.
 #[derive(Drop)]

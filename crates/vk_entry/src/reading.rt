@@ -12,7 +12,7 @@ use crate::lines::read_line;
 use std::alloc::Global;
 use std::cmp::Ordering;
 use vk_base::{List, Memory, Unread};
-use vk_report_reader::Either;
+use vk_forms::{Either, cut_line};
 
 /// Why bytes are no contents list.
 #[derive(Clone, Copy, Debug, PartialEq, Eq, Drop)]
@@ -25,15 +25,6 @@ pub enum EntryFault {
     /// The lines are right, but the last one is missing or lacks its line feed, or something
     /// follows it.
     End,
-}
-
-// What stands before the first line feed, and what behind it; `None` where there is none.
-fn cut_line(bytes: &[u8]) -> Option<(&[u8], &[u8])>
-    ensures { MatchOption result (Lacks 10 bytes.now)
-        (λ p. (bytes.now ≡ p.0.now ++ 10 ∷ p.1.now) × Lacks 10 p.0.now) }
-{
-    let end = bytes.iter().position(|b| *b == b'\n')?;
-    Some((&bytes[..end], &bytes[end + 1..]))
 }
 
 fn is_heading(line: &[u8]) -> bool

@@ -16,33 +16,35 @@ use Rattle.vk_resolution.specs.Consequences.{Cause}
 use Rattle.vk_resolution.specs.Faults.{Fault, conflicts, differs, has_cycle, isnt_supported, lacks_baseline, lacks_feature, lacks_registry, lacks_version, troubled, unreadable}
 use Rattle.vk_resolution.specs.Lines.{cause_text, fault_line, item_text, reason_text, version_or_none}
 use Rattle.vk_resolution.specs.Reasons.{Reason}
-use Rattle.vk_report_reader.specs.Causes.{Cited, IsFloorCause, IsLine, IsNeedCause, IsVisitCause}
-use Rattle.vk_report_reader.specs.Choices.{either_text, IsRightEither}
+use Rattle.vk_forms.specs.Lines.{IsLine}
+use Rattle.vk_report_reader.specs.Causes.{Cited, IsFloorCause, IsNeedCause, IsVisitCause}
+use Rattle.vk_forms.specs.Choices.{either_text, IsRightEither}
 use Rattle.vk_report_reader.specs.Cycles.{CycleParts, IsWalk, walk_text}
 use Rattle.vk_report_reader.specs.Earlies.{EarlyParts, FileParts, FolderParts, IsRightEarly}
-use Rattle.vk_report_reader.specs.Faults.{IsBadFile, IsConflict, IsCycle, IsDisagrees, IsNoBaseline, IsNoFeature, IsNoRegistry, IsNoVersion, IsRightAnd, IsRightFault, IsUnsupported, IsWord}
-use Rattle.vk_report_reader.specs.Features.{AreFeatures}
-use Rattle.vk_report_reader.specs.Forms.{TellsApart, pair_text, IsRightPair}
+use Rattle.vk_forms.specs.Words.{IsWord}
+use Rattle.vk_report_reader.specs.Faults.{IsBadFile, IsConflict, IsCycle, IsDisagrees, IsNoBaseline, IsNoFeature, IsNoRegistry, IsNoVersion, IsRightAnd, IsRightFault, IsUnsupported}
+use Rattle.vk_forms.specs.Features.{AreFeatures}
+use Rattle.vk_forms.specs.Forms.{TellsApart, pair_text, IsRightPair}
 use Rattle.vk_report_reader.specs.Items.{IsRightItem}
-use Rattle.vk_report_reader.specs.Names.{IsPortIfAny, port_or_root}
-use Rattle.vk_report_reader.specs.Paths.{IsPlace, IsRightPath}
-use Rattle.vk_report_reader.specs.Places.{Any}
+use Rattle.vk_forms.specs.Names.{IsPortIfAny, port_or_root}
+use Rattle.vk_forms.specs.Paths.{IsPlace, IsRightPath}
+use Rattle.vk_forms.specs.Words.{Any}
 use Rattle.vk_report_reader.specs.Reasons.{IsFloorReason, IsNeedReason, IsRightReason, IsVisitReason}
-use Rattle.vk_report_reader.specs.Texts.{IsText}
-use Rattle.vk_report_reader.specs.Versions.{IsRightAsk, IsRightIfAny, IsRightVersion}
-use Rattle.vk_report_reader.proofs.Apart.{AreOthers, ask_apart, either_apart, features_apart, field_apart, if_any_apart, name_apart, number_apart, pair_apart, path_apart, place_apart, port_apart, text_apart, version_apart, word_apart}
+use Rattle.vk_forms.specs.Texts.{IsText}
+use Rattle.vk_forms.specs.Versions.{IsRightAsk, IsRightIfAny, IsRightVersion}
+use Rattle.vk_forms.proofs.Apart.{AreOthers, ask_apart, either_apart, features_apart, field_apart, if_any_apart, name_apart, number_apart, pair_apart, path_apart, place_apart, port_apart, text_apart, version_apart, word_apart}
 use Rattle.vk_report_reader.proofs.CauseForms.{IsCited, cited_text}
 use Rattle.vk_report_reader.proofs.CauseForms as causes
 use Rattle.vk_report_reader.proofs.CycleForms.{AreCycleParts, cycle_parts_are, cycle_text, walk_apart}
 use Rattle.vk_report_reader.proofs.EarlyForms.{AreEarlyParts, IsBlockedLine, IsFileLine, IsFolderLine, IsOverlapLine, IsTripletLine, blocked_text, early_text, early_words_are, file_text, folder_text, overlap_text, triplet_text}
 use Rattle.vk_report_reader.proofs.FaultForms as faults
-use Rattle.vk_report_reader.proofs.Heads.{AreKinds, IsHeaded, OneOf, heads_clash, is_among, line_headed, one_kind, one_more, one_or, parts_headed, same_bytes, word_headed, word_kind}
+use Rattle.vk_forms.proofs.Heads.{AreKinds, IsHeaded, OneOf, heads_clash, is_among, line_headed, one_kind, one_more, one_or, parts_headed, same_bytes, word_headed, word_kind}
 use Rattle.vk_report_reader.proofs.ItemForms.{item_parts_are}
-use Rattle.vk_report_reader.proofs.PairForms.{lacks_none, same_pair}
+use Rattle.vk_forms.proofs.PairForms.{lacks_none, same_pair}
 use Rattle.vk_report_reader.proofs.ReasonForms as reasons
-use Rattle.vk_report_reader.proofs.Through.{AreParts, parts_apart}
-use Rattle.vk_report_reader.proofs.PathForms.{path_blank, place_blank}
-use Rattle.vk_report_reader.proofs.WordForms.{plain_blank, word_plain}
+use Rattle.vk_forms.proofs.Through.{AreParts, parts_apart}
+use Rattle.vk_forms.proofs.PathForms.{path_blank, place_blank}
+use Rattle.vk_forms.proofs.WordForms.{plain_blank, word_plain}
 
 -- ---- causes
 

@@ -4,12 +4,13 @@ use Rattle.std.specs.Prelude.{decimal}
 use Rattle.vk_base.proofs.PathLemmas.{lacks_byte}
 use Rattle.vk_resolution.specs.Consequences.{Cause, by_root, by_baseline, by_override, by_overlay, by_minimum, by_one, by_two}
 use Rattle.vk_resolution.specs.Lines.{cause_text}
-use Rattle.vk_report_reader.specs.Choices.{either_text, IsRightEither}
-use Rattle.vk_report_reader.specs.Forms.{pair_text, IsRightPair}
-use Rattle.vk_report_reader.specs.Causes.{Cited, IsLine, IsNeedCause, IsFloorCause, IsVisitCause, need_cause, floor_cause, visit_cause}
-use Rattle.vk_report_reader.specs.Places.{Any}
-use Rattle.vk_report_reader.proofs.Numbers.{decimal_lacks}
-use Rattle.vk_report_reader.proofs.Through.{AreParts}
+use Rattle.vk_forms.specs.Choices.{either_text, IsRightEither}
+use Rattle.vk_forms.specs.Forms.{pair_text, IsRightPair}
+use Rattle.vk_forms.specs.Lines.{IsLine}
+use Rattle.vk_report_reader.specs.Causes.{Cited, IsNeedCause, IsFloorCause, IsVisitCause, need_cause, floor_cause, visit_cause}
+use Rattle.vk_forms.specs.Words.{Any}
+use Rattle.vk_forms.proofs.Numbers.{decimal_lacks}
+use Rattle.vk_forms.proofs.Through.{AreParts}
 
 abbrev pub cited_text : List ℕ → Cited → List ℕ
 cited_text word = pair_text 32 (λ u. word) decimal

@@ -13,16 +13,16 @@ use Rattle.vk_base.proofs.PathLemmas.{lacks_byte}
 use Rattle.vk_resolution.specs.Settings.{inst}
 use Rattle.vk_resolution.specs.Faults.{Fault, conflicts, differs, has_cycle, isnt_supported, lacks_baseline, lacks_feature, lacks_registry, lacks_version, troubled, unreadable}
 use Rattle.vk_resolution.specs.Lines.{fault_line, who_text}
-use Rattle.vk_report_reader.specs.Choices.{either_text, IsRightEither}
+use Rattle.vk_forms.specs.Choices.{either_text, IsRightEither}
 use Rattle.vk_report_reader.specs.Cycles.{CycleParts, IsWalk, cycle_fault, walk_text}
 use Rattle.vk_report_reader.specs.Faults.{IsCycle, IsRightAnd, IsRightFault}
-use Rattle.vk_report_reader.specs.Forms.{ReadsAs, pair_text, IsRightPair}
-use Rattle.vk_report_reader.specs.Names.{IsRightInstance, instance_of}
-use Rattle.vk_report_reader.specs.Places.{Any}
-use Rattle.vk_report_reader.proofs.NameForms.{name_lacks, name_token}
-use Rattle.vk_report_reader.proofs.PairForms.{lacks_none, same_pair}
+use Rattle.vk_forms.specs.Forms.{ReadsAs, pair_text, IsRightPair}
+use Rattle.vk_forms.specs.Names.{IsRightInstance, instance_of}
+use Rattle.vk_forms.specs.Words.{Any}
+use Rattle.vk_forms.proofs.NameForms.{name_lacks, name_token}
+use Rattle.vk_forms.proofs.PairForms.{lacks_none, same_pair}
 use Rattle.vk_report_reader.proofs.Spaced.{spaced2}
-use Rattle.vk_report_reader.proofs.Through.{AreParts}
+use Rattle.vk_forms.proofs.Through.{AreParts}
 
 -- an instance and more, or the last instance
 abbrev pub Next : Type 0

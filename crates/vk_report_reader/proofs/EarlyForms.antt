@@ -9,15 +9,15 @@ use Rattle.vk_base.proofs.PathLemmas.{lacks_byte}
 use Rattle.vk_json.specs.Places.{place_text}
 use Rattle.vk_json.specs.Words.{HasSmallNumber, word_of}
 use Rattle.vk_model.specs.Lines.{early_line}
-use Rattle.vk_report_reader.specs.Choices.{either_text, IsRightEither}
+use Rattle.vk_forms.specs.Choices.{either_text, IsRightEither}
 use Rattle.vk_report_reader.specs.Earlies.{EarlyParts, FileParts, FolderParts, IsRightEarly, early_from, early_of}
-use Rattle.vk_report_reader.specs.Faults.{IsWord}
-use Rattle.vk_report_reader.specs.Forms.{pair_text, IsRightPair}
-use Rattle.vk_report_reader.specs.Paths.{IsPlace, IsRightPath}
-use Rattle.vk_report_reader.specs.Places.{Any}
-use Rattle.vk_report_reader.proofs.PathForms.{path_blank, place_blank}
+use Rattle.vk_forms.specs.Words.{IsWord}
+use Rattle.vk_forms.specs.Forms.{pair_text, IsRightPair}
+use Rattle.vk_forms.specs.Paths.{IsPlace, IsRightPath}
+use Rattle.vk_forms.specs.Words.{Any}
+use Rattle.vk_forms.proofs.PathForms.{path_blank, place_blank}
 use Rattle.vk_report_reader.proofs.Spaced.{spaced2, spaced3}
-use Rattle.vk_report_reader.proofs.Through.{AreParts}
+use Rattle.vk_forms.proofs.Through.{AreParts}
 
 abbrev pub triplet_text : Unit {0} × List ℕ → List ℕ
 triplet_text = pair_text 32 (λ u. codes "no-triplet") token_of

@@ -16,22 +16,22 @@ use Rattle.vk_json.specs.declared.faults.Why.{Why}
 use Rattle.vk_resolution.specs.Settings.{Who, root, inst}
 use Rattle.vk_resolution.specs.Faults.{Fault, conflicts, differs, has_cycle, isnt_supported, lacks_baseline, lacks_feature, lacks_registry, lacks_version, troubled, unreadable}
 use Rattle.vk_resolution.specs.Lines.{fault_line, version_or_none}
-use Rattle.vk_report_reader.specs.Causes.{IsLine}
-use Rattle.vk_report_reader.specs.Forms.{pair_text, IsRightPair}
-use Rattle.vk_report_reader.specs.Names.{IsPortIfAny, IsRightWho, port_or_root, who_of}
-use Rattle.vk_report_reader.specs.Paths.{IsPlace, IsRightPath}
-use Rattle.vk_report_reader.specs.Texts.{IsText}
-use Rattle.vk_report_reader.specs.Versions.{IsRightAsk, IsRightIfAny, IsRightVersion}
+use Rattle.vk_forms.specs.Lines.{IsLine}
+use Rattle.vk_forms.specs.Forms.{pair_text, IsRightPair}
+use Rattle.vk_forms.specs.Names.{IsPortIfAny, IsRightWho, port_or_root, who_of}
+use Rattle.vk_forms.specs.Paths.{IsPlace, IsRightPath}
+use Rattle.vk_forms.specs.Texts.{IsText}
+use Rattle.vk_forms.specs.Versions.{IsRightAsk, IsRightIfAny, IsRightVersion}
 use Rattle.vk_report_reader.specs.Faults.{BadFileParts, ConflictParts, DisagreesParts, IsBadFile, IsConflict, IsDisagrees, IsNoBaseline, IsNoFeature, IsNoRegistry, IsNoVersion, IsRightAnd, IsRightFault, IsUnsupported, NoBaselineParts, NoFeatureParts, NoRegistryParts, NoVersionParts, UnsupportedParts, bad_file_fault, conflict_fault, disagrees_fault, no_baseline_fault, no_feature_fault, no_registry_fault, no_version_fault, unsupported_fault}
-use Rattle.vk_report_reader.specs.Places.{Any}
-use Rattle.vk_report_reader.proofs.NameForms.{name_lacks}
-use Rattle.vk_report_reader.proofs.Numbers.{decimal_lacks}
-use Rattle.vk_report_reader.proofs.PathForms.{path_blank, place_blank}
+use Rattle.vk_forms.specs.Words.{Any}
+use Rattle.vk_forms.proofs.NameForms.{name_lacks}
+use Rattle.vk_forms.proofs.Numbers.{decimal_lacks}
+use Rattle.vk_forms.proofs.PathForms.{path_blank, place_blank}
 use Rattle.vk_report_reader.proofs.Spaced.{spaced2, spaced3, spaced4}
-use Rattle.vk_report_reader.proofs.TextForms.{text_blank}
-use Rattle.vk_report_reader.proofs.Through.{AreParts}
-use Rattle.vk_report_reader.proofs.VersionForms.{version_blank}
-use Rattle.vk_report_reader.proofs.WordForms.{field_plain, plain_blank, why_blank}
+use Rattle.vk_forms.proofs.TextForms.{text_blank}
+use Rattle.vk_forms.proofs.Through.{AreParts}
+use Rattle.vk_forms.proofs.VersionForms.{version_blank}
+use Rattle.vk_forms.proofs.WordForms.{field_plain, plain_blank, why_blank}
 
 if_any_blank : (version : Option plain.Version) → IsRightIfAny version → Lacks 32 (version_or_none version)
 if_any_blank None right = lacks_byte 32 (codes "-") refl

@@ -8,16 +8,16 @@ use Rattle.vk_base.specs.Tokens.{token_of}
 use Rattle.vk_resolution.specs.Planning.{Item}
 use Rattle.vk_resolution.specs.Lines.{item_text}
 use Rattle.vk_model.specs.Lines.{features_text}
-use Rattle.vk_report_reader.specs.Causes.{IsLine}
-use Rattle.vk_report_reader.specs.Features.{AreFeatures}
-use Rattle.vk_report_reader.specs.Forms.{pair_text, IsRightPair}
+use Rattle.vk_forms.specs.Lines.{IsLine}
+use Rattle.vk_forms.specs.Features.{AreFeatures}
+use Rattle.vk_forms.specs.Forms.{pair_text, IsRightPair}
 use Rattle.vk_report_reader.specs.Items.{IsRightItem, ItemParts, item_of}
-use Rattle.vk_report_reader.specs.Versions.{IsRightVersion}
-use Rattle.vk_report_reader.proofs.NameForms.{name_lacks}
-use Rattle.vk_report_reader.proofs.Numbers.{decimal_lacks}
+use Rattle.vk_forms.specs.Versions.{IsRightVersion}
+use Rattle.vk_forms.proofs.NameForms.{name_lacks}
+use Rattle.vk_forms.proofs.Numbers.{decimal_lacks}
 use Rattle.vk_report_reader.proofs.Spaced.{spaced2, spaced3}
-use Rattle.vk_report_reader.proofs.Through.{AreParts}
-use Rattle.vk_report_reader.proofs.VersionForms.{version_blank}
+use Rattle.vk_forms.proofs.Through.{AreParts}
+use Rattle.vk_forms.proofs.VersionForms.{version_blank}
 
 abbrev pub parts_text : ItemParts → List ℕ
 parts_text = pair_text 32 token_of (pair_text 32 token_of (pair_text 32 (λ v. version_text (ask_of v)) (pair_text 32 decimal features_text)))

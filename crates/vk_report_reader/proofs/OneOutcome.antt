@@ -19,22 +19,25 @@ use Rattle.vk_report.specs.Reports.{whole_report}
 use Rattle.vk_report_reader.specs.Cuts.{Ends, IsOutcome, Reading}
 use Rattle.vk_report_reader.specs.PlaceViews.{line_in}
 use Rattle.vk_report_reader.specs.Showable.{IsShowable}
-use Rattle.vk_report_reader.specs.Causes.{IsLine}
-use Rattle.vk_report_reader.specs.Choices.{either_text, IsRightEither}
+use Rattle.vk_forms.specs.Lines.{IsLine}
+use Rattle.vk_forms.specs.Choices.{either_text, IsRightEither}
 use Rattle.vk_report_reader.specs.Earlies.{IsRightEarly}
 use Rattle.vk_report_reader.specs.Faults.{IsRightFault}
-use Rattle.vk_report_reader.specs.Forms.{TellsApart}
+use Rattle.vk_forms.specs.Forms.{TellsApart}
 use Rattle.vk_report_reader.specs.Items.{IsRightItem}
-use Rattle.vk_report_reader.specs.Places.{Any, Body, Goes, IsLineText, IsRead, IsRefusedAt, Place, Wants, WantsAs, WantsCount, after_early, after_fault_count, after_only, after_status, fault_body, fault_count, fault_lines, finished, headed, item_count, items, numbered, only_fault, outcome_of, pick, plan_body, reasons, start, status}
+use Rattle.vk_forms.specs.Words.{Any}
+use Rattle.vk_forms.specs.Lines.{IsLineText}
+use Rattle.vk_report_reader.specs.Places.{Body, Goes, IsRead, IsRefusedAt, Place, Wants, WantsAs, WantsCount, after_early, after_fault_count, after_only, after_status, fault_body, fault_count, fault_lines, finished, headed, item_count, items, numbered, only_fault, outcome_of, pick, plan_body, reasons, start, status}
 use Rattle.vk_report_reader.specs.Reasons.{IsRightReason}
-use Rattle.vk_report_reader.proofs.Apart.{AreOthers, either_apart, number_apart, word_apart}
+use Rattle.vk_forms.proofs.Apart.{AreOthers, either_apart, number_apart, word_apart}
 use Rattle.vk_report_reader.proofs.ApartLines.{early_apart, fault_apart, fault_or_early, item_apart, reason_apart}
-use Rattle.vk_report_reader.proofs.Heads.{same_bytes}
-use Rattle.vk_report_reader.proofs.PairForms.{same_pair}
+use Rattle.vk_forms.proofs.Heads.{same_bytes}
+use Rattle.vk_forms.proofs.PairForms.{same_pair}
 use Rattle.vk_report_reader.proofs.ReadAgain.{read_again}
-use Rattle.vk_report_reader.proofs.ReportForms.{ended_line}
+use Rattle.vk_forms.proofs.LineLemmas.{ended_line}
 use Rattle.vk_report_reader.proofs.Spaced.{spaced2}
-use Rattle.vk_report_reader.proofs.Shown.{AreShown, IsShown, are_shown, early_shown, either_shown, fault_shown, item_shown, number, reason_shown, shown_by, spaced_shown}
+use Rattle.vk_forms.proofs.Shown.{AreShown, IsShown, are_shown, either_shown, number, shown_by, spaced_shown}
+use Rattle.vk_report_reader.proofs.Shown.{early_shown, fault_shown, item_shown, reason_shown}
 
 -- ---- one line leads to one place
 

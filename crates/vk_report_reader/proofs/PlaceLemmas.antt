@@ -5,9 +5,10 @@ use Rattle.std.proofs.lemmas.Bool.{lt-ltb, le-ltb}
 use Rattle.std.proofs.lemmas.Fmt.{decimal_injective}
 use Rattle.std.proofs.lemmas.List.{append_cancel_left, length-map, map-append}
 use Rattle.vk_base.specs.Paths.{Lacks}
-use Rattle.vk_report_reader.specs.Causes.{IsLine}
-use Rattle.vk_report_reader.specs.Forms.{ReadsAs, pair_text, IsRightPair}
-use Rattle.vk_report_reader.specs.Places.{Advances, AdvancesBy, Any, Body, CountsReasons, Place, Wants, WantsAs, WantsCount, after_fault_count, fault_count, headed, numbered, pick}
+use Rattle.vk_forms.specs.Lines.{IsLine}
+use Rattle.vk_forms.specs.Forms.{ReadsAs, pair_text, IsRightPair}
+use Rattle.vk_forms.specs.Words.{Any}
+use Rattle.vk_report_reader.specs.Places.{Advances, AdvancesBy, Body, CountsReasons, Place, Wants, WantsAs, WantsCount, after_fault_count, fault_count, headed, numbered, pick}
 use Rattle.vk_report_reader.proofs.Spaced.{spaced2}
 
 module _ {X : Type 0} (prints : X → List ℕ) (is_right : X → Type 0) (line : List ℕ) where

@@ -18,7 +18,8 @@ use Rattle.vk_report_reader.specs.Earlies.{IsRightEarly}
 use Rattle.vk_report_reader.specs.Faults.{IsRightFault}
 use Rattle.vk_report_reader.specs.Items.{IsRightItem}
 use Rattle.vk_report_reader.specs.Reasons.{IsRightReason}
-use Rattle.vk_report_reader.specs.Places.{Any, Body, Goes, IsRead, Place, Wants, WantsAs, WantsCount, after_early, early_body, fault_body, fault_count, fault_lines, finished, headed, item_count, items, numbered, only_fault, outcome_of, plan_body, reasons, start, status}
+use Rattle.vk_forms.specs.Words.{Any}
+use Rattle.vk_report_reader.specs.Places.{Body, Goes, IsRead, Place, Wants, WantsAs, WantsCount, after_early, early_body, fault_body, fault_count, fault_lines, finished, headed, item_count, items, numbered, only_fault, outcome_of, plan_body, reasons, start, status}
 use Rattle.vk_report_reader.specs.Showable.{AreRight, IsShowable}
 use Rattle.vk_report_reader.proofs.PlaceLemmas.{picks_one, picks_other}
 use Rattle.vk_report_reader.proofs.WrittenAgain.{goes_to}

@@ -10,15 +10,15 @@ use Rattle.vk_resolution.specs.Asking.{Fact, need, floor, visit}
 use Rattle.vk_resolution.specs.Consequences.{Cause}
 use Rattle.vk_resolution.specs.Lines.{cause_text, reason_text}
 use Rattle.vk_report_reader.specs.Causes.{IsFloorCause, IsNeedCause, IsVisitCause}
-use Rattle.vk_report_reader.specs.Forms.{pair_text, IsRightPair}
-use Rattle.vk_report_reader.specs.Names.{IsPortIfAny, port_or_root}
+use Rattle.vk_forms.specs.Forms.{pair_text, IsRightPair}
+use Rattle.vk_forms.specs.Names.{IsPortIfAny, port_or_root}
 use Rattle.vk_report_reader.specs.Reasons.{FloorParts, IsFloor, IsFloorReason, IsNeed, IsNeedReason, IsRightFact, IsVisit, IsVisitReason, NeedParts, VisitParts, floor_reason, need_reason, visit_reason}
-use Rattle.vk_report_reader.specs.Versions.{IsRightAsk}
-use Rattle.vk_report_reader.specs.Places.{Any}
-use Rattle.vk_report_reader.proofs.NameForms.{name_lacks}
+use Rattle.vk_forms.specs.Versions.{IsRightAsk}
+use Rattle.vk_forms.specs.Words.{Any}
+use Rattle.vk_forms.proofs.NameForms.{name_lacks}
 use Rattle.vk_report_reader.proofs.Spaced.{spaced3, spaced4, spaced5}
-use Rattle.vk_report_reader.proofs.Through.{AreParts}
-use Rattle.vk_report_reader.proofs.VersionForms.{version_blank}
+use Rattle.vk_forms.proofs.Through.{AreParts}
+use Rattle.vk_forms.proofs.VersionForms.{version_blank}
 
 -- ---- needs
 

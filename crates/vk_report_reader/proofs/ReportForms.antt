@@ -12,16 +12,15 @@ use Rattle.vk_base.specs.Paths.{Lacks}
 use Rattle.vk_resolution.specs.Lines.{ended}
 use Rattle.vk_spec.specs.Earlies.{Early}
 use Rattle.vk_resolution.specs.Outcomes.{Outcome}
-use Rattle.vk_report_reader.specs.Cuts.{Ends, Led, NoLine}
+use Rattle.vk_forms.specs.Lines.{NoLine}
+use Rattle.vk_report_reader.specs.Cuts.{Ends, Led}
 use Rattle.vk_report_reader.specs.Places.{Goes, IsRead, IsRefusedAt, Place, Wants, finished, start, status}
-use Rattle.vk_report_reader.proofs.PairForms.{same_pair}
+use Rattle.vk_forms.proofs.LineLemmas.{ended_line}
+use Rattle.vk_forms.proofs.PairForms.{same_pair}
 
 goes_on : (from place next : Place) (lines : List (List ℕ)) (line : List ℕ) → Goes from lines place → Wants place line next → Goes from (lines ++ line ∷ []) next
 goes_on from place next [] line here wants = (next, (subst (λ p. Wants p line next) (sym here) wants, refl))
 goes_on from place next (l ∷ lines) line goes wants = (goes.0, (goes.1.0, goes_on goes.0 place next lines line goes.1.1 wants))
-
-pub ended_line : (line more : List ℕ) → (line ++ 10 ∷ []) ++ more ≡ line ++ 10 ∷ more
-ended_line line more = append_assoc line (10 ∷ []) more
 
 lines_more : (lines : List (List ℕ)) (line rest : List ℕ) → flat_map ended lines ++ (line ++ 10 ∷ rest) ≡ flat_map ended (lines ++ line ∷ []) ++ rest
 lines_more lines line rest =

@@ -12,7 +12,7 @@ use Rattle.vk_resolution.specs.Outcomes.{Outcome}
 use Rattle.vk_resolution.specs.Lines.{ended, fault_line, item_text, numbered_lines, reason_text}
 use Rattle.vk_model.specs.Lines.{early_line}
 use Rattle.vk_report.specs.Reports.{whole_report}
-use Rattle.vk_report_reader.specs.Choices.{either_text}
+use Rattle.vk_forms.specs.Choices.{either_text}
 use Rattle.vk_report_reader.specs.Places.{Body, Goes, IsRead, Place, Wants, WantsCount, after_early, after_fault_count, after_only, after_status, early_body, fault_body, fault_count, fault_lines, finished, item_count, items, only_fault, outcome_of, pick, plan_body, reasons, start, status}
 
 -- ---- lines one after the other

@@ -2,13 +2,10 @@
 use Rattle.std.specs.Prelude.{◌⊎◌, ◌<◌, ◌^◌, ℕ}
 use Rattle.std.proofs.Common.{inl, inr}
 use Rattle.vk_resolution.specs.Consequences.{Cause, by_root, by_baseline, by_override, by_overlay, by_minimum, by_one, by_two}
-use Rattle.vk_report_reader.specs.declared.choices.Either.{Either}
-use Rattle.vk_report_reader.specs.Choices.{either_plain}
-use Rattle.vk_report_reader.specs.Forms.{pair_plain}
-
--- the number of a line that is cited
-abbrev pub IsLine : ℕ → Type 0
-IsLine n = n < 2 ^ 32
+use Rattle.vk_forms.specs.Lines.{IsLine}
+use Rattle.vk_forms.specs.declared.choices.Either.{Either}
+use Rattle.vk_forms.specs.Choices.{either_plain}
+use Rattle.vk_forms.specs.Forms.{pair_plain}
 
 -- what the words or the root ask for, or what another fact asks for
 abbrev pub IsNeedCause : Cause ℕ → Type 0

@@ -9,11 +9,7 @@ use Rattle.vk_model.specs.FaultViews.{outcome_view}
 use Rattle.vk_model.specs.declared.plans.Outcome.{Outcome}
 use Rattle.vk_report_reader.specs.declared.reports.ReportFault.{ReportFault}
 use Rattle.vk_report_reader.specs.PlaceViews.{line_in}
-use Rattle.vk_report_reader.specs.Places.{Goes, IsLineText, IsRead, IsRefusedAt, Place, finished, start}
-
--- the bytes begin with no line
-abbrev pub NoLine : List ℕ → Type 0
-NoLine bytes = (line more : List ℕ) → IsLineText line → bytes ≡ ended line ++ more → ⊥
+use Rattle.vk_report_reader.specs.Places.{Goes, IsRead, IsRefusedAt, Place, finished, start}
 
 -- lines lead to this place, this is left of the bytes, and so many is the next line
 pub record Led (bytes : List ℕ) (place : Place) (left : List ℕ) (next : ℕ) : Type 0 where

@@ -8,10 +8,10 @@ use Rattle.vk_resolution.specs.Settings.{inst}
 use Rattle.vk_resolution.specs.Faults.{Fault, has_cycle}
 use Rattle.vk_resolution.specs.Lines.{who_text}
 use Rattle.vk_model.specs.SettingViews.{instance_view}
-use Rattle.vk_report_reader.specs.declared.choices.Either.{Either}
-use Rattle.vk_report_reader.specs.Choices.{either_plain}
-use Rattle.vk_report_reader.specs.Forms.{pair_plain}
-use Rattle.vk_report_reader.specs.Names.{IsRightInstance}
+use Rattle.vk_forms.specs.declared.choices.Either.{Either}
+use Rattle.vk_forms.specs.Choices.{either_plain}
+use Rattle.vk_forms.specs.Forms.{pair_plain}
+use Rattle.vk_forms.specs.Names.{IsRightInstance}
 
 -- instances with blanks between
 abbrev pub walk_text : List plain.Instance → List ℕ

@@ -6,11 +6,11 @@ use Rattle.vk_spec.specs.Earlies.{Early, bad_file, two_configurations, no_triple
 use Rattle.vk_base.specs.Names.{IsName, word_rule}
 use Rattle.vk_json.specs.Words.{word_of}
 use Rattle.vk_json.specs.declared.faults.Why.{Why}
-use Rattle.vk_report_reader.specs.declared.choices.Either.{Either}
-use Rattle.vk_report_reader.specs.Choices.{either_plain}
-use Rattle.vk_report_reader.specs.Faults.{IsWord}
-use Rattle.vk_report_reader.specs.Forms.{pair_plain}
-use Rattle.vk_report_reader.specs.Paths.{IsPlace, IsRightPath}
+use Rattle.vk_forms.specs.declared.choices.Either.{Either}
+use Rattle.vk_forms.specs.Choices.{either_plain}
+use Rattle.vk_forms.specs.Words.{IsWord}
+use Rattle.vk_forms.specs.Forms.{pair_plain}
+use Rattle.vk_forms.specs.Paths.{IsPlace, IsRightPath}
 
 abbrev pub IsRightEarly : Early → Type 0
 IsRightEarly (bad_file path place word) = IsRightPath path × IsPlace place × IsWord word

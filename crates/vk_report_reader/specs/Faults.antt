@@ -14,18 +14,13 @@ use Rattle.vk_version.specs.declared.asks.Ask.{Ask}
 use Rattle.vk_resolution.specs.Faults.{Fault, Trouble, conflicts, differs, has_cycle, isnt_supported, lacks_baseline, lacks_feature, lacks_registry, lacks_version, troubled, unreadable}
 use Rattle.vk_model.specs.WrongViews.{field_view}
 use Rattle.vk_model.specs.declared.wrongs.Field.{Field}
-use Rattle.vk_report_reader.specs.Causes.{IsLine}
-use Rattle.vk_report_reader.specs.Forms.{pair_plain}
-use Rattle.vk_report_reader.specs.Names.{IsRightInstance, IsRightWho, who_of}
-use Rattle.vk_report_reader.specs.Paths.{IsPlace, IsRightPath}
-use Rattle.vk_report_reader.specs.Texts.{IsText}
-use Rattle.vk_report_reader.specs.Versions.{IsRightAsk, IsRightIfAny, IsRightVersion}
-
--- a word that is printed of what is wrong with a file
-pub record IsWord (word : List ℕ) : Type 0 where
-  pub why : Why
-  pub small : HasSmallNumber why
-  pub is : word ≡ word_of why
+use Rattle.vk_forms.specs.Lines.{IsLine}
+use Rattle.vk_forms.specs.Forms.{pair_plain}
+use Rattle.vk_forms.specs.Names.{IsRightInstance, IsRightWho, who_of}
+use Rattle.vk_forms.specs.Words.{IsWord}
+use Rattle.vk_forms.specs.Paths.{IsPlace, IsRightPath}
+use Rattle.vk_forms.specs.Texts.{IsText}
+use Rattle.vk_forms.specs.Versions.{IsRightAsk, IsRightIfAny, IsRightVersion}
 
 abbrev pub IsRightTrouble : Trouble → Type 0
 IsRightTrouble (lacks_registry p) = IsName port_rule p

@@ -4,11 +4,11 @@ use Rattle.vk_spec.specs.Versions.{Version}
 use Rattle.vk_base.specs.FeatureViews.{feature_view}
 use Rattle.vk_base.specs.declared.features.FeatureName.{FeatureName}
 use Rattle.vk_resolution.specs.Planning.{Item}
-use Rattle.vk_report_reader.specs.Causes.{IsLine}
-use Rattle.vk_report_reader.specs.Features.{AreFeatures}
-use Rattle.vk_report_reader.specs.Forms.{pair_plain}
-use Rattle.vk_report_reader.specs.Names.{IsRightInstance}
-use Rattle.vk_report_reader.specs.Versions.{IsRightVersion}
+use Rattle.vk_forms.specs.Lines.{IsLine}
+use Rattle.vk_forms.specs.Features.{AreFeatures}
+use Rattle.vk_forms.specs.Forms.{pair_plain}
+use Rattle.vk_forms.specs.Names.{IsRightInstance}
+use Rattle.vk_forms.specs.Versions.{IsRightVersion}
 
 -- what an item depends on isn't printed
 pub record IsRightItem (item : Item) : Type 0 where

@@ -10,8 +10,9 @@ use Rattle.vk_resolution.specs.Faults.{Fault}
 use Rattle.vk_resolution.specs.Outcomes.{Outcome, planned, refused}
 use Rattle.vk_resolution.specs.Lines.{ended, fault_line, item_text, reason_text}
 use Rattle.vk_model.specs.Lines.{early_line}
-use Rattle.vk_report_reader.specs.Causes.{IsLine}
-use Rattle.vk_report_reader.specs.Choices.{either_text, IsRightEither}
+use Rattle.vk_forms.specs.Choices.{either_text, IsRightEither}
+use Rattle.vk_forms.specs.Lines.{IsLine, IsLineText}
+use Rattle.vk_forms.specs.Words.{Any}
 use Rattle.vk_report_reader.specs.Earlies.{IsRightEarly}
 use Rattle.vk_report_reader.specs.Faults.{IsRightFault}
 use Rattle.vk_report_reader.specs.Items.{IsRightItem}
@@ -48,9 +49,6 @@ pub record WantsAs {X : Type 0} (prints : X → List ℕ) (is_right : X → Type
   pub right : is_right value
   pub is : line ≡ prints value
   pub goes : next ≡ to value
-
-abbrev pub Any : Unit {0} → Type 0
-Any u = Unit {0}
 
 -- a word, and a value after a blank
 abbrev pub headed : {X : Type 0} → List ℕ → (X → List ℕ) → X → List ℕ
@@ -98,11 +96,6 @@ Wants (finished outcome) = λ line next. ⊥
 abbrev pub Goes : Place → List (List ℕ) → Place → Type 0
 Goes place [] to = place ≡ to
 Goes place (line ∷ lines) to = (next : Place) × (Wants place line next × Goes next lines to)
-
--- bytes with a line feed behind them are a line where they are a text without one
-pub record IsLineText (line : List ℕ) : Type 0 where
-  pub whole : Lacks 10 line
-  pub utf8 : IsUtf8 line
 
 -- the bytes are a report of the outcome
 pub record IsRead (bytes : List ℕ) (outcome : Result Outcome Early) : Type 0 where

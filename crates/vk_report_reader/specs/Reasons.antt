@@ -11,9 +11,9 @@ use Rattle.vk_resolution.specs.Consequences as the
 use Rattle.vk_resolution.specs.Reasons.{Reason}
 use Rattle.vk_model.specs.FactViews.{cause_view}
 use Rattle.vk_model.specs.declared.reasons.Cause.{Cause}
-use Rattle.vk_report_reader.specs.Forms.{pair_plain}
-use Rattle.vk_report_reader.specs.Names.{IsRightInstance, IsRightWho, who_of}
-use Rattle.vk_report_reader.specs.Versions.{IsRightAsk}
+use Rattle.vk_forms.specs.Forms.{pair_plain}
+use Rattle.vk_forms.specs.Names.{IsRightInstance, IsRightWho, who_of}
+use Rattle.vk_forms.specs.Versions.{IsRightAsk}
 use Rattle.vk_report_reader.specs.Causes.{IsFloorCause, IsNeedCause, IsVisitCause}
 
 -- a fact, with a cause of its kind

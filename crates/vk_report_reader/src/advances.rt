@@ -2,27 +2,23 @@
 ghost use Rattle.std.specs.Prelude.{◌≡◌, ◌<◌, ◌^◌, ◌++◌, ◌∷◌, [], IfOk, MatchOption, length, map};
 ghost use Rattle.std.specs.Prelude.{◌+◌, IsTrue, decimal, option_map};
 ghost use Rattle.vk_base.specs.Paths.{lacks};
-ghost use Rattle.vk_report_reader.specs.Causes.{IsLine};
-ghost use Rattle.vk_report_reader.specs.Forms.{ReadsAs};
+ghost use Rattle.vk_forms.specs.Lines.{IsLine};
+ghost use Rattle.vk_forms.specs.Forms.{ReadsAs};
 ghost use Rattle.vk_model.specs.EarlyViews.{early_view};
 ghost use Rattle.vk_model.specs.FactViews.{reason_view, reasons_view};
 ghost use Rattle.vk_model.specs.FaultViews.{fault_view, faults_view, item_view, outcome_view};
-ghost use Rattle.vk_report_reader.specs.Choices.{either_plain};
+ghost use Rattle.vk_forms.specs.Choices.{either_plain};
 ghost use Rattle.vk_report_reader.specs.Places as plain;
 ghost use Rattle.vk_report_reader.specs.Places.{Advances, CountsReasons, outcome_of};
 ghost use Rattle.vk_report_reader.specs.PlaceViews.{body_view, place_view};
 
-use crate::choices::{Either, Or};
 use crate::earlies::AnyEarly;
 use crate::faults::AnyFault;
-use crate::forms::Form;
 use crate::items::AnyItem;
-use crate::names::Number;
-use crate::pairs::Then;
 use crate::reasons::AnyReason;
-use crate::words::{Known, Word};
 use std::alloc::Global;
 use vk_base::{List, Memory};
+use vk_forms::{Either, Form, Known, Number, Or, Then, Word};
 use vk_model::{Early, Fault, Item, Outcome, Plan, Reason};
 
 /// What stands before the reasons.

@@ -7,13 +7,9 @@ ghost use Rattle.vk_report_reader.specs.Causes.{IsFloorCause, IsNeedCause, IsVis
 ghost use Rattle.vk_report_reader.specs.Causes.{floor_cause, need_cause, visit_cause};
 ghost use Rattle.vk_report_reader.specs.Causes.{floor_plain, need_plain, visit_plain};
 
-use crate::choices::{Either, Or};
-use crate::forms::Form;
-use crate::names::Number;
-use crate::pairs::Then;
-use crate::words::Word;
 use std::alloc::Global;
 use vk_base::Memory;
+use vk_forms::{Either, Form, Number, Or, Then, Word};
 use vk_model::Cause;
 
 // A word, and the line that is cited.

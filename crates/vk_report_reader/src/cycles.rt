@@ -7,16 +7,12 @@ ghost use Rattle.vk_model.specs.FaultViews.{fault_view};
 ghost use Rattle.vk_model.specs.SettingViews.{instance_view};
 ghost use Rattle.vk_report_reader.specs.Cycles.{IsWalk, cycle_fault, cycle_parts, walk_text};
 ghost use Rattle.vk_report_reader.specs.Faults.{IsCycle, IsRightAnd};
-ghost use Rattle.vk_report_reader.specs.Forms.{ReadsAs};
-ghost use Rattle.vk_report_reader.specs.Names.{instance_of};
+ghost use Rattle.vk_forms.specs.Forms.{ReadsAs};
+ghost use Rattle.vk_forms.specs.Names.{instance_of};
 
-use crate::choices::{Either, Or};
-use crate::forms::Form;
-use crate::names::{Port, Triplet};
-use crate::pairs::Then;
-use crate::words::Word;
 use std::alloc::Global;
 use vk_base::{Instance, List, Memory, PortName, Text, TripletName};
+use vk_forms::{Either, Form, Or, Port, Then, Triplet, Word};
 use vk_model::Fault;
 
 // Any text, as it stands.

@@ -7,14 +7,9 @@ ghost use Rattle.vk_model.specs.Lines.{early_line};
 ghost use Rattle.vk_report_reader.specs.Earlies.{IsRightEarly, early_of, early_parts};
 ghost use Rattle.vk_report_reader.specs.Earlies.{file_parts, folder_parts};
 
-use crate::choices::{Either, Or};
-use crate::forms::Form;
-use crate::names::Triplet;
-use crate::pairs::Then;
-use crate::paths::{Place, ShortPath};
-use crate::words::{WhyWord, Word};
 use std::alloc::Global;
 use vk_base::{Memory, Text, TreePath, TripletName};
+use vk_forms::{Either, Form, Or, Place, ShortPath, Then, Triplet, WhyWord, Word};
 use vk_json::Why;
 use vk_model::Early;
 

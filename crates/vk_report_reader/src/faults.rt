@@ -15,16 +15,13 @@ ghost use Rattle.vk_report_reader.specs.Faults.{IsUnsupported, unsupported_fault
 ghost use Rattle.vk_report_reader.specs.Faults.{unsupported_parts};
 
 use crate::cycles::Cycle;
-use crate::forms::Form;
-use crate::names::{Feature, Number, Port, PortOrRoot, Triplet};
-use crate::pairs::Then;
-use crate::paths::{Place, ShortPath};
 use crate::reasons::who_of;
-use crate::texts::TokenText;
-use crate::versions::{TextAsk, TextVersion, VersionIfAny};
-use crate::words::{FieldWord, WhyWord, Word};
 use std::alloc::Global;
 use vk_base::{FeatureName, Memory, PortName, Text, TreePath, TripletName};
+use vk_forms::{
+    Feature, FieldWord, Form, Number, Place, Port, PortOrRoot, ShortPath, TextAsk, TextVersion,
+    Then, TokenText, Triplet, VersionIfAny, WhyWord, Word,
+};
 use vk_json::Why;
 use vk_model::{Fault, Field};
 use vk_version::{Ask, Version};

@@ -5,13 +5,9 @@ ghost use Rattle.vk_resolution.specs.Planning as plain;
 ghost use Rattle.vk_model.specs.FaultViews.{item_view};
 ghost use Rattle.vk_report_reader.specs.Items.{IsRightItem, item_of, item_parts};
 
-use crate::features::Features;
-use crate::forms::Form;
-use crate::names::{Number, Port, Triplet};
-use crate::pairs::Then;
-use crate::versions::TextVersion;
 use std::alloc::Global;
 use vk_base::{FeatureName, Instance, List, Memory, PortName, TripletName};
+use vk_forms::{Features, Form, Number, Port, TextVersion, Then, Triplet};
 use vk_model::Item;
 use vk_version::Version;
 

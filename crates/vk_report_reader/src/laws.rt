@@ -5,7 +5,7 @@ ghost use Rattle.vk_resolution.specs.Outcomes.{Outcome};
 ghost use Rattle.vk_report.specs.Reports.{whole_report};
 ghost use Rattle.vk_report_reader.specs.Places.{IsRead, IsRefusedAt};
 ghost use Rattle.vk_report_reader.specs.Cuts.{Ends, IsOutcome, Reading};
-ghost use Rattle.vk_report_reader.specs.Showable.{IsShowable};
+ghost use Rattle.vk_report_reader.specs.Showable.{IsShowable, shown};
 
 /// Bytes that are read as an outcome are the report of that outcome, so what is read is written
 /// again as the same bytes.
@@ -14,13 +14,17 @@ pub fn what_is_read_is_the_report()
         → bytes ≡ whole_report outcome }
 {}
 
-/// The report of an outcome whose parts are right, so that a report can show it, is read as that
-/// outcome: nothing else is answered for it, unless memory runs out.
-pub fn a_report_is_read_as_its_outcome()
-    ensures read { (outcome : Result Outcome Early) → IsShowable outcome
-        → IsRead (whole_report outcome) outcome }
-    ensures answer { (outcome : Result Outcome Early) → IsShowable outcome → (answer : Reading)
-        → Ends (whole_report outcome) answer → IsOutcome outcome answer }
+/// A report leaves out the classes of versions and what items depend on: an outcome without these
+/// has the same report. Where its parts are right, so that a report can show it, the report is read
+/// as it, and nothing else is answered, unless memory runs out.
+pub fn a_report_is_read_as_what_it_shows()
+    ensures same { (outcome : Result Outcome Early)
+        → whole_report (shown outcome) ≡ whole_report outcome }
+    ensures read { (outcome : Result Outcome Early) → IsShowable (shown outcome)
+        → IsRead (whole_report outcome) (shown outcome) }
+    ensures answer { (outcome : Result Outcome Early) → IsShowable (shown outcome)
+        → (answer : Reading) → Ends (whole_report outcome) answer
+        → IsOutcome (shown outcome) answer }
 {}
 
 /// Bytes are the report of one outcome only, and no line of a report is refused.

@@ -5,35 +5,17 @@
 
 mod advances;
 mod causes;
-mod choices;
 mod cycles;
 mod earlies;
 mod faults;
-mod features;
-mod forms;
 mod items;
 pub mod laws;
-mod names;
-mod pairs;
-mod paths;
 mod reasons;
 mod reports;
-mod texts;
-mod versions;
-mod words;
 
 pub use causes::{FloorCause, NeedCause, VisitCause};
-pub use choices::{Either, Or};
 pub use earlies::AnyEarly;
 pub use faults::AnyFault;
-pub use features::Features;
-pub use forms::Form;
 pub use items::AnyItem;
-pub use names::{Feature, Number, Port, PortOrRoot, Triplet};
-pub use pairs::Then;
-pub use paths::{Place, ShortPath};
 pub use reasons::AnyReason;
 pub use reports::{ReportFault, read_report};
-pub use texts::TokenText;
-pub use versions::{TextAsk, TextVersion, VersionIfAny};
-pub use words::{FieldWord, Known, WhyWord, Word};

@@ -3,20 +3,16 @@ ghost use Rattle.std.specs.Prelude.{◌≡◌};
 ghost use Rattle.vk_resolution.specs.Lines.{reason_text};
 ghost use Rattle.vk_resolution.specs.Reasons as plain;
 ghost use Rattle.vk_model.specs.FactViews.{reason_view, who_view};
-ghost use Rattle.vk_report_reader.specs.Names.{who_of};
+ghost use Rattle.vk_forms.specs.Names.{who_of};
 ghost use Rattle.vk_report_reader.specs.Reasons.{IsFloorReason, IsNeedReason, IsRightReason};
 ghost use Rattle.vk_report_reader.specs.Reasons.{IsVisitReason, floor_parts, floor_reason};
 ghost use Rattle.vk_report_reader.specs.Reasons.{need_parts, need_reason};
 ghost use Rattle.vk_report_reader.specs.Reasons.{visit_parts, visit_reason};
 
 use crate::causes::{FloorCause, NeedCause, VisitCause};
-use crate::forms::Form;
-use crate::names::{Feature, Port, PortOrRoot, Triplet};
-use crate::pairs::Then;
-use crate::versions::TextAsk;
-use crate::words::Word;
 use std::alloc::Global;
 use vk_base::{FeatureName, Instance, Memory, PortName, TripletName};
+use vk_forms::{Feature, Form, Port, PortOrRoot, TextAsk, Then, Triplet, Word};
 use vk_model::{Cause, Fact, Reason, Who};
 use vk_version::Ask;
 

@@ -1,16 +1,17 @@
 //! A report read back, line by line.
-ghost use Rattle.std.specs.Prelude.{◌≡◌, ◌<◌, ◌^◌, ◌++◌, ◌∷◌, List, ℕ, IfSome};
+ghost use Rattle.std.specs.Prelude.{◌≡◌, ◌<◌, ◌^◌, List, ℕ, IfSome};
 ghost use Rattle.std.specs.Prelude.{MatchOption, length};
-ghost use Rattle.vk_base.specs.Paths.{Lacks};
 ghost use Rattle.vk_base.specs.Stops.{fault_in};
 ghost use Rattle.vk_model.specs.FaultViews.{outcome_view};
 ghost use Rattle.vk_report_reader.specs.Places.{finished};
 ghost use Rattle.vk_report_reader.specs.PlaceViews.{line_in, place_view};
-ghost use Rattle.vk_report_reader.specs.Cuts.{Ends, IsUnfinished, Led, NoLine};
+ghost use Rattle.vk_forms.specs.Lines.{NoLine};
+ghost use Rattle.vk_report_reader.specs.Cuts.{Ends, IsUnfinished, Led};
 
 use crate::advances::{Place, advance};
 use std::alloc::Global;
 use vk_base::Unread;
+use vk_forms::next_line;
 use vk_model::Outcome;
 
 /// Why bytes are no report.
@@ -19,28 +20,6 @@ pub enum ReportFault {
     /// The first line, counted from 1, that isn't what its place wants: the number of lines and one
     /// more where the report ends too early.
     Line { n: u32 },
-}
-
-// What stands before the first line feed, and what behind it; `None` where there is none.
-fn cut_line(bytes: &[u8]) -> Option<(&[u8], &[u8])>
-    ensures { MatchOption result (Lacks 10 bytes.now)
-        (λ p. (bytes.now ≡ p.0.now ++ 10 ∷ p.1.now) × Lacks 10 p.0.now) }
-{
-    let end = bytes.iter().position(|b| *b == b'\n')?;
-    Some((&bytes[..end], &bytes[end + 1..]))
-}
-
-// The first line, and what stands behind it; `None` where the bytes begin with no line that is a
-// text.
-fn text_line(bytes: &[u8]) -> Option<(&str, &[u8])>
-    ensures { MatchOption result (NoLine bytes.now)
-        (λ p. (bytes.now ≡ p.0.now ++ 10 ∷ p.1.now) × Lacks 10 p.0.now) }
-{
-    let (line, rest) = cut_line(bytes)?;
-    match str::from_utf8(line) {
-        Ok(text) => Some((text, rest)),
-        Err(_) => None,
-    }
 }
 
 fn refused(n: u32) -> Unread<ReportFault>
@@ -101,7 +80,7 @@ pub fn read_report(alloc: Global, bytes: &[u8]) -> Result<Outcome, Unread<Report
     requires { length bytes.now < 2 ^ 32 }
     ensures { Ends bytes.now result }
 {
-    let Some((heading, rest)) = text_line(bytes) else {
+    let Some((heading, rest)) = next_line(bytes) else {
         return Err(refused(1));
     };
     if heading != "vcpkg-plan 1" {
@@ -110,7 +89,7 @@ pub fn read_report(alloc: Global, bytes: &[u8]) -> Result<Outcome, Unread<Report
     let mut place = Place::Status;
     let mut number = 2;
     let mut left = rest;
-    while let Some((line, more)) = text_line(left) {
+    while let Some((line, more)) = next_line(left) {
         match advance(alloc, place, line)? {
             Some(next) => place = next,
             None => return Err(refused(number)),

@@ -1,5 +1,5 @@
 use Rattle.std.proofs.Common.{sym, ◌∙◌}
-use Rattle.vk_report_reader.proofs.Found.{if_ok_then}
+use Rattle.vk_forms.proofs.Found.{if_ok_then}
 use Rattle.vk_abi_text.specs.Adding.{gathering_view}
 use Rattle.vk_abi_text.specs.Forms.{line_view}
 use Rattle.vk_abi_text.proofs.ReadLemmas.{follows_read}

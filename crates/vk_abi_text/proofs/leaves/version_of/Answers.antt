@@ -1,4 +1,4 @@
-use Rattle.vk_report_reader.proofs.Found.{if_ok_then}
+use Rattle.vk_forms.proofs.Found.{if_ok_then}
 use Rattle.vk_version.specs.Views.{class_view, scheme_view}
 use Rattle.vk_abi_text.proofs.FormLemmas.{version_read}
 use Rattle.vk_abi_text.proofs.leaves.version_of.Goals as goal

@@ -1,18 +1,13 @@
-use Rattle.vk_abi_text.specs.Adding.{gathering_view}
-use Rattle.vk_abi_text.specs.Views.{input_view}
-use Rattle.vk_abi_text.proofs.ReadLemmas.{ends_refused, led_lacking, led_read, led_unended, nothing_left, some_left}
+use Rattle.std.proofs.Common.{subst}
+use Rattle.vk_abi_text.specs.Adding.{Led, gathering_view}
+use Rattle.vk_abi_text.proofs.ReadLemmas.{ends_refused, led_unended, nothing_left, some_left}
 use Rattle.vk_abi_text.proofs.readers.finish.Goals as goal
 
-pub returns-then-not-is_empty : goal.returns-then-not-is_empty
-returns-then-not-is_empty c bytes last led =
-    ends_refused bytes c.args.number c.refused.result c.refused.ensures
-    (led_unended bytes (gathering_view c.args.gathering) last c.args.left.now c.args.number led c.requires (some_left c.args.left.now c.if-not-is_empty.ensures))
+pub returns-then-is_empty : goal.returns-then-is_empty
+returns-then-is_empty c bytes led =
+    c.whole.ensures bytes c.args.last.now (subst (λ l. Led bytes (gathering_view c.args.gathering) c.args.last.now l c.args.number) (nothing_left c.args.left.now c.if-is_empty.ensures) led)
 
-pub returns-in-Some : goal.returns-in-Some
-returns-in-Some c bytes last led =
-    led_read bytes (gathering_view c.args.gathering) last c.args.left.now c.args.number (input_view c.in-Some.input) led (nothing_left c.args.left.now c.if-not-is_empty.ensures) c.in-Some.ensures
-
-pub returns-in-None : goal.returns-in-None
-returns-in-None c bytes last led =
-    ends_refused bytes c.args.number c.refused-in-None.result c.refused-in-None.ensures
-    (led_lacking bytes (gathering_view c.args.gathering) last c.args.left.now c.args.number led c.requires c.in-None.ensures)
+pub returns : goal.returns
+returns c bytes led =
+    ends_refused bytes c.in_ok-refusal.field-0 c.refused.result c.refused.ensures
+    (led_unended bytes (gathering_view c.args.gathering) c.args.last.now c.args.left.now c.args.number c.in_ok-refusal.field-0 led c.requires.none (some_left c.args.left.now c.if-is_empty.ensures) c.in_ok-refusal.ensures)

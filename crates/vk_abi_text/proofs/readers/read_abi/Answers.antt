@@ -2,11 +2,11 @@ use Rattle.std.proofs.Common.{codes}
 use Rattle.std.specs.Prelude.{bytes_eq}
 use Rattle.std.proofs.lemmas.Slice.Eq.{bytes_eq-Decides}
 use Rattle.vk_abi_text.specs.Adding.{gathering_view}
-use Rattle.vk_abi_text.proofs.ReadLemmas.{ends_refused, heading_refused, led_more, led_refused, led_start, led_utf8, none_refused, other_heading, same_heading}
+use Rattle.vk_abi_text.proofs.ReadLemmas.{ends_refused, heading_refused, led_more, led_refused, led_start, led_utf8, other_heading, same_heading}
 use Rattle.vk_abi_text.proofs.readers.read_abi.Goals as goal
 
 pub returns-in_default : goal.returns-in_default
-returns-in_default c = ends_refused c.args.bytes.now 1 c.refused.result c.refused.ensures (none_refused c.args.bytes.now c.in_default.ensures)
+returns-in_default c = ends_refused c.args.bytes.now c.unbegun.result c.refused.result c.refused.ensures c.unbegun.ensures
 
 pub returns-then-ne : goal.returns-then-ne
 returns-then-ne c =
@@ -23,18 +23,21 @@ loop-line-init c =
 pub follow-requires-text-last : goal.follow-requires-text-last
 follow-requires-text-last c κs = led_utf8 c.args.bytes.now (gathering_view c.loop-line.gathering) c.loop-line.last.now c.loop-line.left.now c.loop-line.number c.loop-line.invariant
 
+pub finish-requires-text-last : goal.finish-requires-text-last
+finish-requires-text-last c κs = led_utf8 c.args.bytes.now (gathering_view c.loop-line.gathering) c.loop-line.last.now c.loop-line.left.now c.loop-line.number c.loop-line.invariant
+
 pub returns-in-Ok-false : goal.returns-in-Ok-false
 returns-in-Ok-false c =
     ends_refused c.args.bytes.now c.loop-line.number c.refused-in-Ok-false.result c.refused-in-Ok-false.ensures
-    (led_refused c.args.bytes.now (gathering_view c.loop-line.gathering) (gathering_view c.follow.new.gathering) c.loop-line.last.now c.loop-line.left.now c.in-Some-text_line.line.now c.in-Some-text_line.more.now c.loop-line.number
-    c.loop-line.invariant c.in-Some-text_line.ensures.0 c.in-Some-text_line.ensures.1
+    (led_refused c.args.bytes.now (gathering_view c.loop-line.gathering) (gathering_view c.follow.new.gathering) c.loop-line.last.now c.loop-line.left.now c.in-Some-next_line.line.now c.in-Some-next_line.more.now c.loop-line.number
+    c.loop-line.invariant c.in-Some-next_line.ensures.0 c.in-Some-next_line.ensures.1
     (rw c.in-Ok-false.field-0-test at c.in-Ok-false.ensures))
 
 pub loop-line-preserved : goal.loop-line-preserved
 loop-line-preserved c =
-    led_more c.args.bytes.now (gathering_view c.loop-line.gathering) (gathering_view c.follow.new.gathering) c.loop-line.last.now c.loop-line.left.now c.in-Some-text_line.line.now c.in-Some-text_line.more.now c.loop-line.number
-    c.loop-line.invariant c.in-Some-text_line.ensures.0
+    led_more c.args.bytes.now (gathering_view c.loop-line.gathering) (gathering_view c.follow.new.gathering) c.loop-line.last.now c.loop-line.left.now c.in-Some-next_line.line.now c.in-Some-next_line.more.now c.loop-line.number
+    c.loop-line.invariant c.in-Some-next_line.ensures.0
     (rw c.in-Ok-true.field-0-test at c.in-Ok-true.ensures)
 
 pub returns : goal.returns
-returns c = c.finish.ensures c.args.bytes.now c.loop-line.last.now c.loop-line.invariant
+returns c = c.finish.ensures c.args.bytes.now c.loop-line.invariant

@@ -1,6 +1,6 @@
 use Rattle.std.proofs.Common.{◌≡◌, ◌++◌, ap, ◌∙◌}
 use Rattle.std.specs.Prelude.{flat_map}
-use Rattle.vk_report_reader.proofs.Found.{if_ok_then}
+use Rattle.vk_forms.proofs.Found.{if_ok_then}
 use Rattle.vk_resolution.specs.Lines.{ended}
 use Rattle.vk_abi_text.specs.Lines.{heading, texts_of}
 use Rattle.vk_abi_text.specs.Views.{source_view}

@@ -1,5 +1,5 @@
 use Rattle.std.proofs.Common.{refl}
-use Rattle.vk_report_reader.specs.Choices.{either_plain}
+use Rattle.vk_forms.specs.Choices.{either_plain}
 use Rattle.vk_entry.specs.ContentViews.{content_view}
 use Rattle.vk_entry.proofs.ReadLemmas.{some_bytes, no_line_there}
 use Rattle.vk_entry.proofs.reading.lacking.Goals as goal

@@ -1,6 +1,7 @@
 use Rattle.std.proofs.Common.{codes, []}
 use Rattle.vk_model.specs.EarlyViews.{early_view}
-use Rattle.vk_report_reader.specs.Places.{Any, early_body, reasons}
+use Rattle.vk_forms.specs.Words.{Any}
+use Rattle.vk_report_reader.specs.Places.{early_body, reasons}
 use Rattle.vk_report_reader.proofs.PlaceLemmas.{wants_none}
 use Rattle.vk_report_reader.proofs.advances.at_early.Goals as goal
 

@@ -5,7 +5,7 @@ use Rattle.vk_report_reader.specs.Faults.{IsRightFault}
 use Rattle.vk_report_reader.specs.Places.{WantsAs, fault_body, fault_lines}
 use Rattle.std.specs.Prelude.{option_map}
 use Rattle.vk_report_reader.specs.PlaceViews.{place_view}
-use Rattle.vk_report_reader.proofs.Found.{if_ok_then}
+use Rattle.vk_forms.proofs.Found.{if_ok_then}
 use Rattle.vk_report_reader.proofs.PlaceLemmas.{counts_on, more_false}
 use Rattle.vk_report_reader.proofs.advances.at_faults.Goals as goal
 

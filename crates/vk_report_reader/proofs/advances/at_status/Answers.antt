@@ -1,5 +1,6 @@
-use Rattle.vk_report_reader.specs.Choices.{either_plain, either_text, IsRightEither}
-use Rattle.vk_report_reader.specs.Places.{Any, after_status}
+use Rattle.vk_forms.specs.Choices.{either_plain, either_text, IsRightEither}
+use Rattle.vk_forms.specs.Words.{Any}
+use Rattle.vk_report_reader.specs.Places.{after_status}
 use Rattle.vk_report_reader.specs.PlaceViews.{place_view}
 use Rattle.std.proofs.Common.{codes}
 use Rattle.vk_report_reader.proofs.PlaceLemmas.{wants_some}

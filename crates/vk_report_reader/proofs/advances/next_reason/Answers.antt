@@ -2,7 +2,8 @@ use Rattle.std.proofs.Common.{map, ◌++◌, ◌∷◌, [], codes}
 use Rattle.vk_model.specs.FactViews.{reason_view}
 use Rattle.vk_resolution.specs.Lines.{reason_text}
 use Rattle.vk_report_reader.specs.Reasons.{IsRightReason}
-use Rattle.vk_report_reader.specs.Places.{Any, WantsAs, finished, outcome_of, reasons}
+use Rattle.vk_forms.specs.Words.{Any}
+use Rattle.vk_report_reader.specs.Places.{WantsAs, finished, outcome_of, reasons}
 use Rattle.vk_report_reader.specs.PlaceViews.{body_view}
 use Rattle.vk_report_reader.proofs.PlaceLemmas.{numbered_more, numbered_none}
 use Rattle.vk_report_reader.proofs.advances.next_reason.Goals as goal

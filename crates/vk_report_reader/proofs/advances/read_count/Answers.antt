@@ -1,6 +1,6 @@
 use Rattle.std.specs.Prelude.{decimal}
 use Rattle.vk_base.proofs.PathLemmas.{lacks_byte}
-use Rattle.vk_report_reader.specs.Causes.{IsLine}
+use Rattle.vk_forms.specs.Lines.{IsLine}
 use Rattle.vk_report_reader.proofs.PlaceLemmas.{headed_some, headed_none}
 use Rattle.vk_report_reader.proofs.advances.read_count.Goals as goal
 

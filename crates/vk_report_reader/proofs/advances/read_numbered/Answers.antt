@@ -1,6 +1,6 @@
 use Rattle.std.proofs.Common.{◌<◌, ◌^◌, rules, arith}
 use Rattle.std.specs.Prelude.{decimal}
-use Rattle.vk_report_reader.proofs.Numbers.{decimal_lacks}
+use Rattle.vk_forms.proofs.Numbers.{decimal_lacks}
 use Rattle.vk_report_reader.proofs.PlaceLemmas.{headed_some, headed_none}
 use Rattle.vk_report_reader.proofs.advances.read_numbered.Goals as goal
 

@@ -19,10 +19,10 @@ loop-line-init c =
 pub returns-in-None : goal.returns-in-None
 returns-in-None c =
     ends_refused c.args.bytes.now c.loop-line.number c.refused-in-None.result c.refused-in-None.ensures
-    (led_refused c.args.bytes.now (place_view c.loop-line.place) c.loop-line.left.now c.in-Some-text_line.line.now c.in-Some-text_line.more.now c.loop-line.number c.loop-line.invariant c.in-Some-text_line.ensures.0 c.in-Some-text_line.ensures.1
+    (led_refused c.args.bytes.now (place_view c.loop-line.place) c.loop-line.left.now c.in-Some-next_line.line.now c.in-Some-next_line.more.now c.loop-line.number c.loop-line.invariant c.in-Some-next_line.ensures.0 c.in-Some-next_line.ensures.1
     (rw c.in-None.is at c.in_ok-next.ensures))
 
 pub loop-line-preserved : goal.loop-line-preserved
 loop-line-preserved c =
-    led_more c.args.bytes.now (place_view c.loop-line.place) (place_view c.in-Some-2.next) c.loop-line.left.now c.in-Some-text_line.line.now c.in-Some-text_line.more.now c.loop-line.number c.loop-line.invariant c.in-Some-text_line.ensures.0
+    led_more c.args.bytes.now (place_view c.loop-line.place) (place_view c.in-Some-2.next) c.loop-line.left.now c.in-Some-next_line.line.now c.in-Some-next_line.more.now c.loop-line.number c.loop-line.invariant c.in-Some-next_line.ensures.0
     (rw c.in-Some-2.is at c.in_ok-next.ensures)

@@ -1,6 +1,6 @@
 use Rattle.vk_abi_text.specs.Forms.{line_parts, line_view}
 use Rattle.vk_abi_text.specs.Rights.{IsReadableLine}
-use Rattle.vk_report_reader.proofs.Through.{made_read, none_made}
+use Rattle.vk_forms.proofs.Through.{made_read, none_made}
 use Rattle.vk_abi_text.proofs.LineParts.{line_parts_are}
 use Rattle.vk_abi_text.proofs.kinds.AnyLineForm.read.Goals as goal
 

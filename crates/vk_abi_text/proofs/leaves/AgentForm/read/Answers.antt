@@ -1,6 +1,6 @@
 use Rattle.vk_base.specs.Names.{word_rule}
-use Rattle.vk_report_reader.proofs.Found.{if_ok_then}
-use Rattle.vk_report_reader.proofs.NameForms.{names_read}
+use Rattle.vk_forms.proofs.Found.{if_ok_then}
+use Rattle.vk_forms.proofs.NameForms.{names_read}
 use Rattle.vk_abi_text.proofs.leaves.AgentForm.read.Goals as goal
 
 pub returns : goal.returns

@@ -1,4 +1,4 @@
-use Rattle.vk_report_reader.proofs.Found.{if_ok_then}
+use Rattle.vk_forms.proofs.Found.{if_ok_then}
 use Rattle.vk_abi_text.proofs.FormLemmas.{builder_text_read}
 use Rattle.vk_abi_text.proofs.leaves.AnyBuilderTextForm.read.Goals as goal
 

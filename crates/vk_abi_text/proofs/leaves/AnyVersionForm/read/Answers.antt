@@ -1,6 +1,6 @@
 use Rattle.std.specs.Prelude.{option_map}
 use Rattle.vk_version.specs.Views.{class_view}
-use Rattle.vk_report_reader.proofs.Found.{if_ok_then}
+use Rattle.vk_forms.proofs.Found.{if_ok_then}
 use Rattle.vk_abi_text.proofs.FormLemmas.{no_version, read_mapped, version_made}
 use Rattle.vk_abi_text.proofs.leaves.AnyVersionForm.read.Goals as goal
 

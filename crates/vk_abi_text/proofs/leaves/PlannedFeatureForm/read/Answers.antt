@@ -3,7 +3,7 @@ use Rattle.std.specs.Prelude.{bytes_eq, option_map}
 use Rattle.std.proofs.lemmas.Bool.Decides.{not_from_Decides}
 use Rattle.std.proofs.lemmas.Slice.Eq.{bytes_eq-Decides}
 use Rattle.vk_base.specs.FeatureViews.{feature_view}
-use Rattle.vk_report_reader.proofs.Found.{if_ok_then}
+use Rattle.vk_forms.proofs.Found.{if_ok_then}
 use Rattle.vk_abi_text.proofs.FormLemmas.{default_none, not_default}
 use Rattle.vk_abi_text.proofs.leaves.PlannedFeatureForm.read.Goals as goal
 

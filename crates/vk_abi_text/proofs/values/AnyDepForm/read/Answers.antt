@@ -1,4 +1,4 @@
-use Rattle.vk_report_reader.proofs.Through.{none_made}
+use Rattle.vk_forms.proofs.Through.{none_made}
 use Rattle.vk_abi_text.proofs.FormLemmas.{dep_parts_are}
 use Rattle.vk_abi_text.proofs.values.AnyDepForm.read.Goals as goal
 

@@ -1,4 +1,4 @@
-use Rattle.vk_report_reader.proofs.Through.{none_made}
+use Rattle.vk_forms.proofs.Through.{none_made}
 use Rattle.vk_abi_text.proofs.FormLemmas.{file_parts_are}
 use Rattle.vk_abi_text.proofs.values.AnyFileForm.read.Goals as goal
 

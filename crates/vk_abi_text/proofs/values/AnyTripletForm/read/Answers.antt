@@ -1,5 +1,5 @@
 use Rattle.std.specs.Prelude.{option_map}
-use Rattle.vk_report_reader.proofs.Found.{if_ok_then}
+use Rattle.vk_forms.proofs.Found.{if_ok_then}
 use Rattle.vk_abi_text.specs.Forms.{triplet_parts}
 use Rattle.vk_abi_text.proofs.FormLemmas.{triplet_read}
 use Rattle.vk_abi_text.proofs.values.AnyTripletForm.read.Goals as goal

@@ -1,7 +1,7 @@
 use Rattle.vk_entry.specs.ContentViews.{content_view}
 use Rattle.vk_entry.specs.Readings.{content_parts}
 use Rattle.vk_entry.proofs.LineForms.{content_parts_are}
-use Rattle.vk_report_reader.proofs.Through.{made_read, none_made}
+use Rattle.vk_forms.proofs.Through.{made_read, none_made}
 use Rattle.vk_entry.proofs.lines.FileLineForm.read.Goals as goal
 
 pub returns-in-Some : goal.returns-in-Some

@@ -1,7 +1,7 @@
 use Rattle.vk_model.specs.FactViews.{cause_view}
 use Rattle.vk_report_reader.specs.Causes.{need_plain}
 use Rattle.vk_report_reader.proofs.CauseForms.{need_parts}
-use Rattle.vk_report_reader.proofs.Through.{made_read, none_made}
+use Rattle.vk_forms.proofs.Through.{made_read, none_made}
 use Rattle.vk_report_reader.proofs.causes.NeedCauseForm.read.Goals as goal
 
 pub returns-in-Some : goal.returns-in-Some

@@ -1,7 +1,7 @@
 use Rattle.vk_model.specs.FaultViews.{fault_view}
 use Rattle.vk_report_reader.specs.Cycles.{cycle_parts}
 use Rattle.vk_report_reader.proofs.CycleForms.{cycle_parts_are}
-use Rattle.vk_report_reader.proofs.Through.{made_read, none_made}
+use Rattle.vk_forms.proofs.Through.{made_read, none_made}
 use Rattle.vk_report_reader.proofs.cycles.CycleForm.read.Goals as goal
 
 pub returns-in-Some : goal.returns-in-Some

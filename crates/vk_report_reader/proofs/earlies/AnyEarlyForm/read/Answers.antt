@@ -1,7 +1,7 @@
 use Rattle.vk_model.specs.EarlyViews.{early_view}
 use Rattle.vk_report_reader.specs.Earlies.{early_parts}
 use Rattle.vk_report_reader.proofs.EarlyForms.{early_parts_are}
-use Rattle.vk_report_reader.proofs.Through.{made_read, none_made}
+use Rattle.vk_forms.proofs.Through.{made_read, none_made}
 use Rattle.vk_report_reader.proofs.earlies.AnyEarlyForm.read.Goals as goal
 
 pub returns-in-Some : goal.returns-in-Some

@@ -1,7 +1,7 @@
 use Rattle.vk_model.specs.FaultViews.{fault_view}
 use Rattle.vk_report_reader.specs.Faults.{no_version_parts}
 use Rattle.vk_report_reader.proofs.FaultForms.{no_version_parts_are}
-use Rattle.vk_report_reader.proofs.Through.{made_read, none_made}
+use Rattle.vk_forms.proofs.Through.{made_read, none_made}
 use Rattle.vk_report_reader.proofs.faults.NoVersionForm.read.Goals as goal
 
 pub returns-in-Some : goal.returns-in-Some

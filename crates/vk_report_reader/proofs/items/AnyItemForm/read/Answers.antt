@@ -1,7 +1,7 @@
 use Rattle.vk_model.specs.FaultViews.{item_view}
 use Rattle.vk_report_reader.specs.Items.{item_parts}
 use Rattle.vk_report_reader.proofs.ItemForms.{item_parts_are}
-use Rattle.vk_report_reader.proofs.Through.{made_read, none_made}
+use Rattle.vk_forms.proofs.Through.{made_read, none_made}
 use Rattle.vk_report_reader.proofs.items.AnyItemForm.read.Goals as goal
 
 pub returns-in-Some : goal.returns-in-Some

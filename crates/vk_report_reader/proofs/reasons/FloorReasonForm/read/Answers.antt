@@ -1,7 +1,7 @@
 use Rattle.vk_model.specs.FactViews.{reason_view}
 use Rattle.vk_report_reader.specs.Reasons.{floor_parts}
 use Rattle.vk_report_reader.proofs.ReasonForms.{floor_parts_are}
-use Rattle.vk_report_reader.proofs.Through.{made_read, none_made}
+use Rattle.vk_forms.proofs.Through.{made_read, none_made}
 use Rattle.vk_report_reader.proofs.reasons.FloorReasonForm.read.Goals as goal
 
 pub returns-in-Some : goal.returns-in-Some

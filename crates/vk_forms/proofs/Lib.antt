@@ -1,0 +1,15 @@
+pub mod Found
+pub mod Numbers
+pub mod PairForms
+pub mod ChoiceForms
+pub mod Through
+pub mod TextForms
+pub mod NameForms
+pub mod FeatureForms
+pub mod VersionForms
+pub mod PathForms
+pub mod WordForms
+pub mod LineLemmas
+pub mod Apart
+pub mod Heads
+pub mod Shown

@@ -1,7 +1,0 @@
-use Rattle.vk_base.specs.Names.{word_rule}
-use Rattle.vk_report_reader.proofs.Found.{if_ok_then}
-use Rattle.vk_report_reader.proofs.NameForms.{names_read}
-use Rattle.vk_report_reader.proofs.names.TripletForm.read.Goals as goal
-
-pub returns : goal.returns
-returns c = if_ok_then c.found.result (names_read word_rule (λ n. n) c.args.text.now c.read.result c.read.ensures) c.found.ensures

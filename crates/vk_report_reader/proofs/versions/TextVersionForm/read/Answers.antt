@@ -1,5 +1,0 @@
-use Rattle.vk_report_reader.proofs.VersionForms.{version_none}
-use Rattle.vk_report_reader.proofs.versions.TextVersionForm.read.Goals as goal
-
-pub returns-in-None : goal.returns-in-None
-returns-in-None c = version_none c.args.text.now (rw c.in-None.is at c.in_ok-version.ensures)
