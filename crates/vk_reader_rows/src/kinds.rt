@@ -46,7 +46,7 @@ pub fn kind_of(words: &str) -> Option<Kind> {
     meaning(&KINDS, words)
 }
 
-const KINDS: [(&str, Kind); 62] = [
+const KINDS: [(&str, Kind); 64] = [
     ("name port", Kind::Name(OfName::Port)),
     ("name triplet", Kind::Name(OfName::Triplet)),
     ("name feature", Kind::Name(OfName::Feature)),
@@ -58,6 +58,8 @@ const KINDS: [(&str, Kind); 62] = [
     ("path parts", Kind::Path(OfPath::Parts)),
     ("path join", Kind::Path(OfPath::Join)),
     ("path begins", Kind::Path(OfPath::Begins)),
+    ("path has", Kind::Path(OfPath::Has)),
+    ("path overlaps", Kind::Path(OfPath::Overlaps)),
     ("path order", Kind::Path(OfPath::Order)),
     ("path child", Kind::Path(OfPath::Child)),
     ("token of", Kind::Token(OfToken::Of)),

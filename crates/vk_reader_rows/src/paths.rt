@@ -13,6 +13,8 @@ pub enum Question {
     Parts,
     Join,
     Begins,
+    Has,
+    Overlaps,
     Order,
     Child,
 }
@@ -71,24 +73,34 @@ fn push_joined(from: &TreePath, more: &TreePath, reply: &mut Reply) {
     push_whole(from.join(reply.alloc(), more), reply);
 }
 
-fn join(rest: &str, reply: &mut Reply) {
+// The two paths of a row.
+fn two(rest: &str, reply: &mut Reply) -> (TreePath, TreePath) {
     let (one, other) = cut(rest);
-    let one = reply.path(one);
-    let other = reply.path(other);
+    (reply.path(one), reply.path(other))
+}
+
+fn join(rest: &str, reply: &mut Reply) {
+    let (one, other) = two(rest, reply);
     push_joined(&one, &other, reply);
 }
 
 fn begins(rest: &str, reply: &mut Reply) {
-    let (one, other) = cut(rest);
-    let one = reply.path(one);
-    let other = reply.path(other);
+    let (one, other) = two(rest, reply);
     reply.push_test(one.begins(&other));
 }
 
+fn has(rest: &str, reply: &mut Reply) {
+    let (folder, path) = two(rest, reply);
+    reply.push_test(folder.has_in_it(&path));
+}
+
+fn overlaps(rest: &str, reply: &mut Reply) {
+    let (one, other) = two(rest, reply);
+    reply.push_test(one.overlaps(&other));
+}
+
 fn order(rest: &str, reply: &mut Reply) {
-    let (one, other) = cut(rest);
-    let one = reply.path(one);
-    let other = reply.path(other);
+    let (one, other) = two(rest, reply);
     tell_order(Some(one.cmp(&other)), reply);
 }
 
@@ -99,7 +111,8 @@ fn child(rest: &str, reply: &mut Reply) {
 
 /// - `read TEXT`: the path, or the fault; `letters N`: the same of so many letters;
 /// - `parts PATH`: where it begins, and how many parts it has;
-/// - `join PATH PATH`, `begins PATH PATH`, `order PATH PATH`: what the first is to the second;
+/// - `join PATH PATH`, `begins PATH PATH`, `has PATH PATH`, `overlaps PATH PATH`,
+///   `order PATH PATH`: what the first is to the second;
 /// - `child PATH`: what is called `a` in that folder.
 pub fn answer(question: Question, rest: &str, reply: &mut Reply) {
     match question {
@@ -108,6 +121,8 @@ pub fn answer(question: Question, rest: &str, reply: &mut Reply) {
         Question::Parts => parts(rest, reply),
         Question::Join => join(rest, reply),
         Question::Begins => begins(rest, reply),
+        Question::Has => has(rest, reply),
+        Question::Overlaps => overlaps(rest, reply),
         Question::Order => order(rest, reply),
         Question::Child => child(rest, reply),
     }
