@@ -16,10 +16,10 @@ ghost use Rattle.vk_files.specs.StopViews.{noted_by};
 ghost use Rattle.vk_files.specs.ReadFaults.{seen_by};
 
 use crate::found::{FileBytes, Found};
+use crate::rooms::Room;
 use indexmap::IndexMap;
 use std::alloc::Global;
 use vk_base::{List, Stop, TreePath};
-use vk_json::Scratch;
 use vk_tree::{ReadFault, Tree};
 
 /// The longest file that is kept, in bytes.
@@ -29,8 +29,7 @@ pub const MOST_BYTES: u64 = 16_777_216;
 #[derive(Drop)]
 pub struct FileCache {
     pub(crate) found: IndexMap<TreePath, Found>,
-    /// The room that reading JSON needs, one for all files.
-    pub(crate) scratch: Scratch,
+    pub(crate) room: Room,
 }
 
 // What a read that is refused found.
@@ -68,7 +67,7 @@ impl FileCache {
     {
         FileCache {
             found: IndexMap::new(alloc),
-            scratch: Scratch::new(alloc),
+            room: Room::new(),
         }
     }
 

@@ -8,6 +8,7 @@ mod bad_files;
 mod caches;
 mod found;
 mod readers;
+mod rooms;
 
 pub use archives::{Archive, Parts};
 pub use bad_files::{BadFile, TellsBadFile};

@@ -18,6 +18,7 @@ use crate::archives::Archive;
 use crate::bad_files::{BadFile, TellsBadFile};
 use crate::caches::FileCache;
 use crate::found::Found;
+use crate::rooms::Room;
 use std::alloc::Global;
 use vk_base::{Stop, TreePath, Unread};
 use vk_json::{FileFault, Scratch, Why, wrong};
@@ -89,14 +90,14 @@ fn read_found<R: FileReader>(
     alloc: Global,
     found: &Found,
     reader: &R,
-    scratch: &mut Scratch,
+    room: &mut Room,
 ) -> Result<R::Out, Unread<FileFault>>
     ensures { Gives R.plain fault_in result (seen_file (R.reads reader.now) (seen_view found.now)) }
 {
     match found {
         Found::Absent => Err(wrong(alloc, Why::Absent)),
         Found::TooLarge => Err(wrong(alloc, Why::Large)),
-        Found::Bytes(file) => reader.read(alloc, file.bytes.as_slice(), scratch),
+        Found::Bytes(file) => reader.read(alloc, file.bytes.as_slice(), room.scratch(alloc)?),
     }
 }
 
@@ -130,7 +131,7 @@ impl FileCache {
         ensures same { kept_of self.new ≡ kept_of self.old }
     {
         let found = self.found.get_index(place).unwrap().1;
-        read_found(alloc, found, reader, &mut self.scratch)
+        read_found(alloc, found, reader, &mut self.room)
     }
 }
 
