@@ -15,3 +15,4 @@ pub mod Ends
 pub mod Checked
 pub mod Folders
 pub mod AnswerLaws
+pub mod PlanReads
