@@ -1,0 +1,4 @@
+pub mod ProtocolLemmas
+pub mod RunLemmas
+pub mod KeepLemmas
+pub mod TurnLemmas
