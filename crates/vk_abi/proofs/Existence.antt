@@ -9,9 +9,9 @@ use Rattle.vk_spec.specs.Standing.{Disk, disk_of}
 use Rattle.vk_spec.proofs.ListLemmas.{contains_nothing, contains_cases}
 use Rattle.vk_base.specs.declared.limits.Limit.{Limit}
 use Rattle.vk_base.specs.declared.limits.Limit.TheVariants as limit
-use Rattle.vk_tree.specs.Walks as walks
-use Rattle.vk_tree.specs.Walks.{IsCalm, IsFirst}
-use Rattle.vk_tree.specs.Walked.{walk_limits}
+use Rattle.vk_walk.specs.Walks as walks
+use Rattle.vk_walk.specs.Walks.{IsCalm, IsFirst}
+use Rattle.vk_walk.specs.Walked.{walk_limits}
 use Rattle.vk_resolution.specs.Keys.{in_order}
 use Rattle.vk_folder.specs.Folders.{File, AreFilesOf, bytes_of, digest_of, FolderIs}
 use Rattle.vk_folder.proofs.FolderLaws.{limit_of, more_bytes}

@@ -12,7 +12,7 @@ use Rattle.vk_base.specs.Paths.{text_of_path}
 use Rattle.vk_resolution.specs.Keys.{Key, Ascends, in_order}
 use Rattle.vk_resolution.proofs.Members.{contains_single}
 use Rattle.vk_resolution.proofs.Orders.{in_order-ascends, contains-in_order}
-use Rattle.vk_tree.specs.Walks.{text_order}
+use Rattle.vk_walk.specs.Walks.{text_order}
 use Rattle.vk_folder.specs.Folders.{File, StandsBelow, ByText, AreFilesOf}
 use Rattle.vk_folder.proofs.FolderLemmas.{below_same}
 use Rattle.vk_abi.specs.LawsOnPlans.{ArePaths}

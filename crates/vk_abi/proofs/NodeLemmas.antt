@@ -9,7 +9,7 @@ use Rattle.vk_base.specs.Tokens.{IsByte}
 use Rattle.vk_spec.specs.Lists.{NoRepeats}
 use Rattle.vk_spec.specs.Paths.{Path}
 use Rattle.vk_spec.proofs.ListLemmas.{contains_first, contains_later}
-use Rattle.vk_tree.specs.Walks.{text_order}
+use Rattle.vk_walk.specs.Walks.{text_order}
 use Rattle.vk_resolution.specs.Keys.{Key, key_cmp, Ascends}
 use Rattle.vk_resolution.specs.Planning.{instance_key, feature_key}
 use Rattle.vk_resolution.proofs.Orders.{before_itself, ascending_one, ascends-NoRepeats}

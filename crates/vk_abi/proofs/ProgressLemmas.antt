@@ -11,7 +11,7 @@ use Rattle.vk_spec.specs.Standing.{Disk}
 use Rattle.vk_spec.proofs.ListLemmas.{contains_nothing, contains_cases}
 use Rattle.vk_resolution.specs.Keys.{in_order}
 use Rattle.vk_base.specs.declared.limits.Limit.{Limit}
-use Rattle.vk_tree.specs.Walked.{IsTreeDisk}
+use Rattle.vk_tree.specs.Trees.{IsTreeDisk}
 use Rattle.vk_folder.specs.Folders.{FolderIs}
 use Rattle.vk_abi.specs.Nodes.{Node, node, nodes_of, instance_of, file_digest}
 use Rattle.vk_abi.specs.Plans.{Shared, Placed, Pair, pair_of, pair_view, own_of, node_key, at_places, AreNodesFrom, IsFine, IsFirstLimit, AreTexts}

@@ -17,7 +17,7 @@ use Rattle.vk_resolution.specs.Planning.{order_of}
 use Rattle.vk_model.specs.FaultViews.{item_view}
 use Rattle.vk_model.specs.SettingViews.{instance_view}
 use Rattle.vk_model.specs.declared.plans.Item.{Item}
-use Rattle.vk_tree.specs.Walked.{IsTreeDisk}
+use Rattle.vk_tree.specs.Trees.{IsTreeDisk}
 use Rattle.vk_folder.specs.Folders.{File, FolderIs, FolderTold, ReadsOnly, digest_of}
 use Rattle.vk_folder.specs.declared.digests.FileDigest.{FileDigest}
 use Rattle.vk_folder.proofs.ReadLemmas.{reads_then, reads_wider}

@@ -7,7 +7,7 @@ use Rattle.vk_spec.specs.Paths.{Path}
 use Rattle.vk_spec.specs.Standing.{Disk}
 use Rattle.vk_spec.proofs.ListLemmas.{contains_first, contains_later}
 use Rattle.vk_base.specs.declared.limits.Limit.{Limit}
-use Rattle.vk_tree.specs.Walked.{IsTreeDisk}
+use Rattle.vk_tree.specs.Trees.{IsTreeDisk}
 use Rattle.vk_resolution.specs.Keys.{in_order}
 use Rattle.vk_folder.specs.Folders.{FolderIs}
 use Rattle.vk_folder.specs.declared.digests.FileDigest.{FileDigest}

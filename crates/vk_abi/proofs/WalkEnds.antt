@@ -10,11 +10,11 @@ use Rattle.vk_spec.specs.States.{State}
 use Rattle.vk_spec.specs.Standing.{disk_of, Entry, IsFolder, IsAs, IsListing}
 use Rattle.vk_spec.proofs.ListLemmas.{contains_first}
 use Rattle.vk_base.specs.declared.stops.Stop.TheVariants.{Fault}
-use Rattle.vk_tree.specs.Walks.{Limits, Limit, deep, entries, files, IsFirst, IsCalm}
-use Rattle.vk_tree.specs.Walked.{walk_limits}
-use Rattle.vk_tree.specs.Progress.{Upto, Before, Through, Until}
-use Rattle.vk_tree.specs.declared.walking.WalkFault.TheVariants.{Missing}
-use Rattle.vk_tree.proofs.StepLemmas.{start, enter, next, passed, take_file, leave, finish, files_first, deep_first, entries_first}
+use Rattle.vk_walk.specs.Walks.{Limits, Limit, deep, entries, files, IsFirst, IsCalm}
+use Rattle.vk_walk.specs.Walked.{walk_limits}
+use Rattle.vk_walk.specs.Progress.{Upto, Before, Through, Until}
+use Rattle.vk_walk.specs.declared.walking.WalkFault.TheVariants.{Missing}
+use Rattle.vk_walk.proofs.StepLemmas.{start, enter, next, passed, take_file, leave, finish, files_first, deep_first, entries_first}
 use Rattle.vk_folder.proofs.WalkedLemmas.{unseen_on}
 use Rattle.vk_abi.proofs.EntriesExist.{listing_exists, folder_or_none}
 

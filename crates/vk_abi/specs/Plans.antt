@@ -12,7 +12,7 @@ use Rattle.vk_base.specs.declared.stops.Stop.TheVariants as stop
 use Rattle.vk_resolution.specs.Keys.{Key, in_order}
 use Rattle.vk_resolution.specs.Planning.{Item, instance_key}
 use Rattle.vk_model.specs.declared.builders.Builder.{Builder}
-use Rattle.vk_tree.specs.Walked.{IsTreeDisk}
+use Rattle.vk_tree.specs.Trees.{IsTreeDisk}
 use Rattle.vk_folder.specs.Folders.{File, AreFilesOf, FolderIs}
 use Rattle.vk_folder.specs.declared.digests.FileDigest as told
 use Rattle.vk_abi.specs.Nodes.{Own, Node, node, nodes_of, instance_of, text_of}

@@ -11,7 +11,7 @@ use Rattle.vk_base.specs.declared.stops.Stop.{Stop}
 use Rattle.vk_base.specs.declared.stops.Stop.TheVariants as stop
 use Rattle.vk_resolution.specs.Planning.{Item}
 use Rattle.vk_model.specs.SettingViews.{setting_view}
-use Rattle.vk_tree.specs.Walked.{IsTreeDisk}
+use Rattle.vk_tree.specs.Trees.{IsTreeDisk}
 use Rattle.vk_folder.specs.Folders.{File, AreFilesOf, FolderIs}
 use Rattle.vk_abi_text.specs.Inputs.{Input, FileDigest, DepDigest}
 use Rattle.vk_abi_text.specs.Lines.{abi_text_of}

@@ -6,10 +6,11 @@ use Rattle.vk_spec.specs.Paths.{Path, Begins}
 use Rattle.vk_spec.specs.Standing.{Disk, under, Same, IsFile, IsFolder, Entry, IsAs, AreEntries}
 use Rattle.vk_base.specs.declared.limits.Limit.{Limit}
 use Rattle.vk_base.specs.declared.limits.Limit.TheVariants as limit
-use Rattle.vk_tree.specs.Walks as walks
-use Rattle.vk_tree.specs.Walks.{deep, entries, files, Passes, FileBefore, IsFirst, IsCalm}
-use Rattle.vk_tree.specs.Walked.{IsTreeDisk, walk_limits}
-use Rattle.vk_tree.proofs.FirstLimits.{first_is_one, calm_has_none}
+use Rattle.vk_tree.specs.Trees.{IsTreeDisk}
+use Rattle.vk_walk.specs.Walks as walks
+use Rattle.vk_walk.specs.Walks.{deep, entries, files, Passes, FileBefore, IsFirst, IsCalm}
+use Rattle.vk_walk.specs.Walked.{walk_limits}
+use Rattle.vk_walk.proofs.FirstLimits.{first_is_one, calm_has_none}
 use Rattle.vk_folder.specs.declared.digests.FileDigest.{FileDigest}
 use Rattle.vk_folder.specs.Folders.{File, StandsBelow, AreFilesOf, bytes_of, HasMoreBytes, digest_of, AreDigests, FolderIs}
 use Rattle.vk_folder.proofs.MemberLemmas.{part_sum}

@@ -18,8 +18,8 @@ use Rattle.vk_base.specs.declared.limits.Limit.TheVariants.{Bytes}
 use Rattle.vk_base.specs.declared.stops.Stop.{Stop}
 use Rattle.vk_base.specs.declared.stops.Stop.TheVariants.{Fault, Failed}
 use Rattle.vk_base.specs.declared.stops.Stop.TheVariants as stop
-use Rattle.vk_tree.specs.Walks.{text_order}
-use Rattle.vk_tree.specs.Walked.{IsTreeDisk}
+use Rattle.vk_tree.specs.Trees.{IsTreeDisk}
+use Rattle.vk_walk.specs.Walks.{text_order}
 use Rattle.vk_tree.proofs.OnFilesLemmas.{files_two, files_back}
 use Rattle.vk_folder.specs.declared.digests.FileDigest.{FileDigest}
 use Rattle.vk_folder.specs.declared.hashing.Hashed.{Hashed}

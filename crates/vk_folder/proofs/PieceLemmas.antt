@@ -20,7 +20,7 @@ use Rattle.vk_base.specs.declared.stops.Stop.TheVariants.{Fault, Failed, Memory}
 use Rattle.vk_digest.specs.Runs.{Holds}
 use Rattle.vk_digest.specs.declared.DigestRun.{DigestRun}
 use Rattle.vk_tree.specs.Answers.{read_answer}
-use Rattle.vk_tree.specs.Walked.{IsTreeDisk}
+use Rattle.vk_tree.specs.Trees.{IsTreeDisk}
 use Rattle.vk_tree.proofs.OnFilesLemmas.{files_both, files_two, files_back}
 use Rattle.vk_tree.specs.declared.trees.ReadFault.{ReadFault}
 use Rattle.vk_tree.specs.declared.trees.ReadFault.TheVariants.{Missing, TooLarge}

@@ -15,7 +15,7 @@ use Rattle.vk_folder.proofs.MemberLemmas.{contains_mapped, mapped_from}
 use Rattle.vk_base.specs.Paths.{IsPart, IsPath, text_of_path}
 use Rattle.vk_base.proofs.PathLaws.{segments_joined, text_down}
 use Rattle.vk_base.specs.PathReading.{segments}
-use Rattle.vk_tree.specs.Walks.{text_order}
+use Rattle.vk_walk.specs.Walks.{text_order}
 use Rattle.vk_tree.proofs.PlaceLemmas.{part_total}
 use Rattle.vk_folder.specs.Folders.{File, ByText}
 

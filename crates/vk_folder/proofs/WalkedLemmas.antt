@@ -12,10 +12,10 @@ use Rattle.vk_base.specs.Stops.{has_failed}
 use Rattle.vk_base.specs.declared.limits.Limit.{Limit}
 use Rattle.vk_base.specs.declared.stops.Stop.{Stop}
 use Rattle.vk_base.specs.declared.stops.Stop.TheVariants.{Fault, Failed, Memory}
-use Rattle.vk_tree.specs.Walks.{deep, entries, files, FileBefore, IsCalm}
-use Rattle.vk_tree.specs.Walked.{walk_limits, walk_failed, Ends, WalkIs}
-use Rattle.vk_tree.specs.declared.walking.WalkFault.{WalkFault}
-use Rattle.vk_tree.specs.declared.walking.WalkFault.TheVariants.{Missing, Deep, Entries, Files}
+use Rattle.vk_walk.specs.Walks.{deep, entries, files, FileBefore, IsCalm}
+use Rattle.vk_walk.specs.Walked.{walk_limits, walk_failed, Ends, WalkIs}
+use Rattle.vk_walk.specs.declared.walking.WalkFault.{WalkFault}
+use Rattle.vk_walk.specs.declared.walking.WalkFault.TheVariants.{Missing, Deep, Entries, Files}
 use Rattle.vk_tree.proofs.PlaceLemmas.{not_before_own}
 use Rattle.vk_tree.proofs.OnFilesLemmas.{files_then, files_two, files_back}
 use Rattle.vk_folder.specs.declared.digests.FileDigest.{FileDigest}

@@ -13,8 +13,8 @@ use Rattle.vk_base.specs.declared.limits.Limit.{Limit}
 use Rattle.vk_base.specs.declared.limits.Limit.TheVariants as limit
 use Rattle.vk_base.specs.declared.stops.Stop.{Stop}
 use Rattle.vk_base.specs.declared.stops.Stop.TheVariants.{Fault, Failed, Memory}
-use Rattle.vk_tree.specs.Walks.{deep, entries, files, IsFirst, IsCalm, text_order}
-use Rattle.vk_tree.specs.Walked.{walk_limits}
+use Rattle.vk_walk.specs.Walks.{deep, entries, files, IsFirst, IsCalm, text_order}
+use Rattle.vk_walk.specs.Walked.{walk_limits}
 use Rattle.vk_folder.specs.declared.digests.FileDigest.{FileDigest}
 
 -- a file, by its path as it is seen from its folder, and its bytes

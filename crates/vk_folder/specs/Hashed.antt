@@ -15,12 +15,13 @@ use Rattle.vk_base.specs.declared.stops.Outage.{Outage}
 use Rattle.vk_base.specs.declared.stops.Outage.TheVariants as outage
 use Rattle.vk_digest.specs.Runs.{Holds}
 use Rattle.vk_digest.specs.declared.DigestRun.{DigestRun}
-use Rattle.vk_tree.specs.Walks.{deep, entries, files, IsFirst, IsCalm, text_order}
-use Rattle.vk_tree.specs.Walked.{IsTreeDisk, walk_limits}
+use Rattle.vk_tree.specs.Trees.{IsTreeDisk}
+use Rattle.vk_walk.specs.Walks.{deep, entries, files, IsFirst, IsCalm, text_order}
+use Rattle.vk_walk.specs.Walked.{walk_limits}
 use Rattle.vk_tree.specs.declared.trees.ReadFault.{ReadFault}
 use Rattle.vk_tree.specs.declared.trees.ReadFault.TheVariants as read
-use Rattle.vk_tree.specs.declared.walking.WalkFault.{WalkFault}
-use Rattle.vk_tree.specs.declared.walking.WalkFault.TheVariants as walk
+use Rattle.vk_walk.specs.declared.walking.WalkFault.{WalkFault}
+use Rattle.vk_walk.specs.declared.walking.WalkFault.TheVariants as walk
 use Rattle.vk_folder.specs.declared.digests.FileDigest.{FileDigest}
 use Rattle.vk_folder.specs.declared.hashing.Hashed.{Hashed}
 use Rattle.vk_folder.specs.declared.rooms.Room.{Room}

@@ -5,7 +5,7 @@ ghost use Rattle.vk_spec.specs.States.{IsNarrow};
 ghost use Rattle.vk_spec.specs.Standing.{OnFiles};
 ghost use Rattle.vk_base.specs.Paths.{IsPath};
 ghost use Rattle.vk_base.specs.Stops.{has_failed};
-ghost use Rattle.vk_tree.specs.Walked.{IsTreeDisk};
+ghost use Rattle.vk_tree.specs.Trees.{IsTreeDisk};
 ghost use Rattle.vk_folder.specs.Folders.{FolderTold, IsFolderLimit, OnLimit, ReadsOnly};
 ghost use Rattle.vk_folder.specs.Hashed.{OnlyPieces, PathsTold, AddedIs, DigestsTold, AreSeenFiles};
 ghost use Rattle.vk_folder.specs.Hashed.{unwalked};
@@ -15,7 +15,8 @@ use crate::rooms::Room;
 use std::alloc::{AllocError, AllocFailed, Global};
 use vk_base::{Limit, List, Stop, TreePath};
 use vk_digest::Digest;
-use vk_tree::{Tree, WalkFault, walk};
+use vk_tree::Tree;
+use vk_walk::{WalkFault, walk};
 
 /// A file, by its path as it is seen from its folder, and the SHA-256 of its bytes.
 #[derive(Drop)]

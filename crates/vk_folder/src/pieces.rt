@@ -2,7 +2,7 @@
 ghost use Rattle.std.specs.Prelude.{◌≡◌, ◌≤◌, length, IfOk, IfSome};
 ghost use Rattle.vk_spec.specs.Standing.{OnFiles};
 ghost use Rattle.vk_base.specs.Stops.{was_out, has_failed};
-ghost use Rattle.vk_tree.specs.Walked.{IsTreeDisk};
+ghost use Rattle.vk_tree.specs.Trees.{IsTreeDisk};
 ghost use Rattle.vk_tree.specs.Answers.{read_answer};
 ghost use Rattle.vk_folder.specs.Folders.{IsFolderLimit, OnLimit};
 ghost use Rattle.vk_folder.specs.Hashed.{OnlyPieces, PieceIs, FedIs, found_in, most_piece};

@@ -12,7 +12,7 @@ use Rattle.vk_base.specs.declared.stops.Outage.{Outage}
 use Rattle.vk_base.specs.declared.stops.Outage.TheVariants.{Failed, Memory}
 use Rattle.vk_base.specs.Stops.{was_out, is_outage}
 use Rattle.vk_tree.proofs.OnFilesLemmas.{files_then, files_two, files_on, files_back}
-use Rattle.vk_tree.specs.Walked.{IsTreeDisk}
+use Rattle.vk_tree.specs.Trees.{IsTreeDisk}
 use Rattle.vk_protocol.specs.Protocols.{Reply, answer_of, Protocol, ends, asks, ◌>>=◌}
 use Rattle.vk_protocol.specs.Runs.{Stops, Asked, LacksOnly, Stepped, IsEnd, StopsAt, Ran, Leads, Replies, AsksOnly, Reads, Tells, CanAsk, CanRun, CanRunOn, IsAtEnd, CameTo, NextIs}
 

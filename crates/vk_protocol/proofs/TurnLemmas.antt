@@ -5,7 +5,7 @@ use Rattle.std.proofs.lemmas.Bool.{cases_eq}
 use Rattle.vk_spec.specs.Files.{Files}
 use Rattle.vk_spec.specs.Standing.{disk_of}
 use Rattle.vk_spec.specs.Calls.{Call}
-use Rattle.vk_tree.specs.Walked.{IsTreeDisk}
+use Rattle.vk_tree.specs.Trees.{IsTreeDisk}
 use Rattle.vk_protocol.specs.Keeps.{AreTerms, Keeps}
 use Rattle.vk_protocol.specs.Protocols.{Reply, Protocol, asks}
 use Rattle.vk_protocol.specs.Turns.{AllKeep, Called, GoTogether, Left, LeftKeeps, Turn, TurnsKeep, failed, goes, lacked, replied, stopped}

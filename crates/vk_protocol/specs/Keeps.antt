@@ -2,7 +2,7 @@
 use Rattle.vk_spec.specs.Files.{Files}
 use Rattle.vk_spec.specs.Standing.{disk_of}
 use Rattle.vk_spec.specs.Calls.{CanMake, LeavesFailed}
-use Rattle.vk_tree.specs.Walked.{IsTreeDisk}
+use Rattle.vk_tree.specs.Trees.{IsTreeDisk}
 use Rattle.vk_protocol.specs.Protocols.{Reply, Protocol, ends, asks}
 use Rattle.vk_protocol.specs.Runs.{Does}
 

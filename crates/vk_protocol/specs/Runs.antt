@@ -6,7 +6,7 @@ use Rattle.vk_spec.specs.Standing.{Disk, disk_of}
 use Rattle.vk_spec.specs.Calls.{Call, Output, Answer, fails, Made, Says, IsSmall, is_reading, is_failed, Leaves, CanMake}
 use Rattle.vk_base.specs.declared.stops.Outage.{Outage}
 use Rattle.vk_base.specs.declared.stops.Outage.TheVariants.{Failed, Memory}
-use Rattle.vk_tree.specs.Walked.{IsTreeDisk}
+use Rattle.vk_tree.specs.Trees.{IsTreeDisk}
 use Rattle.vk_protocol.specs.Protocols.{Reply, answer_of, Protocol, ends, asks}
 
 -- ---- one step

@@ -3,7 +3,7 @@ use Rattle.std.specs.Prelude.{◌≡◌, ◌≢◌, ℕ, zero, suc, List, Some, 
 use Rattle.vk_spec.specs.Files.{Files}
 use Rattle.vk_spec.specs.Standing.{disk_of}
 use Rattle.vk_spec.specs.Calls.{Call, LeavesFailed}
-use Rattle.vk_tree.specs.Walked.{IsTreeDisk}
+use Rattle.vk_tree.specs.Trees.{IsTreeDisk}
 use Rattle.vk_protocol.specs.Keeps.{AreTerms, Keeps}
 use Rattle.vk_protocol.specs.Protocols.{Reply, Protocol, asks}
 use Rattle.vk_protocol.specs.Runs.{Does}

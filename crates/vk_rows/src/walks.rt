@@ -2,7 +2,8 @@
 
 use vk_base::{List, Stop, TreePath};
 use vk_row_text::Reply;
-use vk_tree::{Tree, WalkFault, walk};
+use vk_tree::Tree;
+use vk_walk::{WalkFault, walk};
 
 fn unwalked(stop: Stop<WalkFault>, reply: &mut Reply) {
     match stop {

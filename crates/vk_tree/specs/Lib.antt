@@ -4,6 +4,4 @@ pub mod Listing
 pub mod MemSinks
 pub mod MemTrees
 pub mod Moving
-pub mod Progress
-pub mod Walked
-pub mod Walks
+pub mod Trees

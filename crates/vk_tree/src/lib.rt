@@ -13,7 +13,6 @@ mod names;
 mod sending;
 mod sinks;
 mod trees;
-mod walking;
 
 pub use mem_sinks::MemSink;
 pub use mem_trees::MemTree;
@@ -21,4 +20,3 @@ pub use names::may_be_part;
 pub use sending::{OutStop, send};
 pub use sinks::{Sink, SinkFailed};
 pub use trees::{Kind, ListFault, Listed, MoveFault, ReadFault, RemoveFault, Tree};
-pub use walking::{WalkFault, walk};

@@ -16,14 +16,15 @@ use Rattle.vk_base.specs.declared.stops.Stop.TheVariants.{Fault, Failed, Memory}
 use Rattle.vk_tree.specs.Answers.{entry_of, entries_of, fault_by, list_refusal}
 use Rattle.vk_tree.specs.declared.trees.ListFault.{ListFault}
 use Rattle.vk_tree.specs.declared.trees.ListFault.TheVariants as list
-use Rattle.vk_tree.specs.Walks.{Limits, deep, entries, IsFirst}
-use Rattle.vk_tree.specs.Progress.{Upto, Before, Through, Until}
-use Rattle.vk_tree.specs.Walked.{IsTreeDisk, Took, ListedIn, Ready, Ends, Walked, IsInOrder, unlisted, walk_stops}
+use Rattle.vk_tree.specs.Trees.{IsTreeDisk}
+use Rattle.vk_walk.specs.Walks.{Limits, deep, entries, IsFirst}
+use Rattle.vk_walk.specs.Progress.{Upto, Before, Through, Until}
+use Rattle.vk_walk.specs.Walked.{Took, ListedIn, Ready, Ends, Walked, IsInOrder, unlisted, walk_stops}
 use Rattle.vk_tree.specs.declared.trees.Listed.{Listed}
-use Rattle.vk_tree.specs.declared.walking.WalkFault.{WalkFault}
-use Rattle.vk_tree.specs.declared.walking.WalkFault.TheVariants.{Missing, Deep, Entries, Files}
+use Rattle.vk_walk.specs.declared.walking.WalkFault.{WalkFault}
+use Rattle.vk_walk.specs.declared.walking.WalkFault.TheVariants.{Missing, Deep, Entries, Files}
 use Rattle.vk_tree.proofs.ListingLemmas.{some_entry}
-use Rattle.vk_tree.proofs.StepLemmas.{enter, next, passed, take_file, leave, finish, start, files_first, deep_first, entries_first}
+use Rattle.vk_walk.proofs.StepLemmas.{enter, next, passed, take_file, leave, finish, start, files_first, deep_first, entries_first}
 use Rattle.vk_tree.proofs.OnFilesLemmas.{files_then, files_two, files_on, files_back}
 
 step_names : (ls : List Listed) (i : ℕ) (x : Listed) → i < length ls → x ≡ get_or ls i x → entries_of (drop i ls) ≡ entry_of x ∷ entries_of (drop (i + 1) ls)

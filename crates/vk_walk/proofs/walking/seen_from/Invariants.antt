@@ -1,6 +1,6 @@
 use Rattle.std.proofs.Common.{take}
-use Rattle.vk_tree.specs.Walks.{AreSeen}
-use Rattle.vk_tree.proofs.walking.seen_from.Given as goal
+use Rattle.vk_walk.specs.Walks.{AreSeen}
+use Rattle.vk_walk.proofs.walking.seen_from.Given as goal
 
 abbrev pub invariant-loop-path : goal.invariant-loop-path
 invariant-loop-path l = AreSeen l.folder (take l.path-index l.paths) l.seen

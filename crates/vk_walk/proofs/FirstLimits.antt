@@ -6,9 +6,9 @@ use Rattle.std.specs.Ordering.{ordering_reverse}
 use Rattle.vk_spec.specs.Paths.{Path, path_cmp}
 use Rattle.vk_spec.proofs.FileLemmas.{path_total, path_same}
 use Rattle.vk_spec.specs.Standing.{Disk}
-use Rattle.vk_tree.specs.Walked.{IsTreeDisk}
-use Rattle.vk_tree.specs.Walks.{Limits, Limit, deep, entries, files, Passes, IsFirst, IsCalm}
-use Rattle.vk_tree.proofs.StepLemmas.{file_no_folder}
+use Rattle.vk_tree.specs.Trees.{IsTreeDisk}
+use Rattle.vk_walk.specs.Walks.{Limits, Limit, deep, entries, files, Passes, IsFirst, IsCalm}
+use Rattle.vk_walk.proofs.StepLemmas.{file_no_folder}
 
 far_near : (a b : ℕ) → a < b → b ≤ a → ⊥
 far_near a b far near = omega (arith, far, near)

@@ -13,12 +13,12 @@ use Rattle.vk_spec.proofs.OrderLemmas.{less_below}
 use Rattle.vk_spec.proofs.ListLemmas.{contains_nothing, contains_first, contains_later, contains_cases}
 use Rattle.vk_spec.specs.Standing.{Disk, Entry, IsFile, IsFolder, Stands, ByName, AreEntries, IsListing}
 use Rattle.vk_tree.specs.Listing.{IsAscending}
-use Rattle.vk_tree.specs.Walks.{Limits, Limit, deep, entries, files, Passes, IsFirst, IsCalm, AreFiles}
-use Rattle.vk_tree.specs.Walked.{IsTreeDisk}
-use Rattle.vk_tree.specs.Progress.{Upto, Before, Through, Until}
+use Rattle.vk_tree.specs.Trees.{IsTreeDisk}
+use Rattle.vk_walk.specs.Walks.{Limits, Limit, deep, entries, files, Passes, IsFirst, IsCalm, AreFiles}
+use Rattle.vk_walk.specs.Progress.{Upto, Before, Through, Until}
 use Rattle.vk_tree.proofs.PlaceLemmas.{lower_name, name_not_below, higher_not_before, before_name, not_before_own, cancel}
-use Rattle.vk_tree.proofs.ShorterLemmas.{no_longer}
-use Rattle.vk_tree.proofs.EntryLemmas.{file_stands, folder_stands, listings_within, earlier, later, differ}
+use Rattle.vk_walk.proofs.ShorterLemmas.{no_longer}
+use Rattle.vk_walk.proofs.EntryLemmas.{file_stands, folder_stands, listings_within, earlier, later, differ}
 
 not_before : (p q : Path) → Begins p q → path_cmp q p ≡ Less → ⊥
 not_before p q (rest, e) h = not_before_own p rest (ap (λ x. path_cmp x p) (sym e) ∙ h)

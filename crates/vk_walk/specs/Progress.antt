@@ -5,7 +5,7 @@ use Rattle.std.specs.declared.cmp.Ordering.TheVariants.{Less}
 use Rattle.vk_spec.specs.Paths.{Path, path_cmp, Begins}
 use Rattle.vk_spec.specs.Standing.{Disk, IsFile, Entry}
 use Rattle.vk_tree.specs.Listing.{IsAscending}
-use Rattle.vk_tree.specs.Walks.{Limits, Limit, Passes}
+use Rattle.vk_walk.specs.Walks.{Limits, Limit, Passes}
 
 -- the files found are those of the cut, and no limit is passed in it
 pub record Upto (most : Limits) (d : Disk) (folder : Path) (cut : Path → Type 0) (found : List Path) : Type 0 where

@@ -7,15 +7,16 @@ ghost use Rattle.vk_spec.specs.Standing.{OnFiles};
 ghost use Rattle.vk_spec.specs.Calls.{most_entries};
 ghost use Rattle.vk_base.specs.Paths.{is_part};
 ghost use Rattle.vk_tree.specs.Answers.{entries_of};
-ghost use Rattle.vk_tree.specs.Walks.{AreSeen, text_order};
-ghost use Rattle.vk_tree.specs.Walked.{IsTreeDisk, Ready, Walked, ListedIn, Took, IsInOrder};
-ghost use Rattle.vk_tree.specs.Walked.{WalkIs};
-ghost use Rattle.vk_tree.specs.Walked.{limits_of, walk_limits, unlisted, walk_failed};
+ghost use Rattle.vk_tree.specs.Trees.{IsTreeDisk};
+ghost use Rattle.vk_walk.specs.Walks.{AreSeen, text_order};
+ghost use Rattle.vk_walk.specs.Walked.{Ready, Walked, ListedIn, Took, IsInOrder};
+ghost use Rattle.vk_walk.specs.Walked.{WalkIs};
+ghost use Rattle.vk_walk.specs.Walked.{limits_of, walk_limits, unlisted, walk_failed};
 
-use crate::trees::{ListFault, Listed, Tree};
 use std::alloc::{AllocError, AllocFailed, Global};
 use std::cmp::Ordering;
 use vk_base::{List, Memory, Stop, TreePath};
+use vk_tree::{ListFault, Listed, Tree};
 
 /// Why a folder wasn't walked: it isn't there, or the first limit that is passed in the order of
 /// paths.

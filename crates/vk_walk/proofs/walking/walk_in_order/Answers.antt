@@ -1,8 +1,8 @@
 use Rattle.std.proofs.Common.{refl}
 use Rattle.vk_tree.specs.Answers.{entries_of}
-use Rattle.vk_tree.specs.Walked.{limits_of}
-use Rattle.vk_tree.proofs.WalkLemmas.{root_stopped, root_read, root_ready, root_done}
-use Rattle.vk_tree.proofs.walking.walk_in_order.Goals as goal
+use Rattle.vk_walk.specs.Walked.{limits_of}
+use Rattle.vk_walk.proofs.WalkLemmas.{root_stopped, root_read, root_ready, root_done}
+use Rattle.vk_walk.proofs.walking.walk_in_order.Goals as goal
 
 pub returns-in-Err-clause-is : goal.returns-in-Err-clause-is
 returns-in-Err-clause-is g c = rw (c.unlisted.ensures) (root_stopped (limits_of c.args.job) c.args.job.folder.now (g.T.Tree.state c.args.tree.now) (g.T.Tree.state c.list.new.self) c.in-Err.stop refl c.in-Err.ensures.made)

@@ -3,9 +3,9 @@ use Rattle.std.proofs.lemmas.Fn.{always_returns_same}
 use Rattle.std.proofs.lemmas.List.MinMax.{ranks_by}
 use Rattle.std.specs.Ordering.{is_lt}
 use Rattle.vk_base.specs.Paths.{text_of_path}
-use Rattle.vk_tree.specs.Walks.{text_order}
+use Rattle.vk_walk.specs.Walks.{text_order}
 use Rattle.vk_tree.proofs.PlaceLemmas.{part_total}
-use Rattle.vk_tree.proofs.walking.in_order_of_texts.Goals as goal
+use Rattle.vk_walk.proofs.walking.in_order_of_texts.Goals as goal
 
 pub returns-clause-order : goal.returns-clause-order
 returns-clause-order c =

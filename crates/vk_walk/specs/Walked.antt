@@ -1,23 +1,20 @@
 -- What each part of a walk is given, and what it leaves.
-use Rattle.std.specs.Prelude.{◌≡◌, ◌≤◌, ◌<◌, ◌++◌, [], ◌∷◌, ℕ, Bool, true, false, List, length, Result, Ok, Err, None, IsSome}
+use Rattle.std.specs.Prelude.{◌≡◌, ◌≤◌, ◌<◌, ◌++◌, [], ◌∷◌, ℕ, Bool, true, false, List, length, Result, Ok, Err}
 use Rattle.vk_spec.specs.Paths.{Path, Begins}
 use Rattle.vk_spec.specs.Standing.{Disk, Entry, IsFolder, AreEntries, IsListing}
 use Rattle.vk_spec.specs.Calls.{most_entries}
 use Rattle.vk_base.specs.declared.stops.Stop.{Stop}
 use Rattle.vk_base.specs.declared.stops.Stop.TheVariants.{Fault, Failed, Memory}
-use Rattle.vk_tree.specs.Walks.{Limits, deep, entries, files, IsFirst, IsCalm, AreFiles, AreFilesBelow}
-use Rattle.vk_tree.specs.Progress.{Upto, Before, Through}
+use Rattle.vk_tree.specs.Trees.{IsTreeDisk}
+use Rattle.vk_walk.specs.Walks.{Limits, deep, entries, files, IsFirst, IsCalm, AreFiles, AreFilesBelow}
+use Rattle.vk_walk.specs.Progress.{Upto, Before, Through}
 use Rattle.vk_tree.specs.declared.trees.Listed.{Listed}
 use Rattle.vk_tree.specs.declared.trees.ListFault.{ListFault}
 use Rattle.vk_tree.specs.declared.trees.ListFault.TheVariants as list
 use Rattle.vk_tree.specs.Answers.{entries_of}
-use Rattle.vk_tree.specs.declared.walking.WalkFault.{WalkFault}
-use Rattle.vk_tree.specs.declared.walking.WalkFault.TheVariants.{Missing, Deep, Entries, Files}
-use Rattle.vk_tree.specs.declared.walking.Job.{Job}
-
--- no file lies below a file
-abbrev pub IsTreeDisk : Disk → Type 0
-IsTreeDisk d = (p : Path) (part : List ℕ) (rest : Path) → IsSome (d p) → d (p ++ part ∷ rest) ≡ None
+use Rattle.vk_walk.specs.declared.walking.WalkFault.{WalkFault}
+use Rattle.vk_walk.specs.declared.walking.WalkFault.TheVariants.{Missing, Deep, Entries, Files}
+use Rattle.vk_walk.specs.declared.walking.Job.{Job}
 
 -- the tree failed
 abbrev pub walk_stops : Stop WalkFault → Bool

@@ -1,8 +1,8 @@
 use Rattle.std.proofs.Common.{subst}
 use Rattle.vk_base.specs.Paths.{IsFrom}
-use Rattle.vk_tree.proofs.SeenLemmas.{next_seen, next_elsewhere}
-use Rattle.vk_tree.proofs.walking.seen_from.Goals.{in-Some+in_ok-push, in_default}
-use Rattle.vk_tree.proofs.walking.seen_from.Goals as goal
+use Rattle.vk_walk.proofs.SeenLemmas.{next_seen, next_elsewhere}
+use Rattle.vk_walk.proofs.walking.seen_from.Goals.{in-Some+in_ok-push, in_default}
+use Rattle.vk_walk.proofs.walking.seen_from.Goals as goal
 
 pub loop-path-preserved : goal.loop-path-preserved
 loop-path-preserved c = elim c.match-branch-2.branch [

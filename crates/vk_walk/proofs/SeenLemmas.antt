@@ -16,11 +16,11 @@ use Rattle.vk_spec.specs.Standing.{Disk, OnFiles}
 use Rattle.vk_spec.proofs.FileLemmas.{path_total, ties_same, ties_other}
 use Rattle.vk_spec.proofs.ListLemmas.{contains_nothing, contains_first, contains_later, contains_cases, no_repeats_push}
 use Rattle.vk_base.specs.Paths.{IsFrom}
-use Rattle.vk_tree.specs.Walks.{Limits, AreFiles, AreFilesBelow, AreSeen, text_order}
-use Rattle.vk_tree.specs.Walked.{IsInOrder, WalkIs}
+use Rattle.vk_walk.specs.Walks.{Limits, AreFiles, AreFilesBelow, AreSeen, text_order}
+use Rattle.vk_walk.specs.Walked.{IsInOrder, WalkIs}
 use Rattle.vk_tree.proofs.OnFilesLemmas.{files_then}
 use Rattle.vk_tree.proofs.PlaceLemmas.{cancel}
-use Rattle.vk_tree.proofs.StepLemmas.{distinct}
+use Rattle.vk_walk.proofs.StepLemmas.{distinct}
 
 pub none_seen : (folder : Path) → AreSeen folder [] []
 none_seen folder = record { sound = λ q at. absurd (contains_nothing q at); all = λ rest at. absurd (contains_nothing (folder ++ rest) at); once = λ each. each }

@@ -3,12 +3,12 @@ use Rattle.std.proofs.lemmas.Result.{err_from_is_err_and}
 use Rattle.std.proofs.lemmas.List.{drop_all}
 use Rattle.vk_spec.proofs.StateLemmas.{listed_nothing, listed_then, listed_reads}
 use Rattle.vk_tree.specs.Answers.{entries_of}
-use Rattle.vk_tree.specs.Walked.{limits_of}
-use Rattle.vk_tree.specs.Progress.{Upto, Through}
+use Rattle.vk_walk.specs.Walked.{limits_of}
+use Rattle.vk_walk.specs.Progress.{Upto, Through}
 use Rattle.vk_tree.proofs.OnFilesLemmas.{files_back}
-use Rattle.vk_tree.proofs.WalkLemmas.{begun, reached, dealt, too_deep, still_near, stopped, ready_below, taken, untaken, left_it}
-use Rattle.vk_tree.proofs.walking.+walk_entries.Goals.{then-entry+else-left-eq0+in_ok-inner+in_ok-walk_entries, else-entry+in_ok-take}
-use Rattle.vk_tree.proofs.walking.+walk_entries.Goals as goal
+use Rattle.vk_walk.proofs.WalkLemmas.{begun, reached, dealt, too_deep, still_near, stopped, ready_below, taken, untaken, left_it}
+use Rattle.vk_walk.proofs.walking.+walk_entries.Goals.{then-entry+else-left-eq0+in_ok-inner+in_ok-walk_entries, else-entry+in_ok-take}
+use Rattle.vk_walk.proofs.walking.+walk_entries.Goals as goal
 
 pub loop-entry-init : goal.loop-entry-init
 loop-entry-init g t c =

@@ -13,7 +13,7 @@ use Rattle.vk_spec.specs.Paths.{Path}
 use Rattle.vk_spec.proofs.ListLemmas.{contains_nothing, contains_first, contains_later, contains_cases}
 use Rattle.vk_spec.specs.Standing.{Disk, Entry, IsFile, IsFolder, IsAs, Stands, ByName, AreEntries, IsListing}
 use Rattle.vk_tree.proofs.PlaceLemmas.{part_total}
-use Rattle.vk_tree.proofs.ShorterLemmas.{no_longer}
+use Rattle.vk_walk.proofs.ShorterLemmas.{no_longer}
 
 pub file_stands : (d : Disk) (p : Path) → IsFile d p → Stands d p
 file_stands d p h = ([], subst (λ q. IsSome (d q)) (sym (append-nil p)) h)

@@ -1,6 +1,6 @@
-use Rattle.vk_tree.specs.Walked.{walk_limits}
-use Rattle.vk_tree.proofs.SeenLemmas.{walked_by}
-use Rattle.vk_tree.proofs.walking.walk.Goals as goal
+use Rattle.vk_walk.specs.Walked.{walk_limits}
+use Rattle.vk_walk.proofs.SeenLemmas.{walked_by}
+use Rattle.vk_walk.proofs.walking.walk.Goals as goal
 
 pub returns-clause-is : goal.returns-clause-is
 returns-clause-is g c =

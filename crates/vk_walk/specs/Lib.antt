@@ -1,0 +1,5 @@
+-- what is promised
+pub mod Walks
+pub mod Walked
+-- what functions say besides
+pub mod Progress
