@@ -9,5 +9,6 @@ pub mod OneInput
 pub mod PathTexts
 pub mod PutLemmas
 pub mod ReadLemmas
+pub mod RightLemmas
 pub mod SameTexts
 pub mod Selections

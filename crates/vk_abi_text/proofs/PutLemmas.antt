@@ -5,7 +5,8 @@ use Rattle.std.specs.declared.cmp.Ordering.{Ordering}
 use Rattle.std.specs.declared.cmp.Ordering.TheVariants.{Less, Equal, Greater}
 use Rattle.std.specs.BTreeSet.{insert_key}
 use Rattle.std.specs.Cmp.Lexicographic.{slice_cmp}
-use Rattle.std.specs.List.{Contains}
+use Rattle.std.specs.List.{All, Contains}
+use Rattle.std.proofs.lemmas.List.Elements.{All-append, All-cons, All-nil}
 use Rattle.std.specs.Ordering.{match_ordering, nat_cmp, ordering_then}
 use Rattle.std.proofs.lemmas.List.{append-nil}
 use Rattle.std.proofs.lemmas.List.{map-append, take_all, take_more}
@@ -97,6 +98,17 @@ module _ {A B : Type 0} (view : A → B) (make : B → AbiLine) (xs : List A) (n
 
   pub put_all : (old new : List (List ℕ)) → length xs ≤ n → Puts (texts_by view make (take n xs)) old new → Puts (texts_by view make xs) old new
   put_all old new ends put = subst (λ l. Puts (texts_by view make l) old new) (take_all n xs ends) put
+
+-- what the first ones of a list keep, and one more of them
+module _ {A B : Type 0} (view : A → B) (P : B → Type 0) (xs : List A) (n : ℕ) where
+  pub right_next : (x : A) → n < length xs → x ≡ get_or xs n x → All P (map view (take n xs)) → P (view x) → All P (map view (take (n + 1) xs))
+  right_next x within is all one =
+      let longer : take (n + 1) xs ≡ take n xs ++ x ∷ [] = take_more xs n x within ∙ ap (λ y. take n xs ++ y ∷ []) (sym is) in
+      subst (All P) (sym (ap (map view) longer ∙ map-append view (take n xs) (x ∷ [])))
+      (All-append P (map view (take n xs)) (view x ∷ []) all (All-cons P (view x) [] one (All-nil P)))
+
+  pub right_all : length xs ≤ n → All P (map view (take n xs)) → All P (map view xs)
+  right_all ends all = subst (λ l. All P (map view l)) (take_all n xs ends) all
 
 -- one of five
 pub put_same : (t u : List ℕ) (old new : List (List ℕ)) → Puts (t ∷ []) old new → t ≡ u → Puts (u ∷ []) old new

@@ -61,6 +61,15 @@ pub record IsRightInput (i : Input) : Type 0 where
   pub deps : All IsRightDep i.deps
   pub each_instance : NoRepeats (map (λ d. d.instance) i.deps)
 
+-- what the values that it is made of keep, whoever made them: all but its dependencies, and that `default` is none of its features
+pub record HasRightParts (i : Input) : Type 0 where
+  pub builder : IsRightBuilder i.builder
+  pub port : IsName port_rule i.port
+  pub version : IsRightVersion i.version
+  pub features : All (IsName word_rule) i.features
+  pub triplet : IsName word_rule i.triplet
+  pub paths : All (λ f. All IsByte (text_of_path f.path)) i.files
+
 -- the same of what a line says
 abbrev pub IsRightLine : AbiLine → Type 0
 IsRightLine (builder_line b) = IsRightBuilder b

@@ -1,11 +1,16 @@
 //! The ABI text of an input, and its digest.
 ghost use Rattle.std.specs.Prelude.{◌≡◌, ◌++◌, ◌∷◌, [], IfOk, OnOk, flat_map, map};
+ghost use Rattle.std.specs.List.{All};
 ghost use Rattle.sha2.specs.Sha256.{sha256};
 ghost use Rattle.vk_base.specs.FeatureViews.{feature_view};
+ghost use Rattle.vk_base.specs.Names.{IsName, word_rule};
+ghost use Rattle.vk_base.specs.Paths.{text_of_path};
+ghost use Rattle.vk_base.specs.Tokens.{IsByte};
 ghost use Rattle.vk_resolution.specs.Lines.{ended};
 ghost use Rattle.vk_abi_text.specs.Lines as line;
 ghost use Rattle.vk_abi_text.specs.Lines.{abi_text_of, heading, line_text};
-ghost use Rattle.vk_abi_text.specs.Puts.{Puts, single_lines};
+ghost use Rattle.vk_abi_text.specs.Puts.{HasRightSingles, Puts, single_lines};
+ghost use Rattle.vk_abi_text.specs.Rights.{HasRightParts};
 ghost use Rattle.vk_abi_text.specs.Views.{dep_view, file_view, source_view};
 
 use crate::inputs::{AbiSource, DepDigest};
@@ -31,8 +36,9 @@ fn put(lines: &mut Lines, line: Text) -> Result<(), Memory>
 
 // The lines of which there is one each.
 fn put_singles(alloc: Global, lines: &mut Lines, source: &AbiSource<'_>) -> Result<(), Memory>
-    ensures { OnOk result (Puts (map line_text (single_lines (source_view source.now)))
+    ensures lines { OnOk result (Puts (map line_text (single_lines (source_view source.now)))
         lines.old.keys lines.new.keys) }
+    ensures right { OnOk result (HasRightSingles (source_view source.now)) }
 {
     put(lines, builder_line(alloc, source.builder)?)?;
     put(lines, native_line(alloc, source.native)?)?;
@@ -53,9 +59,10 @@ fn put_deps(alloc: Global, lines: &mut Lines, deps: &[DepDigest]) -> Result<(), 
 }
 
 fn put_features(alloc: Global, lines: &mut Lines, features: &[FeatureName]) -> Result<(), Memory>
-    ensures { OnOk result
+    ensures lines { OnOk result
         (Puts (map line_text (map line.feature_line (map feature_view features.now)))
         lines.old.keys lines.new.keys) }
+    ensures right { OnOk result (All (IsName word_rule) (map feature_view features.now)) }
 {
     for feature in features {
         put(lines, feature_line(alloc, feature)?)?;
@@ -64,8 +71,11 @@ fn put_features(alloc: Global, lines: &mut Lines, features: &[FeatureName]) -> R
 }
 
 fn put_files(alloc: Global, lines: &mut Lines, files: &[FileDigest]) -> Result<(), Memory>
-    ensures { OnOk result (Puts (map line_text (map line.file_line (map file_view files.now)))
+    ensures lines { OnOk result
+        (Puts (map line_text (map line.file_line (map file_view files.now)))
         lines.old.keys lines.new.keys) }
+    ensures right { OnOk result
+        (All (λ f. All IsByte (text_of_path f.path)) (map file_view files.now)) }
 {
     for file in files {
         put(lines, file_line(alloc, file)?)?;
@@ -86,9 +96,10 @@ fn text_of(alloc: Global, lines: &Lines) -> Result<List<u8>, Memory>
 }
 
 /// The ABI text of an input: its first line, and then its lines in the order of their bytes, each
-/// of them once.
+/// of them once. Names, version, builder and paths keep the rules of their kinds.
 pub fn abi_text(alloc: Global, source: &AbiSource<'_>) -> Result<List<u8>, Memory>
-    ensures { IfOk result (λ text. text ≡ abi_text_of (source_view source.now)) }
+    ensures text { IfOk result (λ text. text ≡ abi_text_of (source_view source.now)) }
+    ensures right { OnOk result (HasRightParts (source_view source.now)) }
 {
     let mut lines = BTreeSet::new(alloc);
     put_singles(alloc, &mut lines, source)?;

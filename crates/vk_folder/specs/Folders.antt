@@ -1,6 +1,6 @@
 -- The files of a folder with their bytes, and what is answered of them.
 use Rattle.std.specs.Prelude.{◌≡◌, ◌≤◌, ◌<◌, ◌++◌, [], ◌∷◌, ℕ, List, length, Bool, Some, IfSome, Result, Ok, Err, IfErr}
-use Rattle.std.specs.List.{Contains, sum_by}
+use Rattle.std.specs.List.{All, Contains, sum_by}
 use Rattle.std.specs.Prelude.{map}
 use Rattle.std.specs.declared.cmp.Ordering.TheVariants.{Less}
 use Rattle.sha2.specs.Sha256.{sha256}
@@ -8,6 +8,7 @@ use Rattle.vk_spec.specs.Paths.{Path}
 use Rattle.vk_spec.specs.Lists.{NoRepeats}
 use Rattle.vk_spec.specs.States.{State, OnlyRead}
 use Rattle.vk_spec.specs.Standing.{Disk}
+use Rattle.vk_base.specs.Paths.{IsPath}
 use Rattle.vk_base.specs.Stops.{stop_fault_in}
 use Rattle.vk_base.specs.declared.limits.Limit.{Limit}
 use Rattle.vk_base.specs.declared.limits.Limit.TheVariants as limit
@@ -48,6 +49,10 @@ HasMoreBytes most d folder = (fs : List File) × NoRepeats fs × ((f : File) →
 -- a file's digest
 abbrev pub digest_of : File → FileDigest
 digest_of f = record { path = f.path; digest = record { bytes = sha256 f.bytes } }
+
+-- each stands at a path
+abbrev pub AtPaths : List FileDigest → Type 0
+AtPaths digests = All (λ f. IsPath f.path) digests
 
 -- the digests of all files below a folder, which have at most so many bytes together
 pub record AreDigests (most : ℕ) (d : Disk) (folder : Path) (digests : List FileDigest) : Type 0 where

@@ -1,12 +1,12 @@
 //! The digests of the files below a folder.
-ghost use Rattle.std.specs.Prelude.{◌≡◌, ℕ, IfOk};
+ghost use Rattle.std.specs.Prelude.{◌≡◌, ℕ, IfOk, OnOk};
 ghost use Rattle.vk_spec.specs.Paths.{Begins};
 ghost use Rattle.vk_spec.specs.States.{IsNarrow};
 ghost use Rattle.vk_spec.specs.Standing.{OnFiles};
 ghost use Rattle.vk_base.specs.Paths.{IsPath};
 ghost use Rattle.vk_base.specs.Stops.{has_failed};
 ghost use Rattle.vk_tree.specs.Trees.{IsTreeDisk};
-ghost use Rattle.vk_folder.specs.Folders.{FolderTold, IsFolderLimit, OnLimit, ReadsOnly};
+ghost use Rattle.vk_folder.specs.Folders.{AtPaths, FolderTold, IsFolderLimit, OnLimit, ReadsOnly};
 ghost use Rattle.vk_folder.specs.Hashed.{OnlyPieces, PathsTold, AddedIs, DigestsTold, AreSeenFiles};
 ghost use Rattle.vk_folder.specs.Hashed.{unwalked};
 
@@ -45,6 +45,7 @@ pub fn folder_digests<T: Tree>(
         (T.state tree.new) }
     ensures narrow { IsNarrow 65536 (T.state tree.old) (T.state tree.new) }
     ensures tree { OnFiles IsTreeDisk (T.state tree.old) }
+    ensures paths { IfOk result AtPaths }
 {
     let paths = paths_below(alloc, tree, folder)?;
     digests_of(alloc, tree, folder, paths, most)
@@ -93,6 +94,7 @@ fn add_digest<T: Tree>(
     digests: &mut List<FileDigest>,
 ) -> Result<Room, Stop<Limit>>
     ensures path { IsPath seen }
+    ensures paths { OnOk result (AtPaths digests.old → AtPaths digests.new) }
     ensures is { OnFiles (AddedIs folder.now seen room digests.old result digests.new)
         (T.state tree.old) }
     ensures limits { OnLimit result (IsFolderLimit room.most) }
@@ -124,6 +126,7 @@ fn digests_of<T: Tree>(
     ensures limits { OnLimit result (IsFolderLimit most) }
     ensures reads { OnlyPieces folder.now (has_failed result) (T.state tree.old)
         (T.state tree.new) }
+    ensures paths { IfOk result AtPaths }
 {
     let mut digests = List::new(alloc);
     let mut room = Room { most, left: most };

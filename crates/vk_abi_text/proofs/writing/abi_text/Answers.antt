@@ -7,9 +7,9 @@ use Rattle.vk_abi_text.specs.Views.{source_view}
 use Rattle.vk_abi_text.proofs.PutLemmas.{put_lines}
 use Rattle.vk_abi_text.proofs.writing.abi_text.Goals as goal
 
-pub returns : goal.returns
-returns c =
+pub returns-clause-text : goal.returns-clause-text
+returns-clause-text c =
     let texts : c.put_files.new.lines.keys ≡ texts_of (source_view c.args.source.now) =
     put_lines (source_view c.args.source.now) c.new-lines.result.keys c.put_singles.new.lines.keys c.put_deps.new.lines.keys c.put_features.new.lines.keys c.put_files.new.lines.keys
-    c.new-lines.ensures.empty c.in_ok-put_singles.ensures c.in_ok-put_deps.ensures c.in_ok-put_features.ensures c.in_ok-put_files.ensures in
+    c.new-lines.ensures.empty c.in_ok-put_singles.ensures.lines c.in_ok-put_deps.ensures c.in_ok-put_features.ensures.lines c.in_ok-put_files.ensures.lines in
     if_ok_then c.text_of.result (λ text is. is ∙ ap (λ l. heading ++ flat_map ended l) texts) c.text_of.ensures

@@ -25,6 +25,7 @@ loop-path-preserved g c = record {
   files = next_on c.args.most c.args.folder.now c.args.paths (into_iter_items c.next.new.self) c.loop-path.room c.in_ok-room.room c.loop-path.digests c.add_digest.new.digests c.in-Some.path c.in_ok-room.ensures.path
       c.loop-path.invariant.reads c.requires c.in_ok-room.ensures.is
       (subst (λ l. OnFiles (SoFar c.args.most c.args.folder.now c.args.paths l c.loop-path.room c.loop-path.digests) (g.T.Tree.state c.args.tree.now)) c.in-Some.ensures.steps.0 c.loop-path.invariant.files);
+  paths = c.in_ok-room.ensures.paths c.loop-path.invariant.paths;
   reads = pieces_then c.loop-path.invariant.reads c.in_ok-room.ensures.reads;
 }
 
