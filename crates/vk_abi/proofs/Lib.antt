@@ -6,6 +6,7 @@ mod NodeLemmas
 mod PlanLemmas
 mod ProgressLemmas
 mod RestLemmas
+mod RightNodes
 mod SeenTexts
 mod TextLemmas
 pub mod Uniques

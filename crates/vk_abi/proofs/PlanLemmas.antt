@@ -128,7 +128,7 @@ deps_there instances nodes at (n ∷ needs) =
 
 -- ---- different places have different instances
 
-get_contains : {X : Type 0} (xs : List X) (n : ℕ) (x : X) → slice_get xs n ≡ Some x → Contains xs x
+pub get_contains : {X : Type 0} (xs : List X) (n : ℕ) (x : X) → slice_get xs n ≡ Some x → Contains xs x
 get_contains [] n x e = (cc)
 get_contains (y ∷ xs) zero x e = let same : y ≡ x = (cc) in subst (Contains (y ∷ xs)) same (contains_first y xs)
 get_contains (y ∷ xs) (suc n) x e = contains_later y x xs (get_contains xs n x e)
@@ -140,7 +140,7 @@ one_place (y ∷ xs) each zero (suc n) x e f = let same : y ≡ x = (cc) in absu
 one_place (y ∷ xs) each (suc m) zero x e f = let same : y ≡ x = (cc) in absurd (each.0 (subst (Contains xs) (sym same) (get_contains xs m x e)))
 one_place (y ∷ xs) each (suc m) (suc n) x e f = ap suc (one_place xs each.1 m n x e f)
 
-at_place : {X : Type 0} (xs : List X) (places : List ℕ) (x : X) → Contains (at_places xs places) x → (n : ℕ) × (slice_get xs n ≡ Some x)
+pub at_place : {X : Type 0} (xs : List X) (places : List ℕ) (x : X) → Contains (at_places xs places) x → (n : ℕ) × (slice_get xs n ≡ Some x)
 at_place xs places x h =
     let p = contains-flat_map (λ n. option_to_list (slice_get xs n)) places x h in
     (p.0, listed_is (slice_get xs p.0) x p.2)

@@ -4,20 +4,22 @@ use Rattle.std.specs.Prelude.{slice_get, Option, Some, None, option_map, Ok, Err
 use Rattle.std.specs.List.{Contains, zip}
 use Rattle.std.proofs.Math.Seq.{drop-cons, take-length}
 use Rattle.std.proofs.lemmas.List.{map-append, take_more, drop_all, take-append-drop}
-use Rattle.std.proofs.lemmas.List.Elements.{Contains-append_cases}
+use Rattle.std.proofs.lemmas.List.Elements.{All-append, All-cons, All-contains, All-nil, Contains-append_cases}
 use Rattle.std.proofs.lemmas.Option.{slice_get-map}
 use Rattle.vk_spec.specs.Lists.{NoRepeats}
 use Rattle.vk_spec.specs.Standing.{Disk}
 use Rattle.vk_spec.proofs.ListLemmas.{contains_nothing, contains_cases}
 use Rattle.vk_resolution.specs.Keys.{in_order}
+use Rattle.vk_resolution.proofs.Members.{map_contains}
 use Rattle.vk_base.specs.declared.limits.Limit.{Limit}
 use Rattle.vk_tree.specs.Trees.{IsTreeDisk}
 use Rattle.vk_folder.specs.Folders.{FolderIs}
-use Rattle.vk_abi.specs.Nodes.{Node, node, nodes_of, instance_of, file_digest}
-use Rattle.vk_abi.specs.Plans.{Shared, Placed, Pair, pair_of, pair_view, own_of, node_key, at_places, AreNodesFrom, IsFine, IsFirstLimit, AreTexts}
+use Rattle.vk_abi.specs.Nodes.{Node, node, nodes_of, instance_of, file_digest, IsRightNode}
+use Rattle.vk_abi.specs.Plans.{Shared, Placed, Pair, pair_of, pair_view, own_of, node_key, at_places, AreNodesFrom, HasItsFeatures, HaveTheirFeatures, IsFine, IsFirstLimit, AreOfRightNodes, AreTexts}
 use Rattle.vk_abi.specs.Written.{pair_by, PairTold, Progress}
 use Rattle.vk_abi.specs.declared.plans.AbiPair.{AbiPair}
 use Rattle.vk_abi.proofs.PlanLemmas.{AreAt, written_is}
+use Rattle.vk_abi.proofs.RightNodes.{right_node}
 
 -- ---- lists side by side
 
@@ -63,6 +65,7 @@ begun shared d plan = record {
   is = refl;
   instances = refl;
   fine = λ folder h. absurd (contains_nothing folder h);
+  right = λ its. All-nil IsRightNode;
   goes = λ all are. are;
 }
 
@@ -83,14 +86,29 @@ one_more shared d plan k x pairs pair within at each p told =
         | inl before ↦ p.fine folder before
         | inr last ↦ elim (contains_cases x.1 folder [] last) [ inl same ↦ subst (IsFine shared.most d) same told.0 | inr none ↦ absurd (contains_nothing folder none) ]
       ];
+      right = λ its. All-append IsRightNode p.nodes (new ∷ []) (p.right its)
+          (All-cons IsRightNode new [] (right_node shared x.0 files p.nodes told.4 (item_at its) told.2.order (p.right its)) (All-nil IsRightNode));
       goes = λ all are. p.goes all (subst (λ rest. AreNodesFrom shared d p.nodes rest all) (sym (drop-cons plan k x within ∙ ap (λ y. y ∷ drop (suc k) plan) at)) (new, record { files = files; are = told.2; is = refl }, subst (λ n. AreNodesFrom shared d (p.nodes ++ new ∷ []) (drop n plan) all) next are));
     }
+
+  where
+    item_at : HaveTheirFeatures (map (λ y. y.0) plan) → HasItsFeatures x.0
+    item_at its = All-contains HasItsFeatures (map (λ y. y.0) plan) x.0 its (map_contains (λ y. y.0) plan x (k, within, at))
 
 pub all_written : (shared : Shared) (d : Disk) (plan : List Placed) (k : ℕ) (pairs : List Pair) → length plan ≡ k → Progress shared d plan k pairs → AreTexts shared d plan pairs
 all_written shared d plan k pairs whole p = record {
   fine = λ folder h. p.fine folder (subst (λ xs. Contains (map (λ x. x.1) xs) folder) (sym (subst (λ n. take n plan ≡ plan) whole (take-length plan))) h);
   nodes = p.nodes;
   are = p.goes p.nodes (subst (λ rest. AreNodesFrom shared d p.nodes rest p.nodes) (sym (drop_all k plan (omega (arith, whole)))) refl);
+  is = p.is;
+}
+
+pub rightly_written : (shared : Shared) (d : Disk) (plan : List Placed) (k : ℕ) (pairs : List Pair) → length plan ≡ k → HaveTheirFeatures (map (λ x. x.0) plan) → Progress shared d plan k pairs → AreOfRightNodes shared d plan pairs
+unfolding all_written
+rightly_written shared d plan k pairs whole its p = record {
+  nodes = p.nodes;
+  are = (all_written shared d plan k pairs whole p).are;
+  right = p.right its;
   is = p.is;
 }
 

@@ -1,7 +1,8 @@
 -- The texts of a plan over a tree, step by step.
 use Rattle.std.proofs.Common.{◌≡◌, ◌<◌, ◌++◌, ◌∷◌, ◌+◌, ℕ, List, [], map, length, get_or, refl, sym, ap, ◌∙◌, subst, false, arith}
 use Rattle.std.specs.Prelude.{Bool, Result, Ok, Err}
-use Rattle.std.specs.List.{zip}
+use Rattle.std.specs.List.{All, zip}
+use Rattle.std.proofs.lemmas.List.Elements.{All-map}
 use Rattle.std.proofs.lemmas.List.{map-append}
 use Rattle.vk_spec.specs.Lists.{NoRepeats}
 use Rattle.vk_spec.specs.Paths.{Path, Begins}
@@ -11,6 +12,7 @@ use Rattle.vk_spec.proofs.OptionLemmas.{of_each}
 use Rattle.vk_spec.specs.States.{State, OnlyRead}
 use Rattle.vk_base.specs.declared.stops.Stop.{Stop}
 use Rattle.vk_base.specs.declared.stops.Stop.TheVariants as stop
+use Rattle.vk_base.specs.Paths.{IsPath}
 use Rattle.vk_base.specs.declared.limits.Limit.{Limit}
 use Rattle.vk_tree.proofs.OnFilesLemmas.{files_then, files_both, files_two, files_back}
 use Rattle.vk_resolution.specs.Planning.{order_of}
@@ -18,15 +20,17 @@ use Rattle.vk_model.specs.FaultViews.{item_view}
 use Rattle.vk_model.specs.SettingViews.{instance_view}
 use Rattle.vk_model.specs.declared.plans.Item.{Item}
 use Rattle.vk_tree.specs.Trees.{IsTreeDisk}
-use Rattle.vk_folder.specs.Folders.{File, FolderIs, FolderTold, ReadsOnly, digest_of}
+use Rattle.vk_folder.specs.Folders.{AtPaths, File, FolderIs, FolderTold, ReadsOnly, digest_of}
 use Rattle.vk_folder.specs.declared.digests.FileDigest.{FileDigest}
 use Rattle.vk_folder.proofs.ReadLemmas.{reads_then, reads_wider}
+use Rattle.vk_abi_text.specs.Inputs as plain
 use Rattle.vk_abi_text.specs.Views.{file_view}
 use Rattle.vk_abi.specs.Nodes.{file_digest}
-use Rattle.vk_abi.specs.Plans.{IsBelowSome, Shared, Placed, Pair, pair_view, TextsTold}
-use Rattle.vk_abi.specs.Written.{pair_by, PairTold, Progress}
+use Rattle.vk_abi.specs.Plans.{HaveTheirFeatures, IsBelowSome, Shared, Placed, Pair, pair_view, OfRightNodes, TextsTold}
+use Rattle.vk_abi.specs.Written.{pair_by, IsRightItem, PairTold, Progress}
 use Rattle.vk_abi.specs.declared.plans.AbiPair.{AbiPair}
-use Rattle.vk_abi.proofs.ProgressLemmas.{begun, one_more, all_written, limit_passed, zip_get, zip_length}
+use Rattle.vk_abi.proofs.ProgressLemmas.{begun, one_more, all_written, rightly_written, limit_passed, zip_get, zip_length}
+use Rattle.vk_abi.proofs.RightNodes.{right_values}
 
 -- ---- one item
 
@@ -34,12 +38,20 @@ files_seen : (fs : List File) → map file_view (map digest_of fs) ≡ map file_
 files_seen [] = refl
 files_seen (f ∷ fs) = ap (λ ds. file_digest f ∷ ds) (files_seen fs)
 
+abbrev IsAtPath : plain.FileDigest → Type 0
+IsAtPath f = IsPath f.path
+
 pub pair_told : (shared : Shared) (instances : List Instance) (placed : Placed) (done : List Pair) (digests : List FileDigest) (pair : AbiPair) (s : State)
-    → OnFiles (FolderIs shared.most placed.1 (Ok digests)) s → pair_view pair ≡ pair_by shared instances done placed.0 (map file_view digests)
+    → OnFiles (FolderIs shared.most placed.1 (Ok digests)) s → pair_view pair ≡ pair_by shared instances done placed.0 (map file_view digests) → IsRightItem shared placed.0 (map file_view digests) → AtPaths digests
     → OnFiles (PairTold shared instances placed done (Ok pair)) s
-pair_told shared instances placed done digests pair s folder is =
+pair_told shared instances placed done digests pair s folder is right paths =
     files_then (FolderIs shared.most placed.1 (Ok digests)) (PairTold shared instances placed done (Ok pair)) s
-    (λ d h. ((digests, h), h.1.of, h.1.are, is ∙ ap (pair_by shared instances done placed.0) (ap (map file_view) h.1.is ∙ files_seen h.1.of))) folder
+    (λ d h.
+        let same = ap (map file_view) h.1.is ∙ files_seen h.1.of in
+        (
+          (digests, h), h.1.of, h.1.are, is ∙ ap (pair_by shared instances done placed.0) same,
+          right_values shared placed.0 h.1.of (subst (IsRightItem shared placed.0) same right) (subst (All IsAtPath) same (All-map IsAtPath file_view digests paths)),
+        )) folder
 
 -- the folder of an item passes a limit
 pub pair_limited : (shared : Shared) (instances : List Instance) (placed : Placed) (done : List Pair) (e : Stop Limit) (s : State)
@@ -57,6 +69,11 @@ instances_of : (items : List Item) (folders : List Path) → length folders ≡ 
 instances_of [] folders same = refl
 instances_of (i ∷ items) [] same = absurd (omega (arith, same))
 instances_of (i ∷ items) (f ∷ folders) same = ap (λ is. instance_view i.inst ∷ is) (instances_of items folders (omega (arith, same)))
+
+items_of : (items : List Item) (folders : List Path) → length folders ≡ length items → map (λ x. x.0) (plan_of items folders) ≡ map item_view items
+items_of [] folders same = refl
+items_of (i ∷ items) [] same = absurd (omega (arith, same))
+items_of (i ∷ items) (f ∷ folders) same = ap (λ is. item_view i ∷ is) (items_of items folders (omega (arith, same)))
 
 ordered : (items : List Item) → order_of (map item_view items) ≡ map (λ i. instance_view i.inst) items
 ordered [] = refl
@@ -124,6 +141,12 @@ pub comes_last : (shared : Shared) (items : List Item) (folders : List Path) (k 
 comes_last shared items folders k pairs s same whole comes each =
     files_then (λ d. Progress shared d (plan_of items folders) k (map pair_view pairs)) (TextsTold shared (plan_of items folders) (Ok pairs)) s
     (λ d p. all_written shared d (plan_of items folders) k (map pair_view pairs) (zip_length item_view items folders same ∙ whole) p) (comes each)
+
+pub comes_right : (shared : Shared) (items : List Item) (folders : List Path) (k : ℕ) (pairs : List AbiPair) (s : State) → length folders ≡ length items → length items ≡ k
+    → Comes shared items folders k pairs s → Distinct items → HaveTheirFeatures (map item_view items) → OnFiles (OfRightNodes shared (plan_of items folders) (Ok pairs)) s
+comes_right shared items folders k pairs s same whole comes each its =
+    files_then (λ d. Progress shared d (plan_of items folders) k (map pair_view pairs)) (OfRightNodes shared (plan_of items folders) (Ok pairs)) s
+    (λ d p. rightly_written shared d (plan_of items folders) k (map pair_view pairs) (zip_length item_view items folders same ∙ whole) (subst HaveTheirFeatures (sym (items_of items folders same)) its) p) (comes each)
 
 -- ---- which files are read
 

@@ -93,6 +93,16 @@ pub record IsRightOwn (own : Own) : Type 0 where
   pub bytes : All (λ f. All IsByte (text_of_path f.path)) own.files
   pub files : ByText own.files
 
+-- what the values of a program keep of it, whatever plan it is of
+pub record HasRightValues (own : Own) : Type 0 where
+  pub builder : IsRightBuilder own.builder
+  pub port : IsName port_rule own.port
+  pub version : IsRightVersion own.version
+  pub features : All (IsName word_rule) own.features
+  pub triplet : IsName word_rule own.triplet
+  pub paths : All (λ f. IsPath f.path) own.files
+  pub bytes : All (λ f. All IsByte (text_of_path f.path)) own.files
+
 abbrev pub dep_key : DepDigest → Key
 dep_key d = instance_key d.instance
 

@@ -1,21 +1,22 @@
 -- The builds of a plan, and their texts.
-use Rattle.std.specs.Prelude.{◌≡◌, ◌++◌, ℕ, List, [], ◌∷◌, map, flat_map, bytes_eq, slice_get, Result, Ok, Err, if◌then◌else◌}
-use Rattle.std.specs.List.{Contains}
+use Rattle.std.specs.Prelude.{◌≡◌, ◌++◌, ℕ, List, [], ◌∷◌, map, flat_map, bytes_eq, slice_get, IfOk, Result, Ok, Err, if◌then◌else◌}
+use Rattle.std.specs.List.{All, Contains}
 use Rattle.std.specs.Option.{option_to_list}
 use Rattle.sha2.specs.Sha256.{sha256}
 use Rattle.vk_spec.specs.Paths.{Path, Begins}
 use Rattle.vk_spec.specs.Settings.{Setting, Triplet}
 use Rattle.vk_spec.specs.Standing.{Disk}
+use Rattle.vk_spec.specs.Manifests.{core, default}
 use Rattle.vk_base.specs.declared.limits.Limit.{Limit}
 use Rattle.vk_base.specs.declared.stops.Stop.{Stop}
 use Rattle.vk_base.specs.declared.stops.Stop.TheVariants as stop
-use Rattle.vk_resolution.specs.Keys.{Key, in_order}
-use Rattle.vk_resolution.specs.Planning.{Item, instance_key}
+use Rattle.vk_resolution.specs.Keys.{Key, Ascends, in_order}
+use Rattle.vk_resolution.specs.Planning.{Item, feature_key, instance_key}
 use Rattle.vk_model.specs.declared.builders.Builder.{Builder}
 use Rattle.vk_tree.specs.Trees.{IsTreeDisk}
 use Rattle.vk_folder.specs.Folders.{File, AreFilesOf, FolderIs}
 use Rattle.vk_folder.specs.declared.digests.FileDigest as told
-use Rattle.vk_abi.specs.Nodes.{Own, Node, node, nodes_of, instance_of, text_of}
+use Rattle.vk_abi.specs.Nodes.{Own, Node, node, nodes_of, instance_of, text_of, IsRightNode}
 use Rattle.vk_abi.specs.declared.plans.AbiPair.{AbiPair}
 
 -- what every build of a plan shares
@@ -69,6 +70,15 @@ AreNodesFrom shared d done (x ∷ xs) nodes = (n : Node) × IsNodeOf shared d x 
 abbrev pub AreNodesOf : Shared → Disk → List Placed → List Node → Type 0
 AreNodesOf shared d plan nodes = AreNodesFrom shared d [] plan nodes
 
+-- an item of a plan has the feature that every port has, and not the one that asks for others; its features stand in order
+pub record HasItsFeatures (item : Item) : Type 0 where
+  pub core : Contains item.features core
+  pub no_default : Contains item.features default → ⊥
+  pub order : Ascends feature_key item.features
+
+abbrev pub HaveTheirFeatures : List Item → Type 0
+HaveTheirFeatures items = All HasItsFeatures items
+
 -- a text and its digest
 pub record Pair : Type 0 where
   pub text : List ℕ
@@ -117,3 +127,13 @@ TextsTold shared plan (Ok pairs) d = TextsAre shared plan (Ok (map pair_view pai
 TextsTold shared plan (Err (stop.Fault limit)) d = TextsAre shared plan (Err limit) d
 TextsTold shared plan (Err stop.Failed) d = Unit {0}
 TextsTold shared plan (Err (stop.Memory m)) d = Unit {0}
+
+-- the texts are those of builds of the plan that keep the rules of all their parts
+pub record AreOfRightNodes (shared : Shared) (d : Disk) (plan : List Placed) (pairs : List Pair) : Type 0 where
+  pub nodes : List Node
+  pub are : AreNodesOf shared d plan nodes
+  pub right : All IsRightNode nodes
+  pub is : pairs ≡ map pair_of nodes
+
+abbrev pub OfRightNodes : Shared → List Placed → Result (List AbiPair) (Stop Limit) → Disk → Type 0
+OfRightNodes shared plan result d = IfOk result (λ pairs. AreOfRightNodes shared d plan (map pair_view pairs))

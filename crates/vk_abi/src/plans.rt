@@ -1,5 +1,5 @@
 //! The ABI texts of a plan.
-ghost use Rattle.std.specs.Prelude.{◌≡◌, length, map, option_map, slice_get, IfOk};
+ghost use Rattle.std.specs.Prelude.{◌≡◌, length, map, option_map, slice_get, IfOk, OnOk};
 ghost use Rattle.std.specs.List.{zip};
 ghost use Rattle.vk_spec.specs.Lists.{NoRepeats};
 ghost use Rattle.vk_spec.specs.Paths.{Begins};
@@ -12,8 +12,9 @@ ghost use Rattle.vk_model.specs.SettingViews.{instance_view, setting_view};
 ghost use Rattle.vk_triplet.specs.Meanings.{meaning_of};
 ghost use Rattle.vk_folder.specs.Folders.{IsFolderLimit, OnLimit, ReadsOnly};
 ghost use Rattle.vk_abi_text.specs.Views.{dep_view, file_view, source_view};
-ghost use Rattle.vk_abi.specs.Plans.{IsBelowSome, TextsTold, pair_view, triplet_named};
-ghost use Rattle.vk_abi.specs.Written.{PairTold, dep_by, deps_by, input_by, pair_by, shared_in};
+ghost use Rattle.vk_abi.specs.Plans.{HaveTheirFeatures, IsBelowSome, OfRightNodes, TextsTold};
+ghost use Rattle.vk_abi.specs.Plans.{pair_view, triplet_named};
+ghost use Rattle.vk_abi.specs.Written.{IsRightItem, PairTold, dep_by, deps_by, input_by, pair_by, shared_in};
 
 use std::alloc::Global;
 use vk_abi_text::{AbiSource, DepDigest, abi_hash, abi_text};
@@ -51,6 +52,10 @@ pub fn texts<T: Tree>(
 ) -> Result<List<AbiPair>, Stop<Limit>>
     requires { length folders.now ≡ length plan.now.items }
     ensures is { NoRepeats (order_of (map item_view plan.now.items)) → OnFiles (TextsTold
+        (record { builder = builder.now; setting = setting_view setting.now; most = max_bytes })
+        (zip (map item_view plan.now.items) folders.now) result) (T.state tree.old) }
+    ensures right { NoRepeats (order_of (map item_view plan.now.items))
+        → HaveTheirFeatures (map item_view plan.now.items) → OnFiles (OfRightNodes
         (record { builder = builder.now; setting = setting_view setting.now; most = max_bytes })
         (zip (map item_view plan.now.items) folders.now) result) (T.state tree.old) }
     ensures limits { OnLimit result (IsFolderLimit max_bytes) }
@@ -119,9 +124,11 @@ fn pair_of(
     done: &[AbiPair],
     files: &[FileDigest],
 ) -> Result<AbiPair, Memory>
-    ensures { IfOk result (λ p. pair_view p ≡ pair_by (shared_in job.entry)
+    ensures pair { IfOk result (λ p. pair_view p ≡ pair_by (shared_in job.entry)
         (map (λ i. instance_view i.inst) job.entry.items.now) (map pair_view done.now)
         (item_view item.now) (map file_view files.now)) }
+    ensures right { OnOk result (IsRightItem (shared_in job.entry) (item_view item.now)
+        (map file_view files.now)) }
 {
     let deps = deps_at(alloc, job.items, done, item.needs.as_slice())?;
     let text = abi_text(alloc, &source_of(job, item, files, deps.as_slice()))?;

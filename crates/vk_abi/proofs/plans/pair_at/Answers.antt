@@ -9,4 +9,4 @@ use Rattle.vk_abi.proofs.plans.pair_at.Goals as goal
 pub returns-clause-is : goal.returns-clause-is
 returns-clause-is g c =
     pair_told (shared_in c.args.job) (map (λ i. instance_view i.inst) c.args.job.items.now) (item_view c.args.item.now, c.args.folder.now) (map pair_view c.args.done.now) c.in_ok-files.files c.in_ok-pair_of.field-0 (g.T.Tree.state c.args.tree.now)
-    c.in_ok-files.ensures.is (rw (c.as_slice.ensures) at c.in_ok-pair_of.ensures)
+    c.in_ok-files.ensures.is (rw (c.as_slice.ensures) at c.in_ok-pair_of.ensures.pair) (rw (c.as_slice.ensures) at c.in_ok-pair_of.ensures.right) c.in_ok-files.ensures.paths

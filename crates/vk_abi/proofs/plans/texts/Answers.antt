@@ -6,7 +6,7 @@ use Rattle.vk_model.specs.FaultViews.{item_view}
 use Rattle.vk_model.specs.SettingViews.{instance_view, setting_view}
 use Rattle.vk_abi.specs.Plans.{pair_view}
 use Rattle.vk_folder.proofs.ReadLemmas.{reads_nothing}
-use Rattle.vk_abi.proofs.TextLemmas.{reads_next, told_as, comes_first, comes_next, comes_stopped, comes_last}
+use Rattle.vk_abi.proofs.TextLemmas.{reads_next, told_as, comes_first, comes_next, comes_stopped, comes_last, comes_right}
 use Rattle.vk_abi.proofs.plans.texts.Goals as goal
 
 pub loop-at-init : goal.loop-at-init
@@ -50,3 +50,6 @@ loop-at-preserved g c = (
 
 pub returns-clause-is : goal.returns-clause-is
 returns-clause-is g c = comes_last (record { builder = c.args.builder.now; setting = setting_view c.args.setting.now; most = c.args.max_bytes }) c.args.plan.now.items c.args.folders.now c.loop-at.at c.loop-at.pairs (g.T.Tree.state c.args.tree.now) c.requires (omega (arith, ap length c.as_slice.ensures, c.loop-at-test.false, c.loop-at.auto.at-end)) c.loop-at.invariant.0
+
+pub returns-clause-right : goal.returns-clause-right
+returns-clause-right g c = λ each its. comes_right (record { builder = c.args.builder.now; setting = setting_view c.args.setting.now; most = c.args.max_bytes }) c.args.plan.now.items c.args.folders.now c.loop-at.at c.loop-at.pairs (g.T.Tree.state c.args.tree.now) c.requires (omega (arith, ap length c.as_slice.ensures, c.loop-at-test.false, c.loop-at.auto.at-end)) c.loop-at.invariant.0 each its
