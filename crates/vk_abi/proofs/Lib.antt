@@ -3,6 +3,7 @@ mod EntriesExist
 pub mod Existence
 mod FilesExist
 mod NodeLemmas
+mod PlanFeatures
 mod PlanLemmas
 mod ProgressLemmas
 mod RestLemmas

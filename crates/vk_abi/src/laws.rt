@@ -1,5 +1,6 @@
 //! Laws over the definitions alone.
-ghost use Rattle.vk_abi.specs.LawsOnPlans.{TextsAreOne, TextsExist};
+ghost use Rattle.vk_abi.specs.LawsOnPlans.{PlansGiveFeatures, PlansTellNodes, TextsAreOne};
+ghost use Rattle.vk_abi.specs.LawsOnPlans.{TextsExist};
 ghost use Rattle.vk_abi.specs.Nodes.{TextsTellNodes};
 
 /// Builds with one ABI text are one build: the same builder, version, features and triplet, the
@@ -15,4 +16,12 @@ pub fn builds_with_one_text_are_one()
 pub fn a_plan_has_texts_or_passes_a_limit()
     ensures exists { TextsExist }
     ensures one { TextsAreOne }
+{}
+
+/// Every plan gives each of its items `core` and not `default`, and its features in order. So the
+/// texts of `texts` are those of builds that keep the rules of all their parts, and builds of any
+/// two plans that have one text are one build, where none of their messages collide.
+pub fn a_plan_tells_its_builds()
+    ensures features { PlansGiveFeatures }
+    ensures apart { PlansTellNodes }
 {}
