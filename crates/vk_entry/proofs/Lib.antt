@@ -7,3 +7,6 @@ pub mod Outcomes
 pub mod PackageRules
 pub mod SameTexts
 pub mod PackageLists
+pub mod ContentTests
+pub mod ContentReading
+pub mod ContentsFound

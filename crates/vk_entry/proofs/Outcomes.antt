@@ -55,7 +55,7 @@ heading_whole = lacks_byte 10 (codes "contents 1") refl
 content_whole : (c : Content) → IsContent c → Lacks 10 (content_text c)
 content_whole c right = line_whole (inr c) right
 
-lines_whole : (before : Option (List Content)) → AreBefore before → All (Lacks 10) (lines_before before)
+pub lines_whole : (before : Option (List Content)) → AreBefore before → All (Lacks 10) (lines_before before)
 lines_whole None right = All-nil (Lacks 10)
 lines_whole (Some cs) right = All-cons (Lacks 10) (codes "contents 1") (map content_text cs) heading_whole (All-map (Lacks 10) content_text cs (All-weaker IsContent (λ c. Lacks 10 (content_text c)) content_whole cs right.each))
 

@@ -31,7 +31,7 @@ unfolding digest_bytes
 all_bytes words zero = All-nil IsByte
 all_bytes words (suc n) = All-append IsByte (digest_bytes words n) (to_be_bytes w32 (slice_index words n)) (all_bytes words n) (high_bytes 4 (slice_index words n))
 
-bytes_from : (bytes : List ℕ) → All IsByte bytes → IsBytes bytes
+pub bytes_from : (bytes : List ℕ) → All IsByte bytes → IsBytes bytes
 bytes_from [] all i = omega arith
 bytes_from (b ∷ bytes) all zero = All-head IsByte b bytes all
 bytes_from (b ∷ bytes) all (suc i) = bytes_from bytes (All-tail IsByte b bytes all) i

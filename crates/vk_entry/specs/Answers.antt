@@ -1,5 +1,5 @@
 -- What reading a contents list answers.
-use Rattle.std.specs.Prelude.{◌≡◌, ℕ, List, map, Result, Ok, Err}
+use Rattle.std.specs.Prelude.{◌≡◌, ℕ, List, map, Option, Some, None, Result, Ok, Err}
 use Rattle.vk_base.specs.declared.stops.Unread.{Unread}
 use Rattle.vk_base.specs.declared.stops.Unread.TheVariants as unread
 use Rattle.vk_entry.specs.Contents.{Content}
@@ -22,3 +22,9 @@ abbrev pub IsThese : List Content → Reading → Type 0
 IsThese cs (Ok lines) = map content_view lines ≡ cs
 IsThese cs (Err (unread.Fault fault)) = ⊥
 IsThese cs (Err (unread.Memory memory)) = Unit {0}
+
+-- what reading answers, by the function on the bytes: its files, or a fault where it has none
+abbrev pub IsTold : Option (List Content) → Reading → Type 0
+IsTold told (Ok lines) = told ≡ Some (map content_view lines)
+IsTold told (Err (unread.Fault fault)) = told ≡ None
+IsTold told (Err (unread.Memory memory)) = Unit {0}

@@ -4,6 +4,7 @@ pub mod PackageViews
 pub mod Contents
 pub mod ContentViews
 pub mod ContentLists
+pub mod ContentsIn
 pub mod Answers
 -- what functions say besides
 pub mod Places

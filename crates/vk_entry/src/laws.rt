@@ -6,8 +6,9 @@ ghost use Rattle.vk_spec.specs.Paths.{Path};
 ghost use Rattle.vk_base.specs.Paths.{IsPath, text_of_path};
 ghost use Rattle.vk_entry.specs.Contents.{Content, content_of, contents_text};
 ghost use Rattle.vk_entry.specs.ContentLists.{AreContents, IsList, IsListable, IsRefused};
+ghost use Rattle.vk_entry.specs.ContentsIn.{contents_in};
 ghost use Rattle.vk_entry.specs.Packages.{File, HasFile, IsOf, IsPackage, IsWith, bytes_at};
-ghost use Rattle.vk_entry.specs.Answers.{Ends, IsThese, Reading};
+ghost use Rattle.vk_entry.specs.Answers.{Ends, IsThese, IsTold, Reading};
 ghost use Rattle.vk_entry.specs.declared.reading.EntryFault.{EntryFault};
 
 /// No two paths have one text.
@@ -58,4 +59,17 @@ pub fn bytes_have_one_reading()
         → IsRefused bytes other → fault ≡ other }
     ensures never_both { (bytes : List ℕ) (cs : List Content) (fault : EntryFault)
         → IsList bytes cs → IsRefused bytes fault → ⊥ }
+{}
+
+/// The function on bytes gives the files of which they are the list, and none exactly where they
+/// are no list. What reading answers is what it gives, unless memory runs out.
+pub fn a_contents_list_is_read_by_a_function()
+    ensures files { (bytes : List ℕ) (cs : List Content)
+        → (contents_in bytes ≡ Some cs) ↔ IsList bytes cs }
+    ensures none { (bytes : List ℕ)
+        → (contents_in bytes ≡ None) ↔ ((cs : List Content) → IsList bytes cs → ⊥) }
+    ensures refused { (bytes : List ℕ) (fault : EntryFault) → IsRefused bytes fault
+        → contents_in bytes ≡ None }
+    ensures told { (bytes : List ℕ) (answer : Reading) → Ends bytes answer
+        → IsTold (contents_in bytes) answer }
 {}
