@@ -1,10 +1,11 @@
 -- The tests of the function on bytes tell which files may stand in a contents list.
-use Rattle.std.proofs.Common.{◌≡◌, ◌<◌, ◌≤◌, ◌×◌, ◌==◌, ◌∷◌, ℕ, Bool, true, false, not, List, [], length, map, Ordering, refl, ap, ◌∙◌, nat_cmp, slice_cmp}
+use Rattle.std.proofs.Common.{◌≡◌, ◌<◌, ◌≤◌, ◌==◌, ◌∷◌, ℕ, Bool, true, false, not, List, [], length, map, Ordering, refl, ap, ◌∙◌}
 use Rattle.std.specs.Prelude.{◌^◌, nat_lt, nat_le, Result, Ok, Err}
 use Rattle.std.specs.Bool.{Decides}
 use Rattle.std.specs.List.{All, AllByRecursion, list_all}
 use Rattle.std.specs.List.Sorted.{IsStrictlySortedBy}
-use Rattle.std.specs.Ordering.{is_lt}
+use Rattle.std.specs.Ordering.{is_lt, nat_cmp}
+use Rattle.std.specs.Cmp.Lexicographic.{slice_cmp}
 use Rattle.std.specs.declared.cmp.Ordering.TheVariants.{Less, Equal, Greater}
 use Rattle.std.specs.Str.{IsUtf8, bytes_eq, is_utf8}
 use Rattle.std.proofs.lemmas.Bool.{le-leb, leb-true}
