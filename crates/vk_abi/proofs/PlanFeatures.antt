@@ -1,7 +1,7 @@
 -- The items of a plan have the features that every plan gives them.
 use Rattle.std.proofs.Common.{◌≡◌, ◌∷◌, ◌&&◌, ℕ, zero, suc, Bool, true, false, not, cond, List, [], inl, inr, refl, subst, sym}
 use Rattle.std.specs.Prelude.{Option, Some, None, Result, Ok, Err, bytes_eq, filter, flat_map}
-use Rattle.std.specs.List.{All, Contains}
+use Rattle.std.specs.List.{Contains}
 use Rattle.std.proofs.lemmas.List.Elements.{All-contains_itself, All-weaker}
 use Rattle.std.proofs.lemmas.Slice.Eq.{bytes_eq-Decides}
 use Rattle.vk_spec.specs.Conditions.{Condition}

@@ -90,7 +90,6 @@ one_more shared d plan k x pairs pair within at each p told =
           (All-cons IsRightNode new [] (right_node shared x.0 files p.nodes told.4 (item_at its) told.2.order (p.right its)) (All-nil IsRightNode));
       goes = λ all are. p.goes all (subst (λ rest. AreNodesFrom shared d p.nodes rest all) (sym (drop-cons plan k x within ∙ ap (λ y. y ∷ drop (suc k) plan) at)) (new, record { files = files; are = told.2; is = refl }, subst (λ n. AreNodesFrom shared d (p.nodes ++ new ∷ []) (drop n plan) all) next are));
     }
-
   where
     item_at : HaveTheirFeatures (map (λ y. y.0) plan) → HasItsFeatures x.0
     item_at its = All-contains HasItsFeatures (map (λ y. y.0) plan) x.0 its (map_contains (λ y. y.0) plan x (k, within, at))

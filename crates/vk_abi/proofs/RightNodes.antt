@@ -16,7 +16,7 @@ use Rattle.vk_resolution.proofs.Orders.{contains-in_order, in_order-ascends}
 use Rattle.vk_folder.specs.Folders.{File, ByText}
 use Rattle.vk_abi_text.specs.Inputs.{FileDigest}
 use Rattle.vk_abi_text.specs.Rights.{IsRightFeature}
-use Rattle.vk_abi.specs.Nodes.{Own, Node, node, Nodes, no_nodes, and_nodes, nodes_of, deps_of, dep_of, dep_key, file_digest, HasRightValues, IsRightOwn, IsRightNode, AreRightNodes}
+use Rattle.vk_abi.specs.Nodes.{Node, node, nodes_of, deps_of, dep_of, dep_key, file_digest, HasRightValues, IsRightOwn, IsRightNode, AreRightNodes}
 use Rattle.vk_abi.specs.Plans.{Shared, own_of, node_key, at_places, HasItsFeatures}
 use Rattle.vk_abi.specs.Written.{IsRightItem}
 use Rattle.vk_abi.proofs.PlanLemmas.{at_place, deps_nodes, get_contains}
@@ -81,8 +81,7 @@ pub right_node : (shared : Shared) (item : Item) (files : List File) (done : Lis
 right_node shared item files done values its order right =
     let some = at_places done item.needs in
     let members : (n : Node) → Contains (in_order node_key some) n → IsRightNode n =
-    λ n h. (let p = at_place done item.needs n (contains-in_order node_key some n h) in All-contains IsRightNode done n right (get_contains done p.0 n p.1)) in
-    (
+    λ n h. (let p = at_place done item.needs n (contains-in_order node_key some n h) in All-contains IsRightNode done n right (get_contains done p.0 n p.1)) in (
       right_own shared item files values its order,
       deps_ascend (in_order node_key some) (in_order-ascends node_key some),
       right_nodes (in_order node_key some) (All-weaker (Contains (in_order node_key some)) IsRightNode members (in_order node_key some) (All-contains_itself (in_order node_key some))),

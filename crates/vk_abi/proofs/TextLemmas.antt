@@ -47,11 +47,13 @@ pub pair_told : (shared : Shared) (instances : List Instance) (placed : Placed) 
 pair_told shared instances placed done digests pair s folder is right paths =
     files_then (FolderIs shared.most placed.1 (Ok digests)) (PairTold shared instances placed done (Ok pair)) s
     (λ d h.
-        let same = ap (map file_view) h.1.is ∙ files_seen h.1.of in
-        (
-          (digests, h), h.1.of, h.1.are, is ∙ ap (pair_by shared instances done placed.0) same,
-          right_values shared placed.0 h.1.of (subst (IsRightItem shared placed.0) same right) (subst (All IsAtPath) same (All-map IsAtPath file_view digests paths)),
-        )) folder
+    let same = ap (map file_view) h.1.is ∙ files_seen h.1.of in (
+      (digests, h),
+      h.1.of,
+      h.1.are,
+      is ∙ ap (pair_by shared instances done placed.0) same,
+      right_values shared placed.0 h.1.of (subst (IsRightItem shared placed.0) same right) (subst (All IsAtPath) same (All-map IsAtPath file_view digests paths)),
+    )) folder
 
 -- the folder of an item passes a limit
 pub pair_limited : (shared : Shared) (instances : List Instance) (placed : Placed) (done : List Pair) (e : Stop Limit) (s : State)

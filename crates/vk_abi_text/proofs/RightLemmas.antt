@@ -1,5 +1,5 @@
 -- What the values that a text is made of keep.
-use Rattle.std.proofs.Common.{◌≡◌, ℕ, List, refl}
+use Rattle.std.proofs.Common.{◌≡◌, ℕ, List}
 use Rattle.std.specs.Prelude.{None, Ok}
 use Rattle.std.specs.List.{All}
 use Rattle.vk_base.specs.Names.{IsName, name_fault, port_rule, reads_feature, word_rule}
