@@ -11,7 +11,7 @@ import sys
 def main():
     program, wrong = sys.argv[1], 0
     for size in range(1, 2001):
-        ran = subprocess.run([program, "self-load", str(size)], capture_output=True, text=True)
+        ran = subprocess.run([program, "self-load", f"--size={size}"], capture_output=True, text=True)
         figures = f"self-load {size}\nplanned {size}\nfacts {8 * size + 2}\n"
         if ran.returncode or not ran.stdout.startswith(figures):
             wrong += 1

@@ -35,12 +35,13 @@ pub struct AbiPair {
 }
 
 /// The ABI texts of a plan's items, in their order, where the ports stand in these folders: for
-/// each item that of its build by this builder. A folder's files are listed once and read once, in
-/// pieces of at most 65,536 bytes, and no file is read but at these folders' paths or below them. A
-/// limit comes exactly where a folder passes it, the first in the order of the plan: `Entries`,
-/// `Files` and `Depth` as a walk of the folder passes them, and `Bytes(max_bytes)` where its files
-/// have more than so many bytes together. Over any tree no other limit comes. `Failed` comes only
-/// where the tree's count of faults may have increased.
+/// each item that of its build by this builder, which keeps the rules of all its parts where each
+/// item has the features that every plan gives it. Files are read in pieces of at most 65,536
+/// bytes, and none but at these folders' paths or below them. A limit comes exactly where a folder
+/// passes it, the first in the order of the plan: `Entries`, `Files` and `Depth` as a walk of the
+/// folder passes them, and `Bytes(max_bytes)` where its files have more than so many bytes
+/// together. Over any tree no other limit comes. `Failed` comes only where the tree's count of
+/// faults may have increased.
 pub fn texts<T: Tree>(
     alloc: Global,
     tree: &mut T,

@@ -196,9 +196,8 @@ fn told<C: Catalogue>(alloc: Global, cat: &mut C, closed: Closed) -> Result<Clos
 
 /// All that a project requires, in order, each fact with its cause, and what is wrong with the
 /// files that it needs: the closure that the catalogue's pages and the setting give. The catalogue
-/// is only asked, for the given version of each port once unless something is wrong. `Facts` comes
-/// with the setting's number exactly where the least list has more facts than that: an answer has
-/// no more, and where there are too many, no closure has so few
+/// is only asked. `Facts` comes with the setting's number exactly where the least list has more
+/// facts than that: an answer has no more, and where there are too many, no closure has so few
 /// (`a_closure_is_one_or_has_too_many_facts`). It takes at most one step for each visit and each
 /// need of the root.
 pub fn close<C: Catalogue, L: Ledger>(

@@ -1,5 +1,5 @@
-//! The digests of the files of one folder of a tree, each file read once, in pieces of at most
-//! 65,536 bytes, and hashed as it is read. It promises upwards that the answer is that of the files
+//! The digests of the files of one folder of a tree, read in pieces of at most 65,536 bytes and
+//! hashed as they are read. It promises upwards that the answer is that of the files
 //! below the folder, or the limit that they pass.
 #![tactic(auto)]
 
