@@ -98,10 +98,10 @@ words_between : (c : Content) → IsContent c
 words_between c right =
     first_between 32 (codes "file") (path_text c.path ++ 32 ∷ (decimal c.size ++ 32 ∷ encode_lower c.digest)) (lacks_byte 32 (codes "file") refl)
     ∙ ap (λ l. codes "file" ∷ l)
-      (first_between 32 (path_text c.path) (decimal c.size ++ 32 ∷ encode_lower c.digest) (path_blank c.path right.path.0)
-      ∙ ap (λ l. path_text c.path ∷ l)
-        (first_between 32 (decimal c.size) (encode_lower c.digest) (plain_blank (decimal c.size) (size_plain c.size right.size))
-        ∙ ap (λ l. decimal c.size ∷ l) (last_between 32 (encode_lower c.digest) (plain_blank (encode_lower c.digest) (digest_plain c.digest right.digest.0)))))
+    (first_between 32 (path_text c.path) (decimal c.size ++ 32 ∷ encode_lower c.digest) (path_blank c.path right.path.0)
+    ∙ ap (λ l. path_text c.path ∷ l)
+    (first_between 32 (decimal c.size) (encode_lower c.digest) (plain_blank (decimal c.size) (size_plain c.size right.size))
+    ∙ ap (λ l. decimal c.size ∷ l) (last_between 32 (encode_lower c.digest) (plain_blank (encode_lower c.digest) (digest_plain c.digest right.digest.0)))))
 
 content_back : (c : Content) → IsContent c → content_said (between 32 (content_text c)) ≡ c
 content_back c right =
