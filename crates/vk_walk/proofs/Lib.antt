@@ -1,6 +1,9 @@
 pub mod ShorterLemmas
 pub mod EntryLemmas
 pub mod StepLemmas
-pub mod WalkLemmas
 pub mod FirstLimits
 pub mod SeenLemmas
+pub mod WalkAsks
+pub mod WalkTells
+pub mod MachineLemmas
+pub mod FoundLemmas

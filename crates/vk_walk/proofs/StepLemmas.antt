@@ -26,6 +26,9 @@ not_before p q (rest, e) h = not_before_own p rest (ap (λ x. path_cmp x p) (sym
 begins_up : (p : Path) (name : List ℕ) (q : Path) → Begins (p ++ name ∷ []) q → Begins p q
 begins_up p name q h = (name ∷ h.0, h.1 ∙ append_assoc p (name ∷ []) h.0)
 
+pub begins_longer : (folder p : Path) (name : List ℕ) → Begins folder p → Begins folder (p ++ name ∷ [])
+begins_longer folder p name h = (h.0 ++ name ∷ [], ap (λ q. q ++ name ∷ []) h.1 ∙ append_assoc folder h.0 (name ∷ []))
+
 pub file_no_folder : (d : Disk) (p : Path) → IsTreeDisk d → IsFile d p → IsFolder d p → ⊥
 file_no_folder d p tree file folder = none_some (d (p ++ folder.0 ∷ folder.1)) (tree p folder.0 folder.1 file) folder.2
 

@@ -1,7 +1,12 @@
-//! The files below a folder of a tree, each once, within limits.
-//! It promises upwards that the answer is that of the files, or the first limit that they pass.
+//! The walk of a folder of a tree, as a protocol, as a machine that makes its calls, and as a call.
+//! It promises upwards that a walk comes to the files below the folder, each once, or to the first
+//! limit that they pass.
 #![tactic(auto)]
 
+mod laws;
 mod walking;
+mod walks;
 
+pub use laws::{a_walk_only_lists, a_walk_tells_the_files};
 pub use walking::{WalkFault, walk};
+pub use walks::{Walk, WalkLimit, found_by};

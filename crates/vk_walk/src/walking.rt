@@ -1,22 +1,22 @@
-//! The files below a folder, within limits.
-ghost use Rattle.std.specs.Prelude.{◌≡◌, ◌≤◌, ◌+◌, length, IfOk, IsTrue};
-ghost use Rattle.std.specs.List.{All};
+//! The files below a folder, in the order of their texts.
+ghost use Rattle.std.specs.Prelude.{◌≡◌, IfOk, Ok};
 ghost use Rattle.std.specs.List.Sorted.{IsPermutation, IsSorted};
 ghost use Rattle.vk_spec.specs.States.{OnlyListed};
 ghost use Rattle.vk_spec.specs.Standing.{OnFiles};
-ghost use Rattle.vk_spec.specs.Calls.{most_entries};
-ghost use Rattle.vk_base.specs.Paths.{is_part};
-ghost use Rattle.vk_tree.specs.Answers.{entries_of};
 ghost use Rattle.vk_tree.specs.Trees.{IsTreeDisk};
+ghost use Rattle.vk_protocol.specs.Runs.{Ran};
 ghost use Rattle.vk_walk.specs.Walks.{AreSeen, text_order};
-ghost use Rattle.vk_walk.specs.Walked.{Ready, Walked, ListedIn, Took, IsInOrder};
-ghost use Rattle.vk_walk.specs.Walked.{WalkIs};
-ghost use Rattle.vk_walk.specs.Walked.{limits_of, walk_limits, unlisted, walk_failed};
+ghost use Rattle.vk_walk.specs.Walked.{IsInOrder, WalkIs, answered, fault_of, walk_failed};
+ghost use Rattle.vk_walk.specs.Walked.{walk_limits};
+ghost use Rattle.vk_walk.specs.WalkProtocol.{walk_of};
+ghost use Rattle.vk_walk.specs.WalkMachine.{ended_view, found_view, limit_view};
 
+use crate::walks::{Walk, WalkLimit, found_by};
 use std::alloc::{AllocError, AllocFailed, Global};
 use std::cmp::Ordering;
-use vk_base::{List, Memory, Stop, TreePath};
-use vk_tree::{ListFault, Listed, Tree};
+use vk_base::{List, Memory, Outage, Stop, TreePath};
+use vk_protocol::run;
+use vk_tree::Tree;
 
 /// Why a folder wasn't walked: it isn't there, or the first limit that is passed in the order of
 /// paths.
@@ -32,20 +32,6 @@ pub enum WalkFault {
     Files,
 }
 
-// The most files below a folder that is walked.
-const MOST_FILES: usize = 1_000_000;
-
-// The most levels of folders below one that is walked.
-const MOST_LEVELS: u32 = 64;
-
-// A folder to walk, and the limits.
-#[derive(Clone, Copy)]
-struct Job<'a> {
-    folder: &'a TreePath,
-    files: usize,
-    depth: u32,
-}
-
 /// The files below a folder as they are seen from it, each once and in the order of their texts.
 /// `Missing` exactly where no file lies below the folder; one of the other three exactly where its
 /// limit is the first that is passed, in the order of paths. A link that the tree doesn't follow
@@ -59,12 +45,7 @@ pub fn walk<T: Tree>(
     ensures reads { OnlyListed (walk_failed result) (T.state tree.old) (T.state tree.new) }
     ensures tree { OnFiles IsTreeDisk (T.state tree.old) }
 {
-    let job = Job {
-        folder: dir,
-        files: MOST_FILES,
-        depth: MOST_LEVELS,
-    };
-    let found = walk_in_order(alloc, tree, job)?;
+    let found = walk_in_order(alloc, tree, dir)?;
     let seen = seen_from(alloc, dir, found.as_slice())?;
     Ok(in_order_of_texts(seen))
 }
@@ -99,96 +80,57 @@ fn in_order_of_texts(paths: List<TreePath>) -> List<TreePath>
 fn walk_in_order<T: Tree>(
     alloc: Global,
     tree: &mut T,
-    job: Job<'_>,
+    folder: &TreePath,
 ) -> Result<List<TreePath>, Stop<WalkFault>>
-    ensures is { OnFiles (IsInOrder (limits_of job.entry) job.entry.folder.now result)
-        (T.state tree.old) }
+    ensures is { OnFiles (IsInOrder walk_limits folder.now result) (T.state tree.old) }
     ensures reads { OnlyListed (walk_failed result) (T.state tree.old) (T.state tree.new) }
     ensures tree { OnFiles IsTreeDisk (T.state tree.old) }
 {
-    let entries = match tree.list(job.folder) {
-        Ok(entries) => entries,
-        Err(stop) => return Err(unlisted(stop)),
-    };
-    let mut found = List::new(alloc);
-    let entries = entries.as_slice();
-    walk_entries(alloc, tree, job, job.folder, job.depth, entries, &mut found)?;
+    let found = files_below(alloc, tree, folder)?;
+    answered(found)
+}
+
+// The files below a folder, or the limit that is passed. The folder is listed before memory is
+// asked for.
+fn files_below<T: Tree>(
+    alloc: Global,
+    tree: &mut T,
+    folder: &TreePath,
+) -> Result<Result<List<TreePath>, WalkLimit>, Outage>
+    ensures ran { Ran (walk_of walk_limits folder.now) (ended_view result) (T.state tree.old)
+        (T.state tree.new) }
+    ensures tree { OnFiles IsTreeDisk (T.state tree.old) }
+{
+    let mut walk = Walk::begin(alloc, tree, folder)?;
+    run(&mut walk, tree)?;
+    Ok(found_by(walk))
+}
+
+// What is answered of the files that were found; where there are none, there is no folder.
+fn answered(found: Result<List<TreePath>, WalkLimit>) -> Result<List<TreePath>, Stop<WalkFault>>
+    ensures { result ≡ answered (found_view found) }
+{
+    match found {
+        Ok(found) => some_files(found),
+        Err(limit) => Err(Stop::Fault(fault_of(limit))),
+    }
+}
+
+fn some_files(found: List<TreePath>) -> Result<List<TreePath>, Stop<WalkFault>>
+    ensures { result ≡ answered (Ok found) }
+{
+    if found.is_empty() {
+        return Err(Stop::Fault(WalkFault::Missing));
+    }
     Ok(found)
 }
 
-// Why a walk ends where its folder isn't listed.
-fn unlisted(stop: Stop<ListFault>) -> Stop<WalkFault>
-    ensures { result ≡ unlisted stop }
+fn fault_of(limit: WalkLimit) -> WalkFault
+    ensures { result ≡ fault_of (limit_view limit) }
 {
-    match stop {
-        Stop::Fault(ListFault::Missing) => Stop::Fault(WalkFault::Missing),
-        Stop::Fault(ListFault::Many) => Stop::Fault(WalkFault::Entries),
-        Stop::Failed => Stop::Failed,
-        Stop::Memory(memory) => Stop::Memory(memory),
+    match limit {
+        WalkLimit::Deep => WalkFault::Deep,
+        WalkLimit::Entries => WalkFault::Entries,
+        WalkLimit::Files => WalkFault::Files,
     }
-}
-
-// Walks the entries of a folder, below which so many levels are left.
-fn walk_entries<T: Tree>(
-    alloc: Global,
-    tree: &mut T,
-    job: Job<'_>,
-    at: &TreePath,
-    left: u32,
-    entries: &[Listed],
-    found: &mut List<TreePath>,
-) -> Result<(), Stop<WalkFault>>
-    requires ready { OnFiles (Ready (limits_of job) job.folder.now at.now left
-        (entries_of entries.now) found.old) (T.state tree.old) }
-    requires deep { length at.now + left ≡ length job.folder.now + job.depth }
-    requires small { length (entries_of entries.now) ≤ most_entries }
-    requires parts { All (λ l. IsTrue (is_part l.name)) entries.now }
-    ensures walked { OnFiles (Walked (limits_of job.entry) job.entry.folder.now at.now result
-        found.new) (T.state tree.old) }
-    ensures reads { OnlyListed (walk_failed result) (T.state tree.old) (T.state tree.new) }
-{
-    for entry in entries {
-        let path = at.child(alloc, entry.name.as_str())?;
-        if entry.folder {
-            if left == 0 {
-                return Err(Stop::Fault(WalkFault::Deep));
-            }
-            let inner = list_below(alloc, tree, &path)?;
-            walk_entries(alloc, tree, job, &path, left - 1, inner.as_slice(), found)?;
-        } else {
-            take(job.files, found, path)?;
-        }
-    }
-    Ok(())
-}
-
-// Lists a folder that a listing has told; where it isn't there any more, it has no entries.
-fn list_below<T: Tree>(
-    alloc: Global,
-    tree: &mut T,
-    at: &TreePath,
-) -> Result<List<Listed>, Stop<WalkFault>>
-    ensures listed { OnFiles (ListedIn at.now result) (T.state tree.old) }
-    ensures small { IfOk result (λ ls. length (entries_of ls) ≤ most_entries) }
-    ensures parts { IfOk result (All (λ l. IsTrue (is_part l.name))) }
-    ensures reads { OnlyListed (walk_failed result) (T.state tree.old) (T.state tree.new) }
-{
-    match tree.list(at) {
-        Ok(entries) => Ok(entries),
-        Err(Stop::Fault(ListFault::Missing)) => Ok(List::new(alloc)),
-        Err(Stop::Fault(ListFault::Many)) => Err(Stop::Fault(WalkFault::Entries)),
-        Err(Stop::Failed) => Err(Stop::Failed),
-        Err(Stop::Memory(memory)) => Err(Stop::Memory(memory)),
-    }
-}
-
-// Takes one more file, unless there are as many as may be.
-fn take(most: usize, found: &mut List<TreePath>, path: TreePath) -> Result<(), Stop<WalkFault>>
-    ensures { Took most path found.old result found.new }
-{
-    if found.len() >= most {
-        return Err(Stop::Fault(WalkFault::Files));
-    }
-    found.push(path)?;
-    Ok(())
 }
