@@ -1,6 +1,6 @@
 -- What a walk that was run says, and what is answered of it.
-use Rattle.std.proofs.Common.{◌≡◌, inl, inr, List, [], ◌∷◌, ◌++◌, false, refl, sym, ◌∙◌, subst}
-use Rattle.std.specs.Prelude.{IfOk, IsSome, Result, Ok, Err}
+use Rattle.std.proofs.Common.{◌≡◌, inl, inr, List, [], ◌∷◌, ◌++◌, false, refl, sym, subst}
+use Rattle.std.specs.Prelude.{IfOk, Result, Ok, Err}
 use Rattle.vk_spec.specs.Paths.{Path}
 use Rattle.vk_spec.specs.States.{State, OnlyListed}
 use Rattle.vk_spec.specs.Standing.{Disk, IsFolder, OnFiles}

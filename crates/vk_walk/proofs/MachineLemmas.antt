@@ -2,7 +2,7 @@
 use Rattle.std.proofs.Common.{inr, true, suc, ◌≡◌, ◌++◌, [], ◌∷◌, ℕ, List, refl, ap, sym, ◌∙◌, subst, length-append, arith}
 use Rattle.std.proofs.lemmas.List.{get_or_append_left, reverse-append}
 use Rattle.std.specs.List.{All}
-use Rattle.std.specs.Prelude.{Result, Ok, Err, Option, Some, None}
+use Rattle.std.specs.Prelude.{Result, Ok, Err, Some, None}
 use Rattle.std.specs.declared.alloc.Global.{Global}
 use Rattle.vk_spec.specs.Paths.{Path}
 use Rattle.vk_spec.specs.States.{State}
@@ -16,7 +16,7 @@ use Rattle.vk_base.specs.declared.stops.Outage.TheVariants as outage
 use Rattle.vk_tree.specs.Answers.{entries_of, entry_of, fault_by, list_refusal}
 use Rattle.vk_tree.specs.declared.trees.ListFault.{ListFault}
 use Rattle.vk_tree.specs.declared.trees.Listed.{Listed}
-use Rattle.vk_protocol.specs.Protocols.{Protocol, answer_of, ends, on_ok, each, ◌>>=◌}
+use Rattle.vk_protocol.specs.Protocols.{answer_of, ends, on_ok, each, ◌>>=◌}
 use Rattle.vk_protocol.specs.Runs.{Asked, CameTo, CanAsk, CanRunOn, NextIs, Ran, Stepped, Stops}
 use Rattle.vk_protocol.proofs.ProtocolLemmas.{ok_then_ok, then_nothing}
 use Rattle.vk_protocol.proofs.RunLemmas.{can_then, each_on, ran_to, reads_can_on, reply_calm, stays, stepped_leads, stepped_stops}
@@ -101,9 +101,12 @@ walk_begins alloc folder = then_nothing (walk_at 1000000 (suc 64) folder true []
 pub first_stepped : (v : Walk) (folder : Path) (r : Result (List Listed) WalkLimit) (a b : State) → Asked (list_of folder) (λ reply x. listed_view x ≡ listed reply) (Ok r) a b
     → now_means v.files v.at v.found v.todo ≡ after_list 1000000 folder 64 [] [] (listed_view r) → NextIs (walk_of walk_limits folder) walk_means (Ok v) a b
 unfolding walk_means walk_of
-first_stepped v folder r a b asked means =
-    (asked.0, asked.1, means ∙ then_nothing (on_ok (λ es. each (λ e found. walk_at 1000000 64 (folder ++ e.name ∷ []) e.folder found) es []) (listed_view r))
-    ∙ ap (λ x. on_ok (λ es. each (λ e found. walk_at 1000000 64 (folder ++ e.name ∷ []) e.folder found) es []) x) asked.2)
+first_stepped v folder r a b asked means = (
+  asked.0,
+  asked.1,
+  means ∙ then_nothing (on_ok (λ es. each (λ e found. walk_at 1000000 64 (folder ++ e.name ∷ []) e.folder found) es []) (listed_view r))
+      ∙ ap (λ x. on_ok (λ es. each (λ e found. walk_at 1000000 64 (folder ++ e.name ∷ []) e.folder found) es []) x) asked.2,
+)
 
 pub first_stopped : (folder : Path) (e : Outage) (a b : State) → Stops (list_of folder) e a b → NextIs (walk_of walk_limits folder) walk_means (Err e) a b
 unfolding walk_of

@@ -1,6 +1,6 @@
 -- A walk asks for listings of its folder and of folders below it, and for nothing else.
-use Rattle.std.proofs.Common.{◌≡◌, inl, inr, zero, suc, ℕ, List, [], ◌∷◌, ◌++◌, true, false, refl, ap, sym, ◌∙◌, subst}
-use Rattle.std.proofs.lemmas.List.{append-nil, append_assoc}
+use Rattle.std.proofs.Common.{◌≡◌, inl, inr, zero, suc, ℕ, List, [], ◌∷◌, ◌++◌, true, false, refl, ap, sym, subst}
+use Rattle.std.proofs.lemmas.List.{append-nil}
 use Rattle.std.specs.Prelude.{Bool, Result, Ok, Err}
 use Rattle.vk_spec.specs.Paths.{Path, Begins}
 use Rattle.vk_spec.specs.States.{State, OnlyListed}
@@ -26,7 +26,7 @@ lists_below folder most zero path true found below = tt
 lists_below folder most (suc left) path true found below = (
   (path, below, refl),
   λ reply. only_ok (ListsIn folder) (λ es. each (λ e found. walk_at most left (path ++ e.name ∷ []) e.folder found) es found) (listed reply)
-  (λ es. only_each (ListsIn folder) (λ e found. walk_at most left (path ++ e.name ∷ []) e.folder found) es found (λ e t. lists_below folder most left (path ++ e.name ∷ []) e.folder t (begins_longer folder path e.name below))),
+      (λ es. only_each (ListsIn folder) (λ e found. walk_at most left (path ++ e.name ∷ []) e.folder found) es found (λ e t. lists_below folder most left (path ++ e.name ∷ []) e.folder t (begins_longer folder path e.name below))),
 )
 
 pub walk_lists : (most : Limits) (folder : Path) → AsksOnly (ListsIn folder) (walk_of most folder)

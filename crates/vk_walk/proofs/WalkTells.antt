@@ -1,18 +1,18 @@
 -- What a walk comes to over files that stay.
-use Rattle.std.proofs.Common.{inl, inr, ◌≡◌, ◌≤◌, ◌<◌, ◌+◌, ℕ, zero, suc, List, [], ◌∷◌, ◌++◌, length, length-append, true, false, refl, ap, sym, ◌∙◌, subst, arith}
-use Rattle.std.specs.Prelude.{Bool, Result, Ok, Err, IsSome, nat_le, if◌then◌else◌}
+use Rattle.std.proofs.Common.{inl, inr, ◌≡◌, ◌≤◌, ◌<◌, ◌+◌, ℕ, zero, suc, List, [], ◌∷◌, ◌++◌, length, length-append, true, false, refl, sym, subst, arith}
+use Rattle.std.specs.Prelude.{Bool, Result, Ok, Err, nat_le, if◌then◌else◌}
 use Rattle.std.proofs.lemmas.Bool.Decides.{nat_tests}
 use Rattle.std.proofs.lemmas.List.{append-nil, append_assoc}
 use Rattle.std.proofs.lemmas.List.Elements.{Contains-append_right}
 use Rattle.vk_spec.specs.Paths.{Path, Begins}
 use Rattle.vk_spec.proofs.ListLemmas.{contains_first}
 use Rattle.vk_spec.specs.Standing.{Disk, Entry, IsAs, IsFolder, IsListing}
-use Rattle.vk_spec.specs.Calls.{list_of, Refusal, missing, too_large, exists, many, most_entries}
-use Rattle.vk_walk.specs.Walks.{Limits, Limit, deep, entries, files, IsFirst, AreFiles, IsCalm}
+use Rattle.vk_spec.specs.Calls.{list_of, missing, too_large, exists, many, most_entries}
+use Rattle.vk_walk.specs.Walks.{Limits, Limit, files, IsFirst}
 use Rattle.vk_tree.specs.Trees.{IsTreeDisk}
 use Rattle.vk_walk.specs.Progress.{Upto, Before, Through, Until}
 use Rattle.vk_walk.proofs.StepLemmas.{begins_longer, start, enter, next, passed, take_file, leave, finish, files_first, deep_first, entries_first}
-use Rattle.vk_protocol.specs.Protocols.{Reply, Protocol, ends, asks, on_ok, each, ◌>>=◌}
+use Rattle.vk_protocol.specs.Protocols.{Reply, on_ok, each}
 use Rattle.vk_protocol.specs.Runs.{Replies, Tells}
 use Rattle.vk_protocol.proofs.ProtocolLemmas.{tells_then, tells_more}
 use Rattle.vk_tree.proofs.ListingLemmas.{some_entry}

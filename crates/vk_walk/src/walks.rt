@@ -238,11 +238,7 @@ fn settle(
 
 // Comes to something: a folder is to be listed, and a file is found, unless a limit is passed.
 // `None` where it is found.
-fn come(
-    files: usize,
-    next: Pending,
-    found: &mut List<TreePath>,
-) -> Result<Option<WalkNow>, Memory>
+fn come(files: usize, next: Pending, found: &mut List<TreePath>) -> Result<Option<WalkNow>, Memory>
     ensures { IfOk result (λ at. Comes files at found.new (walk_later files next found.old)) }
 {
     if next.folder {

@@ -1,6 +1,4 @@
-use Rattle.std.proofs.lemmas.Result.{err_from_is_err_and}
-use Rattle.vk_walk.proofs.MachineLemmas.{begun_can, begun_out, came_out, came_back}
-use Rattle.vk_walk.specs.WalkMachine.{found_view}
+use Rattle.vk_walk.proofs.MachineLemmas.{begun_can}
 use Rattle.vk_walk.proofs.walking.files_below.Goals as goal
 
 pub run-requires : goal.run-requires

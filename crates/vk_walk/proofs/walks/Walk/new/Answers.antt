@@ -1,4 +1,3 @@
-use Rattle.std.proofs.Common.{refl}
 use Rattle.vk_walk.proofs.MachineLemmas.{walk_begins}
 use Rattle.vk_walk.proofs.walks.Walk.new.Goals as goal
 
