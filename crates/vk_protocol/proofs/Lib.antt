@@ -2,3 +2,4 @@ pub mod ProtocolLemmas
 pub mod RunLemmas
 pub mod KeepLemmas
 pub mod TurnLemmas
+pub mod KeptRuns

@@ -3,7 +3,7 @@ use Rattle.std.proofs.Common.{◌≡◌, inl, inr, false, refl, ap, sym, subst}
 use Rattle.std.specs.Prelude.{Option, Some, None, IfSome, IfOk, Result, Ok, Err}
 use Rattle.vk_spec.specs.States.{Told, State, OnlyRead}
 use Rattle.vk_spec.specs.Standing.{Disk, disk_of, OnFiles}
-use Rattle.vk_spec.specs.Files.{Files}
+use Rattle.vk_spec.specs.Files.{Files, IsTree}
 use Rattle.vk_spec.specs.Calls.{Call, kind_of, read_of, piece_of, list_of, write_of, rename_of, remove_of, fails, Says, IsSmall, is_failed, CanMake, Content, ToldBecomes, noted_by}
 use Rattle.vk_spec.proofs.CallLemmas.{read_once, says_of}
 use Rattle.vk_spec.proofs.StateLemmas.{read_nothing, read_then}
@@ -108,14 +108,14 @@ pub can_first : {A : Type 0} (p : Protocol A) (s : State) → CanRunOn p s → O
 can_first p s h = can_first_told p s.told h
 
 can_after : {A : Type 0} (call : Call) (k : Reply call → Protocol A) (reply : Reply call) (x y : Option Told) → IsSmall call (answer_of call reply) → ToldBecomes (noted_by call (answer_of call reply)) (Content call (answer_of call reply)) x y
-    → IfSome x (λ t. CanRun (asks call k) t.files) → IfSome y (λ t. CanRun (k reply) t.files)
-can_after call k reply None y small m h = subst (λ (o : Option Told). IfSome o (λ t. CanRun (k reply) t.files)) (sym m) tt
-can_after call k reply (Some t) None small m h = tt
-can_after call k reply (Some t) (Some u) small m h = h.1 reply u.files (record { says = m.1.0; small = small; leaves = m.1.1 })
+    → IfSome y (λ t. IsTree t.files) → IfSome x (λ t. CanRun (asks call k) t.files) → IfSome y (λ t. CanRun (k reply) t.files)
+can_after call k reply None y small m tree h = subst (λ (o : Option Told). IfSome o (λ t. CanRun (k reply) t.files)) (sym m) tt
+can_after call k reply (Some t) None small m tree h = tt
+can_after call k reply (Some t) (Some u) small m tree h = h.1 reply u.files (record { says = m.1.0; small = small; leaves = m.1.1 }) tree
 
 pub can_then : {A : Type 0} (p q : Protocol A) (u : Unit {0}) (a b : State) → Stepped p (Ok u) q a b → CanRunOn p a → CanRunOn q b
 can_then (ends x) q u a b step h = absurd step
-can_then (asks call k) q u a b step h = subst (λ r. CanRunOn r b) (sym step.2) (can_after call k step.0 a.told b.told step.1.small step.1.content h)
+can_then (asks call k) q u a b step h = subst (λ r. CanRunOn r b) (sym step.2) (can_after call k step.0 a.told b.told step.1.small step.1.content step.1.tree_after h)
 
 pub lack_here : {A : Type 0} (p : Protocol A) (m : memory.Memory) (s : State) → Ran p (Err (Memory m)) s s
 lack_here (ends x) m s = (tt, refl)
@@ -150,7 +150,7 @@ each_told P (Some t) all = all t
 -- protocols that only read may be run
 pub reads_can : {A : Type 0} (p : Protocol A) (f : Files) → AsksOnly Reads p → CanRun p f
 reads_can (ends x) f h = tt
-reads_can (asks call k) f h = (can_read call (disk_of f) h.0, λ reply g does. reads_can (k reply) g (h.1 reply))
+reads_can (asks call k) f h = (can_read call (disk_of f) h.0, λ reply g does tree. reads_can (k reply) g (h.1 reply))
 
 pub reads_can_on : {A : Type 0} (p : Protocol A) (s : State) → AsksOnly Reads p → CanRunOn p s
 reads_can_on p s h = each_told (λ t. CanRun p t.files) s.told (λ t. reads_can p t.files h)

@@ -1,4 +1,5 @@
 -- What a protocol keeps, whoever changes the files between its calls, and whichever of them fail.
+use Rattle.std.specs.Prelude.{◌≡◌}
 use Rattle.vk_spec.specs.Files.{Files}
 use Rattle.vk_spec.specs.Standing.{disk_of}
 use Rattle.vk_spec.specs.Calls.{CanMake, LeavesFailed}
@@ -22,3 +23,7 @@ pub record AreTerms (Meanwhile Effect : Files → Files → Type 0) (Holds : Fil
   -- neither breaks what holds
   pub others : (f g : Files) → Meanwhile f g → Holds g
   pub own : (f g : Files) → Holds f → Effect f g → IsTreeDisk (disk_of g) → Holds g
+
+-- nobody else changes the files between its calls, and this holds of them
+abbrev pub Alone : (Files → Type 0) → Files → Files → Type 0
+Alone Holds f g = Holds f × (g ≡ f)

@@ -89,7 +89,7 @@ CanAsk (asks call k) d = CanMake call d
 -- and so may all later ones
 abbrev pub CanRun : {A : Type 0} → Protocol A → Files → Type 0
 CanRun (ends x) f = Unit {0}
-CanRun (asks call k) f = CanMake call (disk_of f) × ((reply : Reply call) (g : Files) → Does call reply f g → CanRun (k reply) g)
+CanRun (asks call k) f = CanMake call (disk_of f) × ((reply : Reply call) (g : Files) → Does call reply f g → IsTreeDisk (disk_of g) → CanRun (k reply) g)
 
 abbrev pub CanRunOn : {A : Type 0} → Protocol A → State → Type 0
 CanRunOn p s = IfSome s.told (λ t. CanRun p t.files)

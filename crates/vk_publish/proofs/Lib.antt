@@ -1,0 +1,5 @@
+pub mod NameLemmas
+pub mod NewNames
+pub mod PutLemmas
+pub mod StepLemmas
+pub mod PublishKept
