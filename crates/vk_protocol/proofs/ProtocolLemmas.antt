@@ -40,6 +40,10 @@ pub tells_more : {A : Type 0} (P Q : A → Type 0) (m : Protocol A) (d : Disk) �
 tells_more P Q (ends x) d more h = more x h
 tells_more P Q (asks call k) d more h = λ reply may. tells_more P Q (k reply) d more (h reply may)
 
+pub only_more : {A : Type 0} (M N : Call → Type 0) (p : Protocol A) → ((call : Call) → M call → N call) → AsksOnly M p → AsksOnly N p
+only_more M N (ends x) more h = tt
+only_more M N (asks call k) more h = (more call h.0, λ reply. only_more M N (k reply) more (h.1 reply))
+
 pub only_then : {A B : Type 0} (M : Call → Type 0) (m : Protocol A) (f : A → Protocol B) → AsksOnly M m → ((x : A) → AsksOnly M (f x)) → AsksOnly M (m >>= f)
 only_then M (ends x) f one more = more x
 only_then M (asks call k) f one more = (one.0, λ reply. only_then M (k reply) f (one.1 reply) more)

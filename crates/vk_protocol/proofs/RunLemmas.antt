@@ -78,7 +78,7 @@ lack_calm : (e : Outage) → LacksOnly e → is_outage e ≡ false
 lack_calm Failed h = absurd h
 lack_calm (Memory m) h = refl
 
-end_calm : {A : Type 0} (x : A) (result : Result A Outage) → IsEnd x result → was_out result ≡ false
+pub end_calm : {A : Type 0} (x : A) (result : Result A Outage) → IsEnd x result → was_out result ≡ false
 end_calm x (Ok y) h = refl
 end_calm x (Err e) h = lack_calm e h
 

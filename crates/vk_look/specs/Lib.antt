@@ -1,0 +1,4 @@
+-- what is promised
+pub mod LookIs
+pub mod Looks
+pub mod LookCalls
