@@ -33,7 +33,7 @@ entry_below place = only_more (ListsIn place) (ReadsBelow place) (walk_of walk_l
 module _ (w : Wanted) where
   files_below : (kept : List ℕ) (cs : List Content) → AsksOnly (ReadsBelow w.entry) (look_files w kept cs)
   files_below kept cs = only_then (ReadsBelow w.entry) (each (look_file w.entry) cs (no_files (keeps w kept cs))) (λ r. ends (looked w kept r))
-    (only_each (ReadsBelow w.entry) (look_file w.entry) cs (no_files (keeps w kept cs)) (λ c files. ((_, refl), λ reply. tt))) (λ r. tt)
+      (only_each (ReadsBelow w.entry) (look_file w.entry) cs (no_files (keeps w kept cs)) (λ c files. ((_, refl), λ reply. tt))) (λ r. tt)
 
   compared_below : (kept : List ℕ) (cs : List Content) (o : Option Harm) → AsksOnly (ReadsBelow w.entry) (look_compared w kept cs o)
   compared_below kept cs (Some harm) = tt

@@ -74,9 +74,9 @@ module _ (entry : Path) (keep : Bool) (d : Disk) where
   file_goes before c rest files there so (Ok bytes) may =
       if_case (λ o. Goes entry keep (before ++ c ∷ rest) (before ++ c ∷ []) d (file_read c bytes files o)) (length bytes == c.size) (if bytes_eq (sha256 bytes) c.digest then None else Some Hash) (Some Size)
       (λ long. let long_is : length bytes ≡ c.size = grind (arith, nat_tests, long) in
-          if_case (λ o. Goes entry keep (before ++ c ∷ rest) (before ++ c ∷ []) d (file_read c bytes files o)) (bytes_eq (sha256 bytes) c.digest) None (Some Hash)
-          (λ same. held_more before c bytes files so (record { stands = may.says; listed = λ i. record { path = c.path; size = long_is i; digest = same_bytes (sha256 bytes) c.digest same i } }))
-          (λ other. wrong_at Hash before c rest files so (bytes, may.says, long_is, other_bytes (sha256 bytes) c.digest other)))
+      if_case (λ o. Goes entry keep (before ++ c ∷ rest) (before ++ c ∷ []) d (file_read c bytes files o)) (bytes_eq (sha256 bytes) c.digest) None (Some Hash)
+      (λ same. held_more before c bytes files so (record { stands = may.says; listed = λ i. record { path = c.path; size = long_is i; digest = same_bytes (sha256 bytes) c.digest same i } }))
+      (λ other. wrong_at Hash before c rest files so (bytes, may.says, long_is, other_bytes (sha256 bytes) c.digest other)))
       (λ short. wrong_at Size before c rest files so (bytes, may.says, λ e. grind (arith, nat_tests, short, e)))
   file_goes before c rest files there so (Err missing) may = absurd (none_some (d (file_at entry c.path)) may.says there)
   file_goes before c rest files there so (Err too_large) may = wrong_at Size before c rest files so (may.says.0, may.says.1, λ e. omega (arith, e, may.says.2))

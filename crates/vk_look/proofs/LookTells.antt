@@ -92,8 +92,8 @@ module _ (w : Wanted) (d : Disk) where
         if_case (λ o. Tells Right (look_compared w kept cs o) d) (has_extra w.entry cs found) (Some Extra) (if has_missing w.entry cs found then Some Missing else None)
         (λ more. (cs, read_so cs hl, some_extra w.entry cs found d files more))
         (λ no_more. if_case (λ o. Tells Right (look_compared w kept cs o) d) (has_missing w.entry cs found) (Some Missing) None
-          (λ lacks. (cs, read_so cs hl, no_extra w.entry cs found d files calm no_more, some_missing w.entry cs found d files lacks))
-          (λ none. files_tell cs hl (all_there w.entry cs found d files calm no_more none)))
+        (λ lacks. (cs, read_so cs hl, no_extra w.entry cs found d files calm no_more, some_missing w.entry cs found d files lacks))
+        (λ none. files_tell cs hl (all_there w.entry cs found d files calm no_more none)))
 
     listed_tells : (o : Option (List Content)) → ((cs : List Content) → o ≡ Some cs → HasList w.entry cs d) → (o ≡ None → (cs : List Content) → HasList w.entry cs d → ⊥) → Tells Right (look_listed w kept o) d
     listed_tells None some none = (kept, ht, none refl)

@@ -95,10 +95,10 @@ module _ (w : Wanted) where
   files_anew kept seen (c ∷ cs) (Ok files) once apart = (
     apart (file_at w.entry c.path) (contains_first (file_at w.entry c.path) (map (λ x. file_at w.entry x.path) cs)),
     λ reply. files_anew kept (file_at w.entry c.path ∷ seen) cs (file_told c files reply) once.1
-      (λ q at was. elim (contains_cases (file_at w.entry c.path) q seen was) [
-        | inl same ↦ once.0 (subst (Contains (map (λ x. file_at w.entry x.path) cs)) (sym same) at)
-        | inr before ↦ apart q (contains_later (file_at w.entry c.path) q (map (λ x. file_at w.entry x.path) cs) at) before
-      ]),
+        (λ q at was. elim (contains_cases (file_at w.entry c.path) q seen was) [
+          | inl same ↦ once.0 (subst (Contains (map (λ x. file_at w.entry x.path) cs)) (sym same) at)
+          | inr before ↦ apart q (contains_later (file_at w.entry c.path) q (map (λ x. file_at w.entry x.path) cs) at) before
+        ]),
   )
 
   -- the text and the contents list

@@ -179,16 +179,25 @@ module _ (w : Wanted) (d : Disk) where
   chain tree (Ok (Damaged Hash)) h = whole_chain h.1.kept h.0 _ h.1.kept_is h.1.listed h.2 (inl (Hash, h.3, refl))
   chain tree (Ok (Collision kept)) (cs, files, v, other) =
       let off = other_text kept other in
-      whole_chain kept cs _ v.kept_is v.listed v.all (inr (files, v.holds,
-      ap (λ b. if b then Err (Bytes w.most) else Ok (Collision kept)) (sym off) ∙ kept_same kept cs files false (ap (λ b. b && nat_le (bytes_listed cs) w.most) off)))
+      whole_chain kept cs _ v.kept_is v.listed v.all (inr (
+        files,
+        v.holds,
+        ap (λ b. if b then Err (Bytes w.most) else Ok (Collision kept)) (sym off) ∙ kept_same kept cs files false (ap (λ b. b && nat_le (bytes_listed cs) w.most) off),
+      ))
   chain tree (Ok (Hit files)) (cs, v, few) =
-      whole_chain w.text cs _ v.kept_is v.listed v.all (inr (files, v.holds,
-      kept_same w.text cs files true (and_from (bytes_eq w.text w.text) (nat_le (bytes_listed cs) w.most) same_text (grind (arith, nat_tests, few)))))
+      whole_chain w.text cs _ v.kept_is v.listed v.all (inr (
+        files,
+        v.holds,
+        kept_same w.text cs files true (and_from (bytes_eq w.text w.text) (nat_le (bytes_listed cs) w.most) same_text (grind (arith, nat_tests, few))),
+      ))
   chain tree (Err limit) (cs, files, v, many, is) =
       let off : nat_le (bytes_listed cs) w.most ≡ false = grind (arith, nat_tests, many) in
-      whole_chain w.text cs _ v.kept_is v.listed v.all (inr (files, v.holds,
-      ap Err is ∙ ap (λ b. if b then Err (Bytes w.most) else Ok (Collision w.text)) (sym same_text)
-      ∙ kept_same w.text cs files false (ap (λ b. b && nat_le (bytes_listed cs) w.most) same_text ∙ off)))
+      whole_chain w.text cs _ v.kept_is v.listed v.all (inr (
+        files,
+        v.holds,
+        ap Err is ∙ ap (λ b. if b then Err (Bytes w.most) else Ok (Collision w.text)) (sym same_text)
+            ∙ kept_same w.text cs files false (ap (λ b. b && nat_le (bytes_listed cs) w.most) same_text ∙ off),
+      ))
 
   -- ---- and such a thing is one
 

@@ -83,7 +83,7 @@ module _ (entry : Path) (cs : List Content) (found : List Path) (d : Disk) (file
   not_found c e = elim (some_or_none (d (file_at entry c.path))) [
     | inl none ↦ none
     | inr some ↦ absurd (true_false (list_any (λ q. is_path (file_at entry c.path) q) found)
-      (contains_any (λ q. is_path (file_at entry c.path) q) found (file_at entry c.path) (files.all (file_at entry c.path) some (_, refl)) (path_by (file_at entry c.path) (file_at entry c.path) refl)) e)
+        (contains_any (λ q. is_path (file_at entry c.path) q) found (file_at entry c.path) (files.all (file_at entry c.path) some (_, refl)) (path_by (file_at entry c.path) (file_at entry c.path) refl)) e)
   ]
 
   is_found : (c : Content) → list_any (λ q. is_path (file_at entry c.path) q) found ≡ true → IsFile d (file_at entry c.path)

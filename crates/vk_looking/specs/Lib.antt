@@ -1,0 +1,3 @@
+-- what functions say besides
+pub mod FilesToRead
+pub mod LookMachine
