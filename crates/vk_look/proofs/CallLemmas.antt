@@ -66,4 +66,4 @@ module _ (w : Wanted) where
 
   pub look_first : AsksFirst w.entry (look_of w)
   unfolding look_of
-  look_first = record { next = look_stands w; first = refl; nothing = tt }
+  look_first = record { next = look_stands w; first = refl; nothing = tt; refused = λ r. tt }

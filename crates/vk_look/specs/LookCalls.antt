@@ -1,10 +1,10 @@
 -- Which calls a look makes.
-use Rattle.std.specs.Prelude.{◌≡◌, ◌∷◌, [], List, Bool, Ok}
+use Rattle.std.specs.Prelude.{◌≡◌, ◌∷◌, [], List, Bool, Ok, Err}
 use Rattle.std.specs.List.{Contains}
 use Rattle.vk_spec.specs.Lists.{NoRepeats}
 use Rattle.vk_spec.specs.Paths.{Path, Begins}
 use Rattle.vk_spec.specs.States.{State, Looks}
-use Rattle.vk_spec.specs.Calls.{Call, kind_of, read_of, piece_of, list_of, write_of, rename_of, remove_of, is_absent}
+use Rattle.vk_spec.specs.Calls.{Call, kind_of, read_of, piece_of, list_of, write_of, rename_of, remove_of, is_absent, Refusal}
 use Rattle.vk_protocol.specs.Protocols.{Protocol, Reply, ends, asks}
 use Rattle.vk_protocol.specs.Runs.{IsAtEnd}
 
@@ -23,6 +23,7 @@ pub record AsksFirst {A : Type 0} (place : Path) (p : Protocol A) : Type 0 where
   pub next : Reply (kind_of place) → Protocol A
   pub first : p ≡ asks (kind_of place) next
   pub nothing : IsAtEnd (next (Ok is_absent))
+  pub refused : (r : Refusal) → IsAtEnd (next (Err r))
 
 -- ---- no path is read twice
 
