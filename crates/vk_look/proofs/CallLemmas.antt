@@ -1,20 +1,19 @@
 -- Which calls a look makes.
-use Rattle.std.proofs.Common.{◌≡◌, ◌++◌, [], ◌∷◌, ℕ, zero, suc, List, true, false, refl, ap, sym, ◌∙◌, subst}
-use Rattle.std.specs.Prelude.{Option, Some, None, Bool, Result, Ok, Err}
+use Rattle.std.proofs.Common.{[], ℕ, List, refl, sym, subst}
+use Rattle.std.specs.Prelude.{Option, Some, None, Result, Ok, Err}
 use Rattle.std.specs.Str.{bytes_eq}
-use Rattle.std.proofs.lemmas.List.{append-nil, append_assoc}
+use Rattle.std.proofs.lemmas.List.{append-nil}
 use Rattle.sha2.specs.Sha256.{sha256}
-use Rattle.vk_spec.specs.Paths.{Path, Begins}
-use Rattle.vk_spec.specs.Calls.{Call, kind_of, read_of, piece_of, list_of, write_of, rename_of, remove_of, Kind, is_file, is_folder, is_absent, Refusal}
+use Rattle.vk_spec.specs.Paths.{Path}
+use Rattle.vk_spec.specs.Calls.{Call, Kind, is_file, is_folder, is_absent, Refusal}
 use Rattle.vk_walk.specs.Walks.{Limit}
 use Rattle.vk_walk.specs.Walked.{walk_limits}
-use Rattle.vk_protocol.specs.Protocols.{Protocol, ends, asks, each, ◌>>=◌}
+use Rattle.vk_protocol.specs.Protocols.{ends, each}
 use Rattle.vk_protocol.specs.Runs.{AsksOnly, Reads}
 use Rattle.vk_protocol.proofs.ProtocolLemmas.{only_more, only_then, only_each}
 use Rattle.vk_walk.specs.WalkProtocol.{ListsIn, walk_of}
 use Rattle.vk_walk.proofs.WalkAsks.{walk_lists}
 use Rattle.vk_entry.specs.Contents.{Content}
-use Rattle.vk_places.specs.Places.{text_at, contents_at, file_at}
 use Rattle.vk_look.specs.LookIs.{Wanted}
 use Rattle.vk_look.specs.Looks.{damaged, look_of, look_stands, look_kept, look_contents, look_listed, look_compared, look_found, look_files, list_told, look_file, compared, keeps, no_files, looked}
 use Rattle.vk_look.specs.LookCalls.{ReadsBelow, AsksFirst}

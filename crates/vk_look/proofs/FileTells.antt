@@ -1,5 +1,5 @@
 -- What the reading of the listed files comes to over files that stay.
-use Rattle.std.proofs.Common.{◌≡◌, inl, inr, ◌++◌, [], ◌∷◌, ℕ, List, length, Bool, true, false, refl, ap, sym, ◌∙◌, subst, arith, map, ◌==◌, if◌then◌else◌}
+use Rattle.std.proofs.Common.{◌≡◌, inl, inr, ◌++◌, [], ◌∷◌, ℕ, List, length, Bool, true, false, refl, sym, ◌∙◌, subst, arith, map, ◌==◌, if◌then◌else◌}
 use Rattle.std.specs.Prelude.{Option, Some, None, Result, Ok, Err}
 use Rattle.std.specs.List.{Contains}
 use Rattle.std.specs.Str.{bytes_eq}

@@ -1,5 +1,5 @@
 -- What a look comes to over files that stay.
-use Rattle.std.proofs.Common.{◌≡◌, ◌≢◌, inl, inr, ◌++◌, ◌&&◌, [], ◌∷◌, ℕ, List, length, Bool, true, false, refl, ap, sym, ◌∙◌, subst, arith, nat_le, if◌then◌else◌}
+use Rattle.std.proofs.Common.{◌≡◌, inl, inr, ◌++◌, ◌&&◌, [], ℕ, List, length, Bool, true, false, refl, ap, sym, ◌∙◌, subst, arith, nat_le, if◌then◌else◌}
 use Rattle.std.specs.Prelude.{Option, Some, None, Result, Ok, Err}
 use Rattle.std.specs.Str.{bytes_eq}
 use Rattle.std.proofs.lemmas.Bool.Decides.{nat_tests}
@@ -11,7 +11,7 @@ use Rattle.vk_spec.proofs.FileLemmas.{none_some}
 use Rattle.vk_base.specs.declared.limits.Limit.TheVariants.{Bytes}
 use Rattle.vk_walk.specs.Walks.{Limit}
 use Rattle.vk_walk.specs.Walked.{walk_limits}
-use Rattle.vk_protocol.specs.Protocols.{Reply, Protocol, ends, each, ◌>>=◌}
+use Rattle.vk_protocol.specs.Protocols.{Reply, ends, each}
 use Rattle.vk_protocol.specs.Runs.{Replies, Tells}
 use Rattle.vk_protocol.proofs.ProtocolLemmas.{tells_then}
 use Rattle.vk_walk.specs.WalkProtocol.{walk_of, WalkedIs}
@@ -19,13 +19,13 @@ use Rattle.vk_walk.proofs.WalkTells.{walk_tells}
 use Rattle.vk_entry.specs.Packages.{File}
 use Rattle.vk_entry.specs.Contents.{Content}
 use Rattle.vk_entry.specs.ContentLists.{IsList}
-use Rattle.vk_places.specs.Places.{text_at, contents_at, file_at}
+use Rattle.vk_places.specs.Places.{text_at, contents_at}
 use Rattle.vk_entry.specs.ContentsIn.{contents_in}
 use Rattle.vk_look.specs.LookIs.{Wanted, most_list, most_text, bytes_listed, HasText, HasList, HasAll, Holds, IsValid, IsRead, FirstWrong, LookIs}
-use Rattle.vk_look.specs.Looks.{Looked, damaged, has_extra, has_missing, look_file, keeps, no_files, looked, look_files, look_compared, look_found, look_listed, list_told, look_contents, look_kept, look_text, look_stands, look_of}
+use Rattle.vk_look.specs.Looks.{Looked, damaged, has_extra, has_missing, look_file, keeps, no_files, looked, look_files, look_compared, look_found, look_listed, list_told, look_contents, look_kept, look_stands, look_of}
 use Rattle.vk_look.specs.declared.answers.Harm.{Harm}
 use Rattle.vk_look.specs.declared.answers.Harm.TheVariants.{Text, Contents, Extra, Missing, Size, Hash}
-use Rattle.vk_look.specs.declared.answers.Look.TheVariants.{Absent, Collision}
+use Rattle.vk_look.specs.declared.answers.Look.TheVariants.{Collision}
 use Rattle.vk_resolution.proofs.Members.{both_true}
 use Rattle.vk_look.proofs.PlaceTests.{if_case, one_some, same_bytes, other_bytes, some_extra, no_extra, some_missing, all_there}
 use Rattle.vk_look.proofs.FileTells.{Goes, none_held, each_goes}

@@ -1,9 +1,9 @@
 -- A look reads no path twice.
-use Rattle.std.proofs.Common.{◌≡◌, ◌≢◌, inl, inr, ◌++◌, [], ◌∷◌, ℕ, zero, suc, List, get_or, length, Bool, true, false, refl, ap, sym, ◌∙◌, subst, map, arith}
+use Rattle.std.proofs.Common.{◌≡◌, inl, inr, ◌++◌, [], ◌∷◌, ℕ, List, get_or, false, refl, ap, sym, ◌∙◌, subst, map, arith}
 use Rattle.std.specs.Prelude.{Option, Some, None, Result, Ok, Err, codes}
 use Rattle.std.specs.List.{Contains, AllByRecursion, All}
 use Rattle.std.specs.List.Sorted.{IsStrictlySortedBy}
-use Rattle.std.specs.declared.cmp.Ordering.TheVariants.{Less, Equal}
+use Rattle.std.specs.declared.cmp.Ordering.TheVariants.{Less}
 use Rattle.std.specs.Ordering.{nat_cmp}
 use Rattle.std.specs.Str.{bytes_eq}
 use Rattle.std.specs.Cmp.Lexicographic.{slice_cmp}
@@ -12,9 +12,9 @@ use Rattle.std.proofs.lemmas.List.Elements.{All-head, All-tail}
 use Rattle.sha2.specs.Sha256.{sha256}
 use Rattle.vk_spec.specs.Lists.{NoRepeats}
 use Rattle.vk_spec.specs.Paths.{Path, anchor}
-use Rattle.vk_spec.specs.Calls.{Call, kind_of, read_of, piece_of, list_of, write_of, rename_of, remove_of, Kind, is_file, is_folder, is_absent, Refusal}
+use Rattle.vk_spec.specs.Calls.{Call, Kind, is_file, is_folder, is_absent, Refusal}
 use Rattle.vk_spec.proofs.ListLemmas.{contains_nothing, contains_first, contains_later, contains_cases}
-use Rattle.vk_base.specs.Paths.{IsPath, is_rooted, ups_of, parts_of, text_of_path}
+use Rattle.vk_base.specs.Paths.{parts_of, text_of_path}
 use Rattle.vk_base.proofs.PathLemmas.{key_again}
 use Rattle.vk_walk.specs.Walks.{Limit}
 use Rattle.vk_walk.specs.Walked.{walk_limits}
@@ -24,11 +24,10 @@ use Rattle.vk_walk.specs.WalkProtocol.{walk_of}
 use Rattle.vk_entry.specs.Packages.{File}
 use Rattle.vk_entry.specs.Contents.{Content}
 use Rattle.vk_entry.specs.ContentLists.{Ascend, AreContents, IsContent}
-use Rattle.vk_entry.specs.ContentsIn.{contents_in}
 use Rattle.vk_entry.proofs.ContentsFound.{list_in}
 use Rattle.vk_places.specs.Places.{text_at, contents_at, file_at}
-use Rattle.vk_look.specs.LookIs.{Wanted, most_list, most_text}
-use Rattle.vk_look.specs.Looks.{Looked, damaged, look_of, look_stands, look_kept, look_text, look_contents, look_listed, look_compared, look_found, look_files, list_told, look_file, file_told, compared, keeps, no_files, looked}
+use Rattle.vk_look.specs.LookIs.{Wanted}
+use Rattle.vk_look.specs.Looks.{damaged, look_of, look_stands, look_kept, look_contents, look_listed, look_compared, look_found, list_told, look_file, file_told, compared, keeps, no_files, looked}
 use Rattle.vk_look.specs.LookCalls.{ReadsAnew}
 use Rattle.vk_look.specs.declared.answers.Harm.{Harm}
 use Rattle.vk_look.specs.declared.answers.Harm.TheVariants.{Text}

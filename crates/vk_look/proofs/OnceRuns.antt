@@ -1,11 +1,11 @@
 -- What a run of a protocol that reads no path twice leaves.
-use Rattle.std.proofs.Common.{◌≡◌, inl, inr, ◌++◌, [], ◌∷◌, List, Bool, true, false, refl, ap, sym, subst}
+use Rattle.std.proofs.Common.{inl, inr, ◌++◌, [], ◌∷◌, List, Bool, false, refl, sym, subst}
 use Rattle.std.specs.Prelude.{Result, Ok, Err}
 use Rattle.std.specs.List.{Contains}
 use Rattle.vk_spec.specs.Lists.{NoRepeats}
 use Rattle.vk_spec.specs.Paths.{Path, Begins}
 use Rattle.vk_spec.specs.States.{State, Looks, OnlyRead}
-use Rattle.vk_spec.specs.Calls.{Call, Output, Answer, kind_of, read_of, piece_of, list_of, write_of, rename_of, remove_of, refuses, fails, lacks, Made, noted, noted_by, is_failed}
+use Rattle.vk_spec.specs.Calls.{Call, Output, Answer, kind_of, read_of, piece_of, list_of, write_of, rename_of, remove_of, refuses, fails, lacks, noted, noted_by}
 use Rattle.vk_spec.proofs.CallLemmas.{looks_of}
 use Rattle.vk_spec.proofs.StateLemmas.{looks_nothing, looks_then}
 use Rattle.vk_spec.proofs.ListLemmas.{contains_nothing, contains_first, contains_later, contains_cases}
@@ -13,7 +13,7 @@ use Rattle.vk_base.specs.Stops.{was_out, is_outage}
 use Rattle.vk_base.specs.declared.stops.Outage.{Outage}
 use Rattle.vk_base.specs.declared.stops.Outage.TheVariants.{Failed, Memory}
 use Rattle.vk_protocol.specs.Protocols.{Protocol, Reply, answer_of, ends, asks}
-use Rattle.vk_protocol.specs.Runs.{AsksOnly, Reads, Ran, IsEnd, LacksOnly, Stops, StopsAt}
+use Rattle.vk_protocol.specs.Runs.{AsksOnly, Reads, Ran, Stops, StopsAt}
 use Rattle.vk_protocol.proofs.RunLemmas.{reply_calm, end_calm}
 use Rattle.vk_look.specs.LookCalls.{ReadsBelow, ReadsNone, with_read, ReadsAnew, ReadOnceBelow}
 

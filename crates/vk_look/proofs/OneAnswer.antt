@@ -1,6 +1,6 @@
 -- A look has one answer.
-use Rattle.std.proofs.Common.{◌≡◌, ◌≢◌, ◌≤◌, ◌<◌, ◌⊎◌, inl, inr, ◌++◌, ◌&&◌, [], ◌∷◌, ℕ, List, length, Bool, true, false, refl, ap, sym, ◌∙◌, subst, arith, nat_le, map}
-use Rattle.std.specs.Prelude.{Option, Some, None, IsSome, Result, Ok, Err, if◌then◌else◌}
+use Rattle.std.proofs.Common.{◌≡◌, ◌≢◌, ◌⊎◌, inl, inr, ◌++◌, ◌&&◌, [], ◌∷◌, ℕ, List, length, Bool, true, false, refl, ap, sym, ◌∙◌, subst, arith, nat_le, map}
+use Rattle.std.specs.Prelude.{Option, Some, None, IsSome, Ok, Err, if◌then◌else◌}
 use Rattle.std.specs.List.{Contains}
 use Rattle.std.specs.Str.{bytes_eq}
 use Rattle.std.proofs.lemmas.Bool.{and_from}

@@ -1,5 +1,5 @@
 -- The tests on the files that a walk found, and what they say.
-use Rattle.std.proofs.Common.{◌≡◌, ◌≢◌, ◌⊎◌, inl, inr, ◌||◌, not, ◌∷◌, ℕ, List, Bool, true, false, refl, ap, sym, ◌∙◌, subst}
+use Rattle.std.proofs.Common.{◌≡◌, ◌≢◌, ◌⊎◌, inl, inr, ◌||◌, not, ℕ, List, Bool, true, false, refl, ap, sym, ◌∙◌, subst}
 use Rattle.std.specs.Prelude.{Option, Some, None, IsSome, if◌then◌else◌}
 use Rattle.std.specs.List.{Contains, list_any}
 use Rattle.std.specs.Str.{bytes_eq}
@@ -8,7 +8,7 @@ use Rattle.std.proofs.lemmas.Slice.Eq.{bytes_eq-Decides, slice_eq-Decides}
 use Rattle.vk_spec.specs.Paths.{Path, Begins}
 use Rattle.vk_spec.specs.Standing.{Disk, IsFile}
 use Rattle.vk_resolution.proofs.Members.{contains_any, any_contains, not_true, true_false}
-use Rattle.vk_walk.specs.Walks.{Limit, IsCalm, AreFiles}
+use Rattle.vk_walk.specs.Walks.{IsCalm, AreFiles}
 use Rattle.vk_walk.specs.Walked.{walk_limits}
 use Rattle.vk_entry.specs.Contents.{Content}
 use Rattle.vk_places.specs.Places.{text_at, contents_at, file_at}

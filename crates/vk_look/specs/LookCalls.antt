@@ -1,5 +1,5 @@
 -- Which calls a look makes.
-use Rattle.std.specs.Prelude.{◌≡◌, ◌∷◌, [], List, Bool, Ok, Err}
+use Rattle.std.specs.Prelude.{◌≡◌, ◌∷◌, List, Bool, Ok, Err}
 use Rattle.std.specs.List.{Contains}
 use Rattle.vk_spec.specs.Lists.{NoRepeats}
 use Rattle.vk_spec.specs.Paths.{Path, Begins}

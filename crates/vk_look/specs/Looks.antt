@@ -1,6 +1,6 @@
 -- A look at an entry of a cache, as a protocol: what stands at the entry; its text; its contents
 -- list; a walk of it; and each listed file, up to the first harm.
-use Rattle.std.specs.Prelude.{◌≡◌, ◌++◌, ◌==◌, ◌&&◌, ◌||◌, not, [], ◌∷◌, ℕ, List, length, Bool, true, false}
+use Rattle.std.specs.Prelude.{◌++◌, ◌==◌, ◌&&◌, ◌||◌, not, [], ◌∷◌, ℕ, List, length, Bool, true, false}
 use Rattle.std.specs.Prelude.{Option, Some, None, Result, Ok, Err, nat_le, if◌then◌else◌}
 use Rattle.std.specs.List.{list_any}
 use Rattle.std.specs.Cmp.Lexicographic.{pointwise}
@@ -12,7 +12,7 @@ use Rattle.vk_base.specs.declared.limits.Limit as base
 use Rattle.vk_base.specs.declared.limits.Limit.TheVariants.{Bytes}
 use Rattle.vk_walk.specs.Walks.{Limit}
 use Rattle.vk_walk.specs.Walked.{walk_limits}
-use Rattle.vk_protocol.specs.Protocols.{Protocol, ends, asks, on_ok, each, ◌>>=◌}
+use Rattle.vk_protocol.specs.Protocols.{Protocol, ends, asks, each, ◌>>=◌}
 use Rattle.vk_walk.specs.WalkProtocol.{walk_of}
 use Rattle.vk_entry.specs.Packages.{File}
 use Rattle.vk_entry.specs.Contents.{Content}

@@ -1,7 +1,7 @@
 -- A look, step by step and as a whole.
-use Rattle.std.proofs.Common.{◌≡◌, false, sym, subst}
+use Rattle.std.proofs.Common.{◌≡◌, sym, subst}
 use Rattle.std.specs.Prelude.{IfOk, Result, Ok, Err}
-use Rattle.vk_spec.specs.States.{State, OnlyRead}
+use Rattle.vk_spec.specs.States.{State}
 use Rattle.vk_spec.specs.Standing.{OnFiles}
 use Rattle.vk_base.specs.Stops.{was_out}
 use Rattle.vk_base.specs.declared.memory.Memory.{Memory}
@@ -9,7 +9,7 @@ use Rattle.vk_base.specs.declared.stops.Outage.{Outage}
 use Rattle.vk_base.specs.declared.stops.Outage.TheVariants as outage
 use Rattle.vk_protocol.specs.Protocols.{Protocol, ends, asks}
 use Rattle.vk_protocol.specs.Runs.{AsksOnly, Reads, Ran, Tells, CanRunOn, CameTo, NextIs, Stepped}
-use Rattle.vk_protocol.proofs.RunLemmas.{ran_tells, ran_reads, reads_can_on, each_on, ran_to, lack_here}
+use Rattle.vk_protocol.proofs.RunLemmas.{ran_tells, reads_can_on, each_on, ran_to, lack_here}
 use Rattle.vk_look.specs.LookIs.{Wanted, LookIs}
 use Rattle.vk_look.specs.Looks.{Looked, look_of}
 use Rattle.vk_look.proofs.LookTells.{look_tells}

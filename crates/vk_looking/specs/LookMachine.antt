@@ -1,5 +1,5 @@
 -- What is left of a look that has come so far.
-use Rattle.std.specs.Prelude.{◌≡◌, ◌++◌, ◌∷◌, [], ℕ, List, map, reverse, Option, Some, None, Result, Ok, Err}
+use Rattle.std.specs.Prelude.{ℕ, List, Option, Result, Ok}
 use Rattle.vk_spec.specs.Calls.{read_of, Refusal}
 use Rattle.vk_protocol.specs.Protocols.{Protocol, ends, asks, on_ok, each, ◌>>=◌}
 use Rattle.vk_walk.specs.WalkMachine.{walk_means}

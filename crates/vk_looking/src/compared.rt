@@ -47,12 +47,7 @@ fn holds(paths: &[TreePath], path: &TreePath) -> bool
 }
 
 // Whether one of the paths that were found is none of those that may be there.
-fn has_extra(
-    text: &TreePath,
-    contents: &TreePath,
-    places: &[TreePath],
-    found: &[TreePath],
-) -> bool
+fn has_extra(text: &TreePath, contents: &TreePath, places: &[TreePath], found: &[TreePath]) -> bool
     requires { IsSorted path_cmp places.now }
     ensures { result ≡ list_any (λ q. not (is_path text.now q || (is_path contents.now q
         || list_any (λ p. is_path p q) places.now))) found.now }

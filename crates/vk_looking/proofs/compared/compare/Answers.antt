@@ -1,4 +1,4 @@
-use Rattle.std.proofs.Common.{map, sym, ◌∙◌}
+use Rattle.std.proofs.Common.{map}
 use Rattle.vk_entry.specs.ContentViews.{content_view}
 use Rattle.vk_looking.proofs.CompareLemmas.{with_all, with_extra, with_missing}
 use Rattle.vk_looking.proofs.compared.compare.Goals as goal
