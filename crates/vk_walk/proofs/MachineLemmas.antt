@@ -3,7 +3,6 @@ use Rattle.std.proofs.Common.{inr, true, suc, ◌≡◌, ◌++◌, [], ◌∷◌
 use Rattle.std.proofs.lemmas.List.{get_or_append_left, reverse-append}
 use Rattle.std.specs.List.{All}
 use Rattle.std.specs.Prelude.{Result, Ok, Err, Some, None}
-use Rattle.std.specs.declared.alloc.Global.{Global}
 use Rattle.vk_spec.specs.Paths.{Path}
 use Rattle.vk_spec.specs.States.{State}
 use Rattle.vk_spec.specs.Standing.{Disk, Entry, OnFiles}
@@ -23,7 +22,7 @@ use Rattle.vk_protocol.proofs.RunLemmas.{can_then, each_on, ran_to, reads_can_on
 use Rattle.vk_walk.specs.Walks.{Limit}
 use Rattle.vk_walk.specs.Walked.{walk_limits}
 use Rattle.vk_walk.specs.WalkProtocol.{listed, walk_at, walk_of}
-use Rattle.vk_walk.specs.WalkMachine.{Comes, Entered, after_list, listed_view, now_means, pend, walk_later, walk_means, walk_todo}
+use Rattle.vk_walk.specs.WalkMachine.{Comes, Entered, IsFresh, after_list, listed_view, now_means, pend, walk_later, walk_means, walk_todo}
 use Rattle.vk_walk.specs.declared.walks.Pending.{Pending}
 use Rattle.vk_walk.specs.declared.walks.Walk.{Walk}
 use Rattle.vk_walk.specs.declared.walks.WalkLimit.{WalkLimit}
@@ -94,17 +93,17 @@ walk_stays w v m a = stays (walk_means w) (walk_means v) (outage.Memory m) a a t
 
 -- ---- the first step
 
-pub walk_begins : (alloc : Global) (folder : Path) → walk_means (record { alloc = alloc; files = 1000000; todo = []; found = []; at = Lists folder 64 }) ≡ walk_of walk_limits folder
+pub walk_begins : (w : Walk) (folder : Path) → IsFresh walk_limits (Lists folder 64) w → walk_means w ≡ walk_of walk_limits folder
 unfolding walk_means walk_of
-walk_begins alloc folder = then_nothing (walk_at 1000000 (suc 64) folder true [])
+walk_begins w folder new = rw (new.files, new.todo, new.found, new.next) (then_nothing (walk_at 1000000 (suc 64) folder true []))
 
-pub first_stepped : (v : Walk) (folder : Path) (r : Result (List Listed) WalkLimit) (a b : State) → Asked (list_of folder) (λ reply x. listed_view x ≡ listed reply) (Ok r) a b
-    → now_means v.files v.at v.found v.todo ≡ after_list 1000000 folder 64 [] [] (listed_view r) → NextIs (walk_of walk_limits folder) walk_means (Ok v) a b
+pub first_stepped : (w v : Walk) (folder : Path) (r : Result (List Listed) WalkLimit) (a b : State) → IsFresh walk_limits Done w → Asked (list_of folder) (λ reply x. listed_view x ≡ listed reply) (Ok r) a b
+    → now_means v.files v.at v.found v.todo ≡ after_list w.files folder 64 w.found w.todo (listed_view r) → NextIs (walk_of walk_limits folder) walk_means (Ok v) a b
 unfolding walk_means walk_of
-first_stepped v folder r a b asked means = (
+first_stepped w v folder r a b new asked means = (
   asked.0,
   asked.1,
-  means ∙ then_nothing (on_ok (λ es. each (λ e found. walk_at 1000000 64 (folder ++ e.name ∷ []) e.folder found) es []) (listed_view r))
+  means ∙ rw (new.files, new.todo, new.found) (then_nothing (on_ok (λ es. each (λ e found. walk_at 1000000 64 (folder ++ e.name ∷ []) e.folder found) es []) (listed_view r)))
       ∙ ap (λ x. on_ok (λ es. each (λ e found. walk_at 1000000 64 (folder ++ e.name ∷ []) e.folder found) es []) x) asked.2,
 )
 

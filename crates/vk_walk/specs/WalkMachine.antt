@@ -6,7 +6,7 @@ use Rattle.vk_base.specs.declared.stops.Outage.{Outage}
 use Rattle.vk_tree.specs.Answers.{entries_of}
 use Rattle.vk_tree.specs.declared.trees.Listed.{Listed}
 use Rattle.vk_protocol.specs.Protocols.{Protocol, ends, on_ok, each, ◌>>=◌}
-use Rattle.vk_walk.specs.Walks.{Limit, deep, entries, files}
+use Rattle.vk_walk.specs.Walks.{Limits, Limit, deep, entries, files}
 use Rattle.vk_walk.specs.WalkProtocol.{walk_at}
 use Rattle.vk_walk.specs.declared.walks.WalkLimit.{WalkLimit}
 use Rattle.vk_walk.specs.declared.walks.WalkLimit.TheVariants.{Deep, Entries, Files}
@@ -54,6 +54,13 @@ now_means most (Over limit) found todo = ends (Err (limit_view limit))
 -- what is left of it
 unfoldable pub walk_means : Walk → Protocol (Result (List Path) Limit)
 walk_means w = now_means w.files w.at w.found w.todo
+
+-- it has found nothing, and nothing is pending
+pub record IsFresh (most : Limits) (at : WalkNow) (w : Walk) : Type 0 where
+  pub files : w.files ≡ most.files
+  pub todo : w.todo ≡ []
+  pub found : w.found ≡ []
+  pub next : w.at ≡ at
 
 -- what the entries of a folder lead to
 abbrev pub after_list : ℕ → Path → ℕ → List Path → List Pending → Result (List Entry) Limit → Protocol (Result (List Path) Limit)

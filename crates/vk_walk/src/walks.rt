@@ -10,8 +10,8 @@ ghost use Rattle.vk_protocol.specs.Protocols.{ends};
 ghost use Rattle.vk_protocol.specs.Runs.{Asked, IsAtEnd, NextIs};
 ghost use Rattle.vk_walk.specs.Walked.{walk_limits};
 ghost use Rattle.vk_walk.specs.WalkProtocol.{listed, walk_of};
-ghost use Rattle.vk_walk.specs.WalkMachine.{Comes, Entered, after_list, found_view, listed_view};
-ghost use Rattle.vk_walk.specs.WalkMachine.{now_means, walk_later, walk_means, walk_todo};
+ghost use Rattle.vk_walk.specs.WalkMachine.{Comes, Entered, IsFresh, after_list, found_view};
+ghost use Rattle.vk_walk.specs.WalkMachine.{listed_view, now_means, walk_later, walk_means, walk_todo};
 
 use std::alloc::Global;
 use std::mem;
@@ -73,16 +73,13 @@ impl Walk {
     pub fn new(alloc: Global, folder: TreePath) -> Walk
         ensures { walk_means result ≡ walk_of walk_limits folder }
     {
-        Walk {
+        fresh(
             alloc,
-            files: MOST_FILES,
-            todo: List::new(alloc),
-            found: List::new(alloc),
-            at: WalkNow::Lists {
+            WalkNow::Lists {
                 path: folder,
                 left: MOST_LEVELS,
             },
-        }
+        )
     }
 
     // A walk of which the first step was made. No memory is asked for before its call.
@@ -96,13 +93,7 @@ impl Walk {
         ensures tree { OnFiles IsTreeDisk (T.state tree.old) }
     {
         let reply = list(alloc, tree, folder)?;
-        let mut walk = Walk {
-            alloc,
-            files: MOST_FILES,
-            todo: List::new(alloc),
-            found: List::new(alloc),
-            at: WalkNow::Done,
-        };
+        let mut walk = fresh(alloc, WalkNow::Done);
         walk.at = enter(&mut walk, folder, MOST_LEVELS, reply)?;
         Ok(walk)
     }
@@ -151,6 +142,19 @@ pub fn found_by(walk: Walk) -> Result<List<TreePath>, WalkLimit>
         WalkNow::Lists { .. } => Ok(walk.found),
         WalkNow::Done => Ok(walk.found),
         WalkNow::Over(limit) => Err(limit),
+    }
+}
+
+// A walk that has found nothing yet, with nothing pending.
+fn fresh(alloc: Global, at: WalkNow) -> Walk
+    ensures { IsFresh walk_limits at result }
+{
+    Walk {
+        alloc,
+        files: MOST_FILES,
+        todo: List::new(alloc),
+        found: List::new(alloc),
+        at,
     }
 }
 

@@ -13,4 +13,4 @@ returns-in_err-walk-clause-next g c =
     rw (p.1, p.2) (first_lacked c.args.folder.now c.in_ok-reply.reply c.in_err-walk.field-0.0 (g.T.Tree.state c.args.tree.now) (g.T.Tree.state c.list.new.tree) c.in_ok-reply.ensures.asked)
 
 pub returns-clause-next : goal.returns-clause-next
-returns-clause-next g c = first_stepped _ c.args.folder.now c.in_ok-reply.reply (g.T.Tree.state c.args.tree.now) (g.T.Tree.state c.list.new.tree) c.in_ok-reply.ensures.asked (rw (← c.new.ensures, ← c.new-2.ensures) c.in_ok-walk.ensures)
+returns-clause-next g c = first_stepped c.fresh-walk.result _ c.args.folder.now c.in_ok-reply.reply (g.T.Tree.state c.args.tree.now) (g.T.Tree.state c.list.new.tree) c.fresh-walk.ensures c.in_ok-reply.ensures.asked c.in_ok-walk.ensures
