@@ -1,5 +1,5 @@
 -- The tests of the function on bytes tell which files may stand in a contents list.
-use Rattle.std.proofs.Common.{◌≡◌, ◌<◌, ◌≤◌, ◌==◌, ◌∷◌, ℕ, Bool, true, false, not, List, [], length, map, Ordering, refl, ap, ◌∙◌}
+use Rattle.std.proofs.Common.{◌≡◌, ◌≤◌, ◌==◌, ◌∷◌, ℕ, Bool, true, false, not, List, [], length, map, Ordering, refl, ap}
 use Rattle.std.specs.Prelude.{◌^◌, nat_lt, nat_le, Result, Ok, Err}
 use Rattle.std.specs.Bool.{Decides}
 use Rattle.std.specs.List.{All, AllByRecursion, list_all}
@@ -24,7 +24,7 @@ use Rattle.vk_forms.specs.Paths.{IsRightPath, IsShortPath}
 use Rattle.vk_forms.proofs.PathForms.{path_read}
 use Rattle.vk_entry.specs.Packages.{IsPackagePath}
 use Rattle.vk_entry.specs.Contents.{Content, contents_text}
-use Rattle.vk_entry.specs.ContentLists.{AreContents, Ascend, IsContent, IsDigest, IsList, IsListedPath, IsSize}
+use Rattle.vk_entry.specs.ContentLists.{AreContents, IsContent, IsDigest, IsList}
 use Rattle.vk_entry.specs.ContentsIn.{are_bytes, are_contents, is_content, is_digest, is_list, is_of_package, is_right_path, is_short, is_that, texts_ascend}
 use Rattle.vk_entry.proofs.PackageLists.{bytes_from}
 

@@ -1,6 +1,6 @@
 -- The function on bytes gives the files of which they are the list.
 use Rattle.std.proofs.Common.{◌≡◌, ◌↔◌, ℕ, Bool, true, false, List, map, cond, refl, ap, sym, ◌∙◌, subst}
-use Rattle.std.specs.Prelude.{Option, Some, None, Result, Ok, Err}
+use Rattle.std.specs.Prelude.{Option, Some, None, Ok, Err}
 use Rattle.vk_base.specs.declared.stops.Unread.TheVariants as unread
 use Rattle.vk_entry.specs.Answers.{Ends, IsTold, Reading}
 use Rattle.vk_entry.specs.Contents.{Content}

@@ -1,6 +1,6 @@
 -- The files of which bytes are the contents list, as a function: what the lines say is what they
 -- are, where these files may stand in a list and their list has the same bytes.
-use Rattle.std.specs.Prelude.{◌≡◌, ◌+◌, ◌-◌, ◌*◌, ◌^◌, ◌==◌, ◌&&◌, ◌∷◌, [], ℕ, Bool, true, false, not}
+use Rattle.std.specs.Prelude.{◌+◌, ◌-◌, ◌*◌, ◌^◌, ◌==◌, ◌&&◌, ◌∷◌, [], ℕ, Bool, true, false, not}
 use Rattle.std.specs.Prelude.{nat_lt, nat_le, List, length, map, take, drop, slice_index_or}
 use Rattle.std.specs.Prelude.{Option, Some, None, Result, Ok, Err, if◌then◌else◌}
 use Rattle.std.specs.Char.{digit_value}
