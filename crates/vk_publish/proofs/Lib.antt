@@ -3,3 +3,5 @@ pub mod NewNames
 pub mod PutLemmas
 pub mod StepLemmas
 pub mod PublishKept
+pub mod AsideSteps
+pub mod AsideKept

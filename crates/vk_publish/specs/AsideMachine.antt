@@ -10,12 +10,15 @@ use Rattle.vk_publish.specs.declared.asides.Aside.{Aside}
 use Rattle.vk_publish.specs.declared.asides.AsideNow.{AsideNow}
 use Rattle.vk_publish.specs.declared.asides.AsideNow.TheVariants as next
 
+abbrev pub aside_whole : Target → Protocol (Result Moved Limit)
+aside_whole target = aside_of target.cache.now target.agent.now target.digest.now.bytes
+
 -- the entry is moved to the name with this number
 abbrev pub move_left : Target → ℕ → Protocol (Result Moved Limit)
 move_left target n = move_out (entry_at target.cache.now target.digest.now.bytes) (damaged_at target.cache.now target.agent.now n)
 
 unfoldable pub aside_left : Target → AsideNow → Protocol (Result Moved Limit)
-aside_left target next.Lists = aside_of target.cache.now target.agent.now target.digest.now.bytes
+aside_left target next.Lists = aside_whole target
 aside_left target (next.Moves n) = move_left target n
 aside_left target (next.Ended moved) = ends (Ok moved)
 aside_left target (next.Over over) = ends (Err over)

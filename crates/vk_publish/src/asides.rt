@@ -1,18 +1,20 @@
 //! The setting aside of an entry, one call after the other.
-ghost use Rattle.std.specs.Prelude.{◌≡◌, IfOk, Result};
-ghost use Rattle.vk_spec.specs.Standing.{OnFiles};
+ghost use Rattle.std.specs.Prelude.{◌≡◌, None, IfOk};
+ghost use Rattle.vk_spec.specs.Standing.{OnFiles, Stands};
 ghost use Rattle.vk_base.specs.Names.{name_fault, word_rule};
 ghost use Rattle.vk_base.specs.declared.limits.Limit.TheVariants as limit;
 ghost use Rattle.vk_tree.specs.Answers.{entries_of, list_refusal, move_refusal};
 ghost use Rattle.vk_protocol.specs.Asking.{split, reply_by};
 ghost use Rattle.vk_protocol.specs.Protocols.{ends, on_ok};
-ghost use Rattle.vk_protocol.specs.Runs.{CanAsk, IsAtEnd, NextIs, Ran};
+ghost use Rattle.vk_protocol.specs.Runs.{CanAsk, CanRunOn, IsAtEnd, NextIs, Ran};
+ghost use Rattle.vk_places.specs.Places.{entry_at};
 ghost use Rattle.vk_publish.specs.Names.{free_of};
+ghost use Rattle.vk_publish.specs.Left.{AsideKeeps, AsideSays, Between, IsClear};
 ghost use Rattle.vk_publish.specs.Aside.{aside_of, moved_by};
-ghost use Rattle.vk_publish.specs.AsideMachine.{move_left, aside_left};
+ghost use Rattle.vk_publish.specs.AsideMachine.{move_left, aside_left, aside_whole};
 ghost use Rattle.vk_publish.specs.declared.asides.AsideNow.TheVariants as next;
 
-use crate::answers::Moved;
+use crate::answers::{Moved, joined};
 use crate::jobs::Target;
 use crate::names::{free_number, known};
 use std::alloc::Global;
@@ -148,4 +150,53 @@ fn came_to(target: &Target<'_>, at: AsideNow) -> Result<Moved, Limit>
         AsideNow::Lists => unreachable!(),
         AsideNow::Moves { .. } => unreachable!(),
     }
+}
+
+// Makes all calls of a setting aside.
+fn aside_target<T: Tree>(
+    target: Target<'_>,
+    tree: &mut T,
+) -> Result<Result<Moved, Limit>, Outage>
+    requires { CanRunOn (aside_whole target) (T.state tree.old) }
+    ensures { Ran (aside_whole target.entry) result (T.state tree.old) (T.state tree.new) }
+{
+    let mut aside = Aside {
+        target,
+        at: AsideNow::Lists,
+    };
+    run(&mut aside, tree)?;
+    Ok(came_to(&aside.target, aside.at))
+}
+
+/// Sets an entry aside: one rename moves it to the least free name of the agent's in `damaged`.
+/// Something has to stand at the entry, where the tree tells its files; `Gone` and `Taken` never
+/// come then. `Entries` exactly where `damaged` has too many entries to list, and else `Damaged`
+/// where all names of the agent's are taken there; nothing was changed then. Wherever it stops, the
+/// entry is as it was, or stands whole at that name, and all else stays.
+pub fn set_aside<'a, T: Tree>(
+    alloc: Global,
+    tree: &mut T,
+    cache: &'a TreePath,
+    agent: &'a str,
+    digest: &'a Digest,
+) -> Result<Moved, Stop<Limit>>
+    requires named { name_fault word_rule agent.now ≡ None }
+    requires clear { OnFiles (IsClear cache.now) (T.state tree.old) }
+    requires stands { OnFiles (λ d. Stands d (entry_at cache.now digest.now.bytes))
+        (T.state tree.old) }
+    ensures ran { Ran (aside_of cache.now agent.now digest.now.bytes) (split result)
+        (T.state tree.old) (T.state tree.new) }
+    ensures keeps { Between (AsideKeeps cache.now agent.now digest.now.bytes) (T.state tree.old)
+        (T.state tree.new) }
+    ensures says { Between (λ f g. IfOk (split result)
+        (λ x. AsideSays cache.now agent.now digest.now.bytes x f g)) (T.state tree.old)
+        (T.state tree.new) }
+{
+    let target = Target {
+        alloc,
+        cache,
+        agent,
+        digest,
+    };
+    joined(aside_target(target, tree))
 }

@@ -11,6 +11,6 @@ mod names;
 mod publishing;
 
 pub use answers::{Moved, Published};
-pub use asides::{Aside, AsideNow, aside_step};
+pub use asides::{Aside, AsideNow, aside_step, set_aside};
 pub use jobs::{PublishJob, Target};
 pub use publishing::{PublishNow, Publishing, publish, publish_step};
