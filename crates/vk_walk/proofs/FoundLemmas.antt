@@ -12,7 +12,7 @@ use Rattle.vk_tree.proofs.OnFilesLemmas.{files_then}
 use Rattle.vk_protocol.specs.Runs.{Ran, Tells}
 use Rattle.vk_protocol.proofs.RunLemmas.{each_on, ran_tells}
 use Rattle.vk_walk.specs.Walks.{Limits, Limit, deep, entries, files, AreFiles}
-use Rattle.vk_walk.specs.Walked.{Ends, IsInOrder, answered, walk_failed, walk_limits, walk_stops}
+use Rattle.vk_walk.specs.Walked.{IsInOrder, answered, walk_failed, walk_limits, walk_stops}
 use Rattle.vk_walk.specs.WalkProtocol.{WalkedIs, walk_of}
 use Rattle.vk_walk.specs.WalkMachine.{ended_view, found_view}
 use Rattle.vk_walk.specs.declared.walks.WalkLimit.{WalkLimit}
@@ -54,13 +54,6 @@ answer_tells folder r a b ran = files_then (λ d. WalkedIs walk_limits folder (f
 
 pub answer_lists : (folder : Path) (r : Result (List Path) WalkLimit) (a b : State) → Ran (walk_of walk_limits folder) (ended_view (Ok r)) a b → OnlyListed (walk_failed (answered (found_view r))) a b
 answer_lists folder r a b ran = subst (λ f. OnlyListed f a b) (sym (calm_answer (found_view r))) (run_lists folder (Ok (found_view r)) a b ran)
-
-out_tells : (folder : Path) (e : Outage) (d : Disk) → Ends walk_limits folder (stop_of e) d
-out_tells folder Failed d = tt
-out_tells folder (Memory m) d = tt
-
-pub stop_tells : (folder : Path) (e : Outage) (a : State) → OnFiles (Ends walk_limits folder (stop_of e)) a
-stop_tells folder e a = each_on (Ends walk_limits folder (stop_of e)) a (out_tells folder e)
 
 out_failed : (e : Outage) → is_outage e ≡ walk_stops (stop_of e)
 out_failed Failed = refl

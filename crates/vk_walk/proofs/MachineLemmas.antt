@@ -1,8 +1,8 @@
 -- What is left of a walk, step by step.
-use Rattle.std.proofs.Common.{inr, true, suc, ◌≡◌, ◌++◌, [], ◌∷◌, ℕ, List, refl, ap, sym, ◌∙◌, subst, length-append, arith}
+use Rattle.std.proofs.Common.{inr, true, suc, ◌≡◌, ◌++◌, [], ◌∷◌, ℕ, List, ap, sym, ◌∙◌, subst, length-append, arith}
 use Rattle.std.proofs.lemmas.List.{get_or_append_left, reverse-append}
 use Rattle.std.specs.List.{All}
-use Rattle.std.specs.Prelude.{Result, Ok, Err, Some, None}
+use Rattle.std.specs.Prelude.{Result, Ok, Err}
 use Rattle.vk_spec.specs.Paths.{Path}
 use Rattle.vk_spec.specs.States.{State}
 use Rattle.vk_spec.specs.Standing.{Disk, Entry, OnFiles}
@@ -15,14 +15,13 @@ use Rattle.vk_base.specs.declared.stops.Outage.TheVariants as outage
 use Rattle.vk_tree.specs.Answers.{entries_of, entry_of, fault_by, list_refusal}
 use Rattle.vk_tree.specs.declared.trees.ListFault.{ListFault}
 use Rattle.vk_tree.specs.declared.trees.Listed.{Listed}
-use Rattle.vk_protocol.specs.Protocols.{answer_of, ends, on_ok, each, ◌>>=◌}
-use Rattle.vk_protocol.specs.Runs.{Asked, CameTo, CanAsk, CanRunOn, NextIs, Ran, Stepped, Stops}
+use Rattle.vk_protocol.specs.Protocols.{answer_of, on_ok, each, ◌>>=◌}
+use Rattle.vk_protocol.specs.Runs.{Asked, CanAsk, CanRunOn, NextIs, Stepped, Stops}
 use Rattle.vk_protocol.proofs.ProtocolLemmas.{ok_then_ok, then_nothing}
-use Rattle.vk_protocol.proofs.RunLemmas.{can_then, each_on, ran_to, reads_can_on, reply_calm, stays, stepped_leads, stepped_stops}
-use Rattle.vk_walk.specs.Walks.{Limit}
+use Rattle.vk_protocol.proofs.RunLemmas.{can_then, each_on, reads_can_on, reply_calm}
 use Rattle.vk_walk.specs.Walked.{walk_limits}
 use Rattle.vk_walk.specs.WalkProtocol.{listed, walk_at, walk_of}
-use Rattle.vk_walk.specs.WalkMachine.{Comes, Entered, IsFresh, after_list, listed_view, now_means, pend, walk_later, walk_means, walk_todo}
+use Rattle.vk_walk.specs.WalkMachine.{Entered, IsFresh, after_list, listed_view, now_means, pend, walk_later, walk_means, walk_todo}
 use Rattle.vk_walk.specs.declared.walks.Pending.{Pending}
 use Rattle.vk_walk.specs.declared.walks.Walk.{Walk}
 use Rattle.vk_walk.specs.declared.walks.WalkLimit.{WalkLimit}
@@ -41,15 +40,6 @@ entered_more path left e es old todo h most found =
     todo_push most todo (pend path left e) found
     ∙ ap (λ f. walk_later most (pend path left e) found >>= on_ok f) (λ i t. h most t i)
     ∙ sym (ok_then_ok (walk_later most (pend path left e) found) (each (λ e found. walk_at most left (path ++ e.name ∷ []) e.folder found) es) (walk_todo most old))
-
--- what comes next is dealt with
-pub came_none : (most : ℕ) (p : Pending) (found old : List Path) (todo : List Pending) → Comes most None found (walk_later most p old) → walk_todo most todo found ≡ walk_todo most (todo ++ p ∷ []) old
-came_none most p found old todo h = ap (λ m. m >>= on_ok (walk_todo most todo)) h ∙ sym (todo_push most todo p old)
-
-pub came_some : (most : ℕ) (at : WalkNow) (p : Pending) (found old : List Path) (todo : List Pending) → Comes most (Some at) found (walk_later most p old) → now_means most at found todo ≡ walk_todo most (todo ++ p ∷ []) old
-came_some most (Lists path left) p found old todo h = ap (λ m. m >>= on_ok (walk_todo most todo)) h ∙ sym (todo_push most todo p old)
-came_some most Done p found old todo h = absurd h
-came_some most (Over limit) p found old todo h = ap (λ m. m >>= on_ok (walk_todo most todo)) h ∙ sym (todo_push most todo p old)
 
 -- an entry is put before what came next
 pub entered_push : (path q : Path) (left : ℕ) (name : List ℕ) (l : Listed) (done : List Listed) (old todo new : List Pending) → q ≡ path ++ name ∷ [] → name ≡ l.name → new ≡ todo ++ record { path = q; folder = l.folder; left = left } ∷ []
@@ -86,10 +76,6 @@ stops_lacking path r m a b asked = inr (answer_of (list_of path) asked.0, asked.
 
 pub walk_lacked : (w v : Walk) (path : Path) (left : ℕ) (r : Result (List Listed) WalkLimit) (m : Memory) (a b : State) → Lists path left ≡ w.at → Asked (list_of path) (λ reply x. listed_view x ≡ listed reply) (Ok r) a b → Stepped (walk_means w) (Err (outage.Memory m)) (walk_means v) a b
 walk_lacked w v path left r m a b is asked = walk_stopped w v path left (outage.Memory m) a b is (stops_lacking path r m a b asked)
-
--- no step is left
-pub walk_stays : (w v : Walk) (m : Memory) (a : State) → Stepped (walk_means w) (Err (outage.Memory m)) (walk_means v) a a
-walk_stays w v m a = stays (walk_means w) (walk_means v) (outage.Memory m) a a tt refl
 
 -- ---- the first step
 
@@ -128,14 +114,3 @@ walk_can w s = each_on (CanAsk (now_means w.files w.at w.found w.todo)) s (λ d.
 
 pub begun_can : (w : Walk) (folder : Path) (a b : State) → NextIs (walk_of walk_limits folder) walk_means (Ok w) a b → CanRunOn (walk_means w) b
 begun_can w folder a b next = can_then (walk_of walk_limits folder) (walk_means w) tt a b next (reads_can_on (walk_of walk_limits folder) a (walk_reads walk_limits folder))
-
--- it stopped in its first step, or later
-pub begun_out : (folder : Path) (e : Outage) (a b : State) → NextIs (walk_of walk_limits folder) walk_means (Err e) a b → Ran (walk_of walk_limits folder) (Err e) a b
-begun_out folder e a b next = stepped_stops (walk_of walk_limits folder) (walk_of walk_limits folder) e a b next
-
-pub came_out : (w v : Walk) (folder : Path) (e : Outage) (a b c : State) → NextIs (walk_of walk_limits folder) walk_means (Ok w) a b → CameTo (walk_means w) (Err e) (walk_means v) b c → Ran (walk_of walk_limits folder) (Err e) a c
-came_out w v folder e a b c next came = stepped_leads (walk_of walk_limits folder) (walk_means w) tt a b next (Err e) c came
-
--- it came to its end
-pub came_back : (w v : Walk) (folder : Path) (u : Unit {0}) (x : Result (List Path) Limit) (a b c : State) → NextIs (walk_of walk_limits folder) walk_means (Ok w) a b → walk_means v ≡ ends x → CameTo (walk_means w) (Ok u) (walk_means v) b c → Ran (walk_of walk_limits folder) (Ok x) a c
-came_back w v folder u x a b c next end came = stepped_leads (walk_of walk_limits folder) (walk_means w) tt a b next (Ok x) c (ran_to (walk_means w) (walk_means v) x u b c end came)
