@@ -10,3 +10,4 @@ pub mod PackageLists
 pub mod ContentTests
 pub mod ContentReading
 pub mod ContentsFound
+pub mod DifferenceLemmas

@@ -4,6 +4,7 @@
 #![tactic(auto)]
 
 mod contents;
+mod differences;
 mod digests;
 pub mod laws;
 mod lines;
@@ -11,6 +12,7 @@ mod packages;
 mod reading;
 
 pub use contents::{ContentLine, contents_of, write_contents};
+pub use differences::{Difference, find_difference};
 pub use digests::{AnyDigest, DigestText};
 pub use packages::{Package, PackageFile, is_package_path};
 pub use reading::{EntryFault, read_contents};

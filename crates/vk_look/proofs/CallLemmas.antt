@@ -14,10 +14,11 @@ use Rattle.vk_protocol.proofs.ProtocolLemmas.{only_more, only_then, only_each}
 use Rattle.vk_walk.specs.WalkProtocol.{ListsIn, walk_of}
 use Rattle.vk_walk.proofs.WalkAsks.{walk_lists}
 use Rattle.vk_entry.specs.Contents.{Content}
-use Rattle.vk_look.specs.LookIs.{Wanted}
-use Rattle.vk_look.specs.Looks.{damaged, look_of, look_stands, look_kept, look_contents, look_listed, look_compared, look_found, look_files, list_told, look_file, compared, keeps, no_files, looked}
+use Rattle.vk_look.specs.LookIs.{Wanted, places_of}
+use Rattle.vk_look.specs.Looks.{damaged, look_of, look_stands, look_kept, look_contents, look_listed, look_compared, look_found, look_files, list_told, look_file, keeps, no_files, looked}
 use Rattle.vk_look.specs.LookCalls.{ReadsBelow, AsksFirst}
-use Rattle.vk_look.specs.declared.answers.Harm.{Harm}
+use Rattle.vk_entry.specs.Differences.{difference_of}
+use Rattle.vk_entry.specs.declared.differences.Difference.{Difference}
 use Rattle.vk_look.specs.declared.answers.Harm.TheVariants.{Text}
 use Rattle.vk_look.proofs.PlaceTests.{if_case}
 use Rattle.vk_look.proofs.OnceRuns.{reads_below}
@@ -34,13 +35,13 @@ module _ (w : Wanted) where
   files_below kept cs = only_then (ReadsBelow w.entry) (each (look_file w.entry) cs (no_files (keeps w kept cs))) (λ r. ends (looked w kept r))
       (only_each (ReadsBelow w.entry) (look_file w.entry) cs (no_files (keeps w kept cs)) (λ c files. ((_, refl), λ reply. tt))) (λ r. tt)
 
-  compared_below : (kept : List ℕ) (cs : List Content) (o : Option Harm) → AsksOnly (ReadsBelow w.entry) (look_compared w kept cs o)
+  compared_below : (kept : List ℕ) (cs : List Content) (o : Option Difference) → AsksOnly (ReadsBelow w.entry) (look_compared w kept cs o)
   compared_below kept cs (Some harm) = tt
   compared_below kept cs None = files_below kept cs
 
   found_below : (kept : List ℕ) (cs : List Content) (r : Result (List Path) Limit) → AsksOnly (ReadsBelow w.entry) (look_found w kept cs r)
   found_below kept cs (Err l) = tt
-  found_below kept cs (Ok found) = compared_below kept cs (compared w.entry cs found)
+  found_below kept cs (Ok found) = compared_below kept cs (difference_of found (places_of w.entry cs))
 
   listed_below : (kept : List ℕ) (o : Option (List Content)) → AsksOnly (ReadsBelow w.entry) (look_listed w kept o)
   listed_below kept None = tt

@@ -1,5 +1,5 @@
 -- What the reading of the listed files comes to over files that stay.
-use Rattle.std.proofs.Common.{◌≡◌, inl, inr, ◌++◌, [], ◌∷◌, ℕ, List, length, Bool, true, false, refl, sym, ◌∙◌, subst, arith, map, ◌==◌, if◌then◌else◌}
+use Rattle.std.proofs.Common.{◌≡◌, inl, inr, ◌++◌, [], ◌∷◌, ℕ, List, length, Bool, true, false, refl, sym, ◌∙◌, subst, arith, ◌==◌, if◌then◌else◌}
 use Rattle.std.specs.Prelude.{Option, Some, None, Result, Ok, Err}
 use Rattle.std.specs.List.{Contains}
 use Rattle.std.specs.Str.{bytes_eq}
@@ -11,9 +11,10 @@ use Rattle.vk_spec.specs.Paths.{Path}
 use Rattle.vk_spec.specs.Standing.{Disk, IsFile}
 use Rattle.vk_spec.specs.Calls.{read_of, missing, too_large, exists, many}
 use Rattle.vk_spec.proofs.FileLemmas.{none_some}
-use Rattle.vk_spec.proofs.ListLemmas.{contains_first, contains_later, contains_nothing, contains_cases}
+use Rattle.vk_spec.proofs.ListLemmas.{contains_first, contains_nothing}
 use Rattle.vk_entry.specs.Packages.{File}
 use Rattle.vk_entry.specs.Contents.{Content, content_of}
+use Rattle.vk_resolution.proofs.Members.{contains_map}
 use Rattle.vk_protocol.specs.Protocols.{Reply, on_ok, each}
 use Rattle.vk_protocol.specs.Runs.{Replies, Tells}
 use Rattle.vk_places.specs.Places.{file_at}
@@ -46,16 +47,9 @@ module _ (entry : Path) (keep : Bool) (d : Disk) where
     listed = map-append content_of files (file ∷ []) ∙ (λ i. h.listed i ++ is.listed i ∷ []);
   }
 
-  content_file : (files : List File) (c : Content) → Contains (map content_of files) c → (file : File) × Contains files file × (content_of file ≡ c)
-  content_file [] c at = absurd (contains_nothing c at)
-  content_file (file ∷ files) c at = elim (contains_cases (content_of file) c (map content_of files) at) [
-    | inl same ↦ (file, contains_first file files, same)
-    | inr later ↦ (let f = content_file files c later in (f.0, contains_later file f.0 files f.1, f.2))
-  ]
-
   pub holds_each : (cs : List Content) (files : List File) → Holds entry cs files d → (c : Content) → Contains cs c → (file : File) × IsAsListed entry c file d
   holds_each cs files h c at =
-      let f = content_file files c (subst (λ l. Contains l c) (sym h.listed) at) in
+      let f = contains_map content_of files c (subst (λ l. Contains l c) (sym h.listed) at) in
       (f.0, record { stands = h.stand f.0 f.1; listed = f.2 })
 
   held_each : (before : List Content) (files : Option (List File)) → Held entry keep before files d → (c : Content) → Contains before c → (file : File) × IsAsListed entry c file d

@@ -21,13 +21,15 @@ use Rattle.vk_entry.specs.Contents.{Content}
 use Rattle.vk_entry.specs.ContentLists.{IsList}
 use Rattle.vk_places.specs.Places.{text_at, contents_at}
 use Rattle.vk_entry.specs.ContentsIn.{contents_in}
-use Rattle.vk_look.specs.LookIs.{Wanted, most_list, most_text, bytes_listed, HasText, HasList, HasAll, Holds, IsValid, IsRead, FirstWrong, LookIs}
-use Rattle.vk_look.specs.Looks.{Looked, damaged, has_extra, has_missing, look_file, keeps, no_files, looked, look_files, look_compared, look_found, look_listed, list_told, look_contents, look_kept, look_stands, look_of}
+use Rattle.vk_entry.specs.Differences.{has_outside}
+use Rattle.vk_entry.specs.declared.differences.Difference.TheVariants as difference
+use Rattle.vk_look.specs.LookIs.{Wanted, most_list, most_text, bytes_listed, HasText, HasList, HasAll, Holds, IsValid, IsRead, FirstWrong, LookIs, places_of}
+use Rattle.vk_look.specs.Looks.{Looked, damaged, look_file, keeps, no_files, looked, look_files, look_compared, look_found, look_listed, list_told, look_contents, look_kept, look_stands, look_of}
 use Rattle.vk_look.specs.declared.answers.Harm.{Harm}
 use Rattle.vk_look.specs.declared.answers.Harm.TheVariants.{Text, Contents, Extra, Missing, Size, Hash}
 use Rattle.vk_look.specs.declared.answers.Look.TheVariants.{Collision}
 use Rattle.vk_resolution.proofs.Members.{both_true}
-use Rattle.vk_look.proofs.PlaceTests.{if_case, one_some, same_bytes, other_bytes, some_extra, no_extra, some_missing, all_there}
+use Rattle.vk_look.proofs.PlaceTests.{some_as, if_case, one_some, same_bytes, other_bytes, some_extra, no_extra, some_missing, all_there}
 use Rattle.vk_look.proofs.FileTells.{Goes, none_held, each_goes}
 use Rattle.vk_entry.proofs.ContentsFound.{list_in, none_in}
 
@@ -89,10 +91,10 @@ module _ (w : Wanted) (d : Disk) where
     found_tells cs (Ok found) hl walked =
         let files = (walked.0 ht.folder).0 in
         let calm = (walked.0 ht.folder).1 in
-        if_case (λ o. Tells Right (look_compared w kept cs o) d) (has_extra w.entry cs found) (Some Extra) (if has_missing w.entry cs found then Some Missing else None)
+        if_case (λ o. Tells Right (look_compared w kept cs o) d) (has_outside found (places_of w.entry cs)) (Some difference.Extra) (if has_outside (places_of w.entry cs) found then Some difference.Missing else None)
         (λ more. (cs, read_so cs hl, some_extra w.entry cs found d files more))
-        (λ no_more. if_case (λ o. Tells Right (look_compared w kept cs o) d) (has_missing w.entry cs found) (Some Missing) None
-        (λ lacks. (cs, read_so cs hl, no_extra w.entry cs found d files calm no_more, some_missing w.entry cs found d files lacks))
+        (λ no_more. if_case (λ o. Tells Right (look_compared w kept cs o) d) (has_outside (places_of w.entry cs) found) (Some difference.Missing) None
+        (λ lacks. (cs, read_so cs hl, no_extra w.entry cs found d files calm no_more, some_missing w.entry cs found d files (some_as kept (d (text_at w.entry)) ht.stands) (some_as hl.bytes (d (contents_at w.entry)) hl.stands) lacks))
         (λ none. files_tell cs hl (all_there w.entry cs found d files calm no_more none)))
 
     listed_tells : (o : Option (List Content)) → ((cs : List Content) → o ≡ Some cs → HasList w.entry cs d) → (o ≡ None → (cs : List Content) → HasList w.entry cs d → ⊥) → Tells Right (look_listed w kept o) d

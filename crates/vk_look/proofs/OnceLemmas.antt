@@ -26,8 +26,11 @@ use Rattle.vk_entry.specs.Contents.{Content}
 use Rattle.vk_entry.specs.ContentLists.{Ascend, AreContents, IsContent}
 use Rattle.vk_entry.proofs.ContentsFound.{list_in}
 use Rattle.vk_places.specs.Places.{text_at, contents_at, file_at}
-use Rattle.vk_look.specs.LookIs.{Wanted}
-use Rattle.vk_look.specs.Looks.{damaged, look_of, look_stands, look_kept, look_contents, look_listed, look_compared, look_found, list_told, look_file, file_told, compared, keeps, no_files, looked}
+use Rattle.vk_resolution.proofs.Members.{contains_map}
+use Rattle.vk_entry.specs.Differences.{difference_of}
+use Rattle.vk_entry.specs.declared.differences.Difference.{Difference}
+use Rattle.vk_look.specs.LookIs.{file_places, places_of, Wanted}
+use Rattle.vk_look.specs.Looks.{damaged, look_of, look_stands, look_kept, look_contents, look_listed, look_compared, look_found, list_told, look_file, file_told, keeps, no_files, looked}
 use Rattle.vk_look.specs.LookCalls.{ReadsAnew}
 use Rattle.vk_look.specs.declared.answers.Harm.{Harm}
 use Rattle.vk_look.specs.declared.answers.Harm.TheVariants.{Text}
@@ -64,14 +67,14 @@ same_place entry c x one other e = path_of_parts c one ∙ ap (λ r. anchor fals
 -- ---- the listed files stand at different places
 
 below_none : (entry : Path) (c : Content) (cs : List Content) → IsContent c → All IsContent cs → AllByRecursion (λ t. slice_cmp nat_cmp (text_of_path c.path) t ≡ Less) (map (λ x. text_of_path x.path) cs)
-    → Contains (map (λ x. file_at entry x.path) cs) (file_at entry c.path) → ⊥
+    → Contains (file_places entry cs) (file_at entry c.path) → ⊥
 below_none entry c [] right all less at = contains_nothing (file_at entry c.path) at
-below_none entry c (x ∷ cs) right all less at = elim (contains_cases (file_at entry x.path) (file_at entry c.path) (map (λ x. file_at entry x.path) cs) at) [
+below_none entry c (x ∷ cs) right all less at = elim (contains_cases (file_at entry x.path) (file_at entry c.path) (file_places entry cs) at) [
   | inl same ↦ (let path : x.path ≡ c.path = same_place entry x c (All-head IsContent x cs all) right same in differ (text_of_path c.path) (text_of_path x.path) less.0 (ap text_of_path (sym path)))
   | inr later ↦ below_none entry c cs right (All-tail IsContent x cs all) less.1 later
 ]
 
-places_once : (entry : Path) (cs : List Content) → All IsContent cs → Ascend cs → NoRepeats (map (λ x. file_at entry x.path) cs)
+places_once : (entry : Path) (cs : List Content) → All IsContent cs → Ascend cs → NoRepeats (file_places entry cs)
 unfolding IsStrictlySortedBy
 places_once entry [] all order = tt
 places_once entry (c ∷ cs) all order = (below_none entry c cs (All-head IsContent c cs all) (All-tail IsContent c cs all) order.0, places_once entry cs (All-tail IsContent c cs all) order.1)
@@ -87,16 +90,16 @@ anew_after folder seen (ends x) f lists more = more x
 anew_after folder seen (asks call k) f lists more = anew_listed folder seen call (λ reply. k reply >>= f) lists.0 (λ reply. anew_after folder seen (k reply) f (lists.1 reply) more)
 
 module _ (w : Wanted) where
-  files_anew : (kept : List ℕ) (seen : List Path) (cs : List Content) (r : Result (Option (List File)) Harm) → NoRepeats (map (λ x. file_at w.entry x.path) cs) → ((q : Path) → Contains (map (λ x. file_at w.entry x.path) cs) q → Contains seen q → ⊥)
+  files_anew : (kept : List ℕ) (seen : List Path) (cs : List Content) (r : Result (Option (List File)) Harm) → NoRepeats (file_places w.entry cs) → ((q : Path) → Contains (file_places w.entry cs) q → Contains seen q → ⊥)
       → ReadsAnew seen (on_ok (each (look_file w.entry) cs) r >>= λ r. ends (looked w kept r))
   files_anew kept seen cs (Err harm) once apart = tt
   files_anew kept seen [] (Ok files) once apart = tt
   files_anew kept seen (c ∷ cs) (Ok files) once apart = (
-    apart (file_at w.entry c.path) (contains_first (file_at w.entry c.path) (map (λ x. file_at w.entry x.path) cs)),
+    apart (file_at w.entry c.path) (contains_first (file_at w.entry c.path) (file_places w.entry cs)),
     λ reply. files_anew kept (file_at w.entry c.path ∷ seen) cs (file_told c files reply) once.1
         (λ q at was. elim (contains_cases (file_at w.entry c.path) q seen was) [
-          | inl same ↦ once.0 (subst (Contains (map (λ x. file_at w.entry x.path) cs)) (sym same) at)
-          | inr before ↦ apart q (contains_later (file_at w.entry c.path) q (map (λ x. file_at w.entry x.path) cs) at) before
+          | inl same ↦ once.0 (subst (Contains (file_places w.entry cs)) (sym same) at)
+          | inr before ↦ apart q (contains_later (file_at w.entry c.path) q (file_places w.entry cs) at) before
         ]),
   )
 
@@ -104,31 +107,24 @@ module _ (w : Wanted) where
   abbrev two_read : List Path
   two_read = contents_at w.entry ∷ text_at w.entry ∷ []
 
-  file_place : (cs : List Content) (q : Path) → Contains (map (λ x. file_at w.entry x.path) cs) q → (c : Content) × (file_at w.entry c.path ≡ q)
-  file_place [] q at = absurd (contains_nothing q at)
-  file_place (c ∷ cs) q at = elim (contains_cases (file_at w.entry c.path) q (map (λ x. file_at w.entry x.path) cs) at) [
-    | inl same ↦ (c, same)
-    | inr later ↦ file_place cs q later
-  ]
-
-  files_apart : (cs : List Content) (q : Path) → Contains (map (λ x. file_at w.entry x.path) cs) q → Contains two_read q → ⊥
+  files_apart : (cs : List Content) (q : Path) → Contains (file_places w.entry cs) q → Contains two_read q → ⊥
   files_apart cs q at was =
-      let c = file_place cs q at in
+      let c = contains_map (λ c. file_at w.entry c.path) cs q at in
       elim (contains_cases (contents_at w.entry) q (text_at w.entry ∷ []) was) [
-        | inl list ↦ files_not_list (name_same w.entry _ _ (parts_of c.0.path) [] (c.1 ∙ sym list))
+        | inl list ↦ files_not_list (name_same w.entry _ _ (parts_of c.0.path) [] (c.2 ∙ sym list))
         | inr more ↦ elim (contains_cases (text_at w.entry) q [] more) [
-          | inl text ↦ files_not_text (name_same w.entry _ _ (parts_of c.0.path) [] (c.1 ∙ sym text))
+          | inl text ↦ files_not_text (name_same w.entry _ _ (parts_of c.0.path) [] (c.2 ∙ sym text))
           | inr none ↦ contains_nothing q none
         ]
       ]
 
-  compared_anew : (kept : List ℕ) (cs : List Content) (o : Option Harm) → AreContents cs → ReadsAnew two_read (look_compared w kept cs o)
+  compared_anew : (kept : List ℕ) (cs : List Content) (o : Option Difference) → AreContents cs → ReadsAnew two_read (look_compared w kept cs o)
   compared_anew kept cs (Some harm) are = tt
   compared_anew kept cs None are = files_anew kept two_read cs (Ok (no_files (keeps w kept cs))) (places_once w.entry cs are.each are.order) (files_apart cs)
 
   found_anew : (kept : List ℕ) (cs : List Content) (r : Result (List Path) Limit) → AreContents cs → ReadsAnew two_read (look_found w kept cs r)
   found_anew kept cs (Err l) are = tt
-  found_anew kept cs (Ok found) are = compared_anew kept cs (compared w.entry cs found) are
+  found_anew kept cs (Ok found) are = compared_anew kept cs (difference_of found (places_of w.entry cs)) are
 
   listed_anew : (kept : List ℕ) (o : Option (List Content)) → ((cs : List Content) → o ≡ Some cs → AreContents cs) → ReadsAnew two_read (look_listed w kept o)
   listed_anew kept None are = tt

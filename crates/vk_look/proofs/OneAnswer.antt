@@ -1,6 +1,6 @@
 -- A look has one answer.
 use Rattle.std.proofs.Common.{◌≡◌, ◌≢◌, ◌⊎◌, inl, inr, ◌++◌, ◌&&◌, [], ◌∷◌, ℕ, List, length, Bool, true, false, refl, ap, sym, ◌∙◌, subst, arith, nat_le, map}
-use Rattle.std.specs.Prelude.{Option, Some, None, IsSome, Ok, Err, if◌then◌else◌}
+use Rattle.std.specs.Prelude.{Some, None, IsSome, Ok, Err, if◌then◌else◌}
 use Rattle.std.specs.List.{Contains}
 use Rattle.std.specs.Str.{bytes_eq}
 use Rattle.std.proofs.lemmas.Bool.{and_from}
@@ -27,13 +27,10 @@ use Rattle.vk_look.specs.Looks.{Looked, keeps, looked}
 use Rattle.vk_look.specs.declared.answers.Harm.{Harm}
 use Rattle.vk_look.specs.declared.answers.Harm.TheVariants.{Text, Contents, Extra, Missing, Size, Hash}
 use Rattle.vk_look.specs.declared.answers.Look.TheVariants.{Hit, Absent, Damaged, Collision}
-use Rattle.vk_look.proofs.PlaceTests.{one_some, same_bytes}
+use Rattle.vk_look.proofs.PlaceTests.{one_some, some_as, same_bytes}
 use Rattle.vk_look.proofs.FileTells.{holds_each}
 
 -- ---- the parts of an entry are one
-
-some_as : {X : Type 0} (x : X) (o : Option X) → o ≡ Some x → IsSome o
-some_as x o e = subst IsSome (sym e) refl
 
 -- two places in one list are one, or each is before the other
 places_one : {X : Type 0} (before others : List X) (x y : X) (later rest : List X) → before ++ x ∷ later ≡ others ++ y ∷ rest → (x ≡ y) ⊎ (Contains others x ⊎ Contains before y)

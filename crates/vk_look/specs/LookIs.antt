@@ -56,15 +56,17 @@ pub record HasList (entry : Path) (cs : List Content) (d : Disk) : Type 0 where
   pub short : length bytes ≤ most_list
   pub list : IsList bytes cs
 
--- the paths of an entry with these files: its text, its contents list, and theirs
-abbrev pub IsPlace : Path → List Content → Path → Type 0
-IsPlace entry cs q =
-    (q ≡ text_at entry) ⊎ ((q ≡ contents_at entry) ⊎ ((c : Content) × Contains cs c × (q ≡ file_at entry c.path)))
+-- where an entry with these files has them, and its text and its contents list
+abbrev pub file_places : Path → List Content → List Path
+file_places entry cs = map (λ c. file_at entry c.path) cs
+
+abbrev pub places_of : Path → List Content → List Path
+places_of entry cs = text_at entry ∷ contents_at entry ∷ file_places entry cs
 
 -- a file stands elsewhere below it, or a walk of it passes a limit
 abbrev pub HasExtra : Path → List Content → Disk → Type 0
 HasExtra entry cs d =
-    ((q : Path) × IsFile d q × Begins entry q × (IsPlace entry cs q → ⊥)) ⊎ ((limit : Limit) × IsFirst walk_limits d entry limit)
+    ((q : Path) × IsFile d q × Begins entry q × (Contains (places_of entry cs) q → ⊥)) ⊎ ((limit : Limit) × IsFirst walk_limits d entry limit)
 
 -- a listed file isn't there
 abbrev pub HasMissing : Path → List Content → Disk → Type 0
@@ -73,7 +75,7 @@ HasMissing entry cs d = (c : Content) × Contains cs c × (d (file_at entry c.pa
 -- a walk passes no limit, and exactly the listed files are there, the text and the contents list
 pub record HasAll (entry : Path) (cs : List Content) (d : Disk) : Type 0 where
   pub calm : IsCalm walk_limits d entry
-  pub only : (q : Path) → IsFile d q → Begins entry q → IsPlace entry cs q
+  pub only : (q : Path) → IsFile d q → Begins entry q → Contains (places_of entry cs) q
   pub there : (c : Content) → Contains cs c → IsFile d (file_at entry c.path)
 
 -- a file that is as it is listed

@@ -1,9 +1,7 @@
 -- A look at an entry of a cache, as a protocol: what stands at the entry; its text; its contents
 -- list; a walk of it; and each listed file, up to the first harm.
-use Rattle.std.specs.Prelude.{◌++◌, ◌==◌, ◌&&◌, ◌||◌, not, [], ◌∷◌, ℕ, List, length, Bool, true, false}
+use Rattle.std.specs.Prelude.{◌++◌, ◌==◌, ◌&&◌, [], ◌∷◌, ℕ, List, length, Bool, true, false}
 use Rattle.std.specs.Prelude.{Option, Some, None, Result, Ok, Err, nat_le, if◌then◌else◌}
-use Rattle.std.specs.List.{list_any}
-use Rattle.std.specs.Cmp.Lexicographic.{pointwise}
 use Rattle.std.specs.Str.{bytes_eq}
 use Rattle.sha2.specs.Sha256.{sha256}
 use Rattle.vk_spec.specs.Paths.{Path}
@@ -18,7 +16,10 @@ use Rattle.vk_entry.specs.Packages.{File}
 use Rattle.vk_entry.specs.Contents.{Content}
 use Rattle.vk_places.specs.Places.{text_at, contents_at, file_at}
 use Rattle.vk_entry.specs.ContentsIn.{contents_in}
-use Rattle.vk_look.specs.LookIs.{Wanted, most_list, most_text, bytes_listed}
+use Rattle.vk_entry.specs.Differences.{difference_of}
+use Rattle.vk_entry.specs.declared.differences.Difference.{Difference}
+use Rattle.vk_entry.specs.declared.differences.Difference.TheVariants as difference
+use Rattle.vk_look.specs.LookIs.{Wanted, most_list, most_text, bytes_listed, places_of}
 use Rattle.vk_look.specs.declared.answers.Harm.{Harm}
 use Rattle.vk_look.specs.declared.answers.Harm.TheVariants.{Text, Contents, Extra, Missing, Size, Hash}
 use Rattle.vk_look.specs.declared.answers.Look.{Look}
@@ -31,23 +32,10 @@ Looked = Result Look base.Limit
 abbrev pub damaged : Harm → Protocol Looked
 damaged harm = ends (Ok (Damaged harm))
 
--- ---- the files that were found, and those that are listed
-
-abbrev pub is_path : Path → Path → Bool
-is_path p q = pointwise bytes_eq p q
-
-abbrev pub is_place : Path → List Content → Path → Bool
-is_place entry cs q = is_path (text_at entry) q || (is_path (contents_at entry) q || list_any (λ c. is_path (file_at entry c.path) q) cs)
-
-abbrev pub has_extra : Path → List Content → List Path → Bool
-has_extra entry cs found = list_any (λ q. not (is_place entry cs q)) found
-
-abbrev pub has_missing : Path → List Content → List Path → Bool
-has_missing entry cs found = list_any (λ c. not (list_any (λ q. is_path (file_at entry c.path) q) found)) cs
-
--- what is wrong with them
-abbrev pub compared : Path → List Content → List Path → Option Harm
-compared entry cs found = if has_extra entry cs found then Some Extra else if has_missing entry cs found then Some Missing else None
+-- how the files that were found differ from those that are to be there
+abbrev pub harm_by : Difference → Harm
+harm_by difference.Extra = Extra
+harm_by difference.Missing = Missing
 
 -- ---- one listed file
 
@@ -96,13 +84,13 @@ looked w kept (Ok None) = if bytes_eq kept w.text then Err (Bytes w.most) else O
 abbrev pub look_files : Wanted → List ℕ → List Content → Protocol Looked
 look_files w kept cs = each (look_file w.entry) cs (no_files (keeps w kept cs)) >>= λ r. ends (looked w kept r)
 
-abbrev pub look_compared : Wanted → List ℕ → List Content → Option Harm → Protocol Looked
-look_compared w kept cs (Some harm) = damaged harm
+abbrev pub look_compared : Wanted → List ℕ → List Content → Option Difference → Protocol Looked
+look_compared w kept cs (Some how) = damaged (harm_by how)
 look_compared w kept cs None = look_files w kept cs
 
 abbrev pub look_found : Wanted → List ℕ → List Content → Result (List Path) Limit → Protocol Looked
 look_found w kept cs (Err limit) = damaged Extra
-look_found w kept cs (Ok found) = look_compared w kept cs (compared w.entry cs found)
+look_found w kept cs (Ok found) = look_compared w kept cs (difference_of found (places_of w.entry cs))
 
 abbrev pub look_listed : Wanted → List ℕ → Option (List Content) → Protocol Looked
 look_listed w kept None = damaged Contents

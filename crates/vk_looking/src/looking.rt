@@ -12,7 +12,7 @@ ghost use Rattle.vk_entry.specs.ContentsIn.{contents_in};
 ghost use Rattle.vk_entry.specs.ContentViews.{content_view};
 ghost use Rattle.vk_places.specs.Places.{contents_at, file_at, text_at};
 ghost use Rattle.vk_look.specs.LookIs.{Wanted, bytes_listed, most_list, most_text};
-ghost use Rattle.vk_look.specs.Looks.{damaged, harm_of, keeps, list_told, look_compared, look_contents};
+ghost use Rattle.vk_look.specs.Looks.{damaged, harm_by, harm_of, keeps, list_told, look_compared, look_contents};
 ghost use Rattle.vk_look.specs.Looks.{look_files, look_found, look_kept, look_listed, look_of};
 ghost use Rattle.vk_look.specs.Looks.{look_stands, look_text, looked, refused, with_file};
 ghost use Rattle.vk_looking.specs.LookMachine.{after_file, at_file, files_left, left_means, look_means};
@@ -24,7 +24,7 @@ use std::alloc::Global;
 use std::mem;
 use vk_base::{Limit, List, Memory, Outage, TreePath, Unread};
 use vk_digest::Digest;
-use vk_entry::{ContentLine, Package, read_contents};
+use vk_entry::{ContentLine, Difference, Package, read_contents};
 use vk_look::{Harm, Look};
 use vk_places::{contents_in, file_in, text_in};
 use vk_protocol::{Machine, ask_kind, ask_read};
@@ -296,19 +296,29 @@ fn begin_files(alloc: Global, wanted: &LookFor<'_>, kept: List<u8>, lines: Lines
     go_on(wanted, kept, Left::all(alloc, lines, keep))
 }
 
+// The harm of files that aren't those that are to be there.
+fn harm_by(how: Difference) -> Harm
+    ensures { result ≡ harm_by how }
+{
+    match how {
+        Difference::Extra => Harm::Extra,
+        Difference::Missing => Harm::Missing,
+    }
+}
+
 // What follows the comparison of the files that were found with those that are listed.
 fn compared_next(
     alloc: Global,
     wanted: &LookFor<'_>,
     kept: List<u8>,
     lines: Lines,
-    harm: Option<Harm>,
+    how: Option<Difference>,
 ) -> LookNow
     ensures { now_means (wanted_view wanted.now) result
-        ≡ look_compared (wanted_view wanted.now) kept lines harm }
+        ≡ look_compared (wanted_view wanted.now) kept lines how }
 {
-    match harm {
-        Some(harm) => damaged(harm),
+    match how {
+        Some(how) => damaged(harm_by(how)),
         None => begin_files(alloc, wanted, kept, lines),
     }
 }
@@ -324,8 +334,8 @@ fn compare_next(
     ensures { IfOk result (λ at. now_means (wanted_view wanted.now) at
         ≡ look_found (wanted_view wanted.now) kept lines (Ok found)) }
 {
-    match compare(alloc, wanted.folder, lines.as_slice(), found) {
-        Ok(harm) => Ok(compared_next(alloc, wanted, kept, lines, harm)),
+    match compare(alloc, wanted.folder, lines.as_slice(), found.as_slice()) {
+        Ok(how) => Ok(compared_next(alloc, wanted, kept, lines, how)),
         Err(memory) => {
             drop(kept);
             drop(lines);

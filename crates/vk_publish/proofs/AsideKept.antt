@@ -72,7 +72,7 @@ module _ (cache : Path) (agent digest : List ℕ) where
       tt
       (λ h left. inl left)
       (λ reply h does. (let same = list_left cache (codes "damaged") agent reply f h does in
-        (inl same, subst (λ g. IsKept f (on_ok (λ n. move_out (entry_at cache digest) (damaged_at cache agent n)) (free_of limit.Damaged agent reply)) g) (sym same) (picked_kept f (free_of limit.Damaged agent reply) clear stands (picks cache (codes "damaged") agent limit.Damaged reply f does.says does.small)))))
+      (inl same, subst (λ g. IsKept f (on_ok (λ n. move_out (entry_at cache digest) (damaged_at cache agent n)) (free_of limit.Damaged agent reply)) g) (sym same) (picked_kept f (free_of limit.Damaged agent reply) clear stands (picks cache (codes "damaged") agent limit.Damaged reply f does.says does.small)))))
 
   can_on : (s : State) (o : Option Told) → s.told ≡ o → On (λ f. IsClear cache (disk_of f)) o → On (λ f. Stands (disk_of f) (entry_at cache digest)) o → CanRunOn (aside_of cache agent digest) s
   can_on s None is clear stands = subst (λ (o : Option Told). IfSome o (λ t. CanRun (aside_of cache agent digest) t.files)) (sym is) tt

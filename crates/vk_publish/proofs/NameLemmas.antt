@@ -61,10 +61,15 @@ least_found agent es zero n m is = (cc)
 least_found agent es (suc k) n m is =
     elim (is_taken es (agent_name agent n)) as (λ b. is_taken es (agent_name agent n) ≡ b → cond b (least_from agent es k (n + 1)) (Some n) ≡ Some m → IsFound agent es (suc k) n m) [
       | true ↦ λ t found. (let r = least_found agent es k (n + 1) m found in
-          record { from = omega (arith, r.from); within = omega (arith, r.within); free = r.free; lower = λ i low high. elim (here_or_later n i low) [
-            | inl one ↦ ap (λ j. is_taken es (agent_name agent j)) one ∙ t
-            | inr later ↦ r.lower i later high
-          ] })
+          record {
+            from = omega (arith, r.from);
+            within = omega (arith, r.within);
+            free = r.free;
+            lower = λ i low high. elim (here_or_later n i low) [
+              | inl one ↦ ap (λ j. is_taken es (agent_name agent j)) one ∙ t
+              | inr later ↦ r.lower i later high
+            ];
+          })
       | false ↦ λ t found. (let one : n ≡ m = (cc) in
           record { from = omega (arith, one); within = omega (arith, one); free = ap (λ j. is_taken es (agent_name agent j)) (sym one) ∙ t; lower = λ i low high. absurd (omega (arith, one, low, high)) })
     ] refl is

@@ -74,9 +74,9 @@ module _ (cache : Path) (agent digest : List ℕ) where
       | inr c ↦ ap (disk_of g) c.1 ∙ w.view c.0 ∙ none_put done c.0 (λ y has same. (apart y has part rest).1 (c.2 ∙ ap (λ l. l ++ part ∷ rest) same))
     ]),
     (λ folder.
-      (let some = subst (λ o. IsSome o) (w.view (x.0 ++ folder.0 ∷ folder.1)) (subst (λ p. IsSome (disk_of g p)) (append_assoc (tmp_at cache agent n) x.0 (folder.0 ∷ folder.1)) folder.2) in
-      let y = put_bare done (x.0 ++ folder.0 ∷ folder.1) some in
-      (apart y.0 y.1 folder.0 folder.1).0 (sym y.2))),
+        (let some = subst (λ o. IsSome o) (w.view (x.0 ++ folder.0 ∷ folder.1)) (subst (λ p. IsSome (disk_of g p)) (append_assoc (tmp_at cache agent n) x.0 (folder.0 ∷ folder.1)) folder.2) in
+        let y = put_bare done (x.0 ++ folder.0 ∷ folder.1) some in
+        (apart y.0 y.1 folder.0 folder.1).0 (sym y.2))),
   )
 
   else_then : (P : Path → Type 0) (d e h : Disk) → Else P d e → Else P e h → Else P d h
@@ -199,7 +199,7 @@ module _ (cache : Path) (agent digest : List ℕ) where
         tt
         (λ h left. inl left)
         (λ reply h does. (let same = list_left cache (codes "tmp") agent reply f h does in
-          (inl same, subst (λ g. IsKept f (on_ok (λ n. write_all (tmp_at cache agent n) files (entry_at cache digest)) (free_of limit.Tmp agent reply)) g) (sym same) (picked_kept f (free_of limit.Tmp agent reply) x has apart clear (picks cache (codes "tmp") agent limit.Tmp reply f does.says does.small)))))
+        (inl same, subst (λ g. IsKept f (on_ok (λ n. write_all (tmp_at cache agent n) files (entry_at cache digest)) (free_of limit.Tmp agent reply)) g) (sym same) (picked_kept f (free_of limit.Tmp agent reply) x has apart clear (picks cache (codes "tmp") agent limit.Tmp reply f does.says does.small)))))
 
 -- what is told before and after, in other words
 pub told_then : (R S : Files → Files → Type 0) (x y : Option Told) → ((f g : Files) → R f g → S f g) → IfSome x (λ t. IfSome y (λ u. R t.files u.files)) → IfSome x (λ t. IfSome y (λ u. S t.files u.files))

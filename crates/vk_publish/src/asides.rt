@@ -153,10 +153,7 @@ fn came_to(target: &Target<'_>, at: AsideNow) -> Result<Moved, Limit>
 }
 
 // Makes all calls of a setting aside.
-fn aside_target<T: Tree>(
-    target: Target<'_>,
-    tree: &mut T,
-) -> Result<Result<Moved, Limit>, Outage>
+fn aside_target<T: Tree>(target: Target<'_>, tree: &mut T) -> Result<Result<Moved, Limit>, Outage>
     requires { CanRunOn (aside_whole target) (T.state tree.old) }
     ensures { Ran (aside_whole target.entry) result (T.state tree.old) (T.state tree.new) }
 {
