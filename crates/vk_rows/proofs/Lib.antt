@@ -1,1 +1,2 @@
 mod Rooms
+pub mod CacheLemmas

@@ -1,10 +1,11 @@
 //! Answers rows about projects whose files are in memory: what opening them tells, what their
 //! worlds are asked, and how the planner runs over them; about trees, sinks and catalogues in
-//! memory; and about each call of a tree, over files in memory and over the host's files in the
-//! folder that the program runs in.
+//! memory; and about each call of a tree, and of a cache, over files in memory and over the host's
+//! files in the folder that the program runs in.
 #![tactic(auto)]
 
 mod asks;
+mod caches;
 mod changes;
 mod lines;
 mod looks;

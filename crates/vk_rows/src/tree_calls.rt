@@ -4,14 +4,18 @@
 //! - `each N ROW`: how many of so many rows are answered by `done`, each the one row with its
 //!   number in place of `#`.
 //!
-//! The calls are those of `looks` and `walks`, and `write PATH BYTES`, `move FROM TO`,
-//! `remove PATH`.
+//! The calls are those of `looks`, `walks` and `caches`, and `write PATH BYTES`, `move FROM TO`,
+//! `remove PATH`. In memory there are besides:
+//! - `new`: begins again with no files;
+//! - `fails N ..`: these calls fail from then on, counted from the first of the tree;
+//! - `stops N`: this call fails, and each one after it.
 
 ghost use Rattle.std.specs.Prelude.{IsTrue};
 ghost use Rattle.vk_spec.specs.Paths.{Begins};
 
 use crate::changes::{bytes_of, moved, paths_of, remove, written};
-use crate::{looks, walks};
+use crate::workspaces::numbers_of;
+use crate::{caches, looks, walks};
 use std::alloc::{AllocError, Global};
 use std::os::unix::fs::FileExt;
 use std::rt::Files;
@@ -34,6 +38,7 @@ fn call<T: Tree>(tree: &mut T, question: &str, row: &str, reply: &mut Reply) {
         "walk" => walks::answer(tree, row, reply),
         "walked" => walks::count(tree, row, reply),
         "remove" => remove(tree, row, reply),
+        "look" => caches::answer(tree, row, reply),
         _ => looks::answer(tree, question, row, reply),
     }
 }
@@ -92,6 +97,22 @@ where
     moved(tree.rename(&from, &to), reply);
 }
 
+fn fail_at(tree: &mut MemTree, row: &str, reply: &mut Reply) {
+    let calls = numbers_of(reply.alloc(), row);
+    let Some(calls) = reply.needed(calls) else {
+        return;
+    };
+    match tree.fail_at(calls.as_slice()) {
+        Ok(()) => reply.push("done"),
+        Err(memory) => reply.lack(memory),
+    }
+}
+
+fn stop_at(tree: &mut MemTree, row: &str, reply: &mut Reply) {
+    tree.stop_at(reply.number(row));
+    reply.push("done");
+}
+
 // What two trees told, where they told the same.
 fn tell_both(
     one: Result<Option<Text>, AllocError>,
@@ -123,11 +144,27 @@ where
         })
     }
 
+    // Begins again with no files in memory.
+    fn restart(&mut self, reply: &mut Reply) {
+        match MemTree::new(reply.alloc()) {
+            Ok(tree) => {
+                self.mem = tree;
+                reply.push("done");
+            }
+            Err(memory) => reply.lack(memory),
+        }
+    }
+
     fn in_memory(&mut self, row: &str, reply: &mut Reply) {
         let (question, rest) = cut(row);
         match question {
             "write" => write_in_memory(&mut self.mem, rest, reply),
             "move" => move_in_memory(&mut self.mem, rest, reply),
+            "publish" => caches::publish_in_memory(&mut self.mem, rest, reply),
+            "aside" => caches::aside_in_memory(&mut self.mem, rest, reply),
+            "new" => self.restart(reply),
+            "fails" => fail_at(&mut self.mem, rest, reply),
+            "stops" => stop_at(&mut self.mem, rest, reply),
             _ => call(&mut self.mem, question, rest, reply),
         }
     }
@@ -137,6 +174,8 @@ where
         match question {
             "write" => write_on_host(&mut self.host, rest, reply),
             "move" => move_on_host(&mut self.host, rest, reply),
+            "publish" => caches::publish_on_host(&mut self.host, rest, reply),
+            "aside" => caches::aside_on_host(&mut self.host, rest, reply),
             _ => call(&mut self.host, question, rest, reply),
         }
     }
