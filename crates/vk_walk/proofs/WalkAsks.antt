@@ -12,8 +12,8 @@ use Rattle.vk_base.specs.declared.stops.Outage.{Outage}
 use Rattle.vk_base.specs.declared.stops.Outage.TheVariants.{Failed, Memory}
 use Rattle.vk_protocol.specs.Protocols.{answer_of, Protocol, ends, asks, each}
 use Rattle.vk_protocol.specs.Runs.{AsksOnly, IsEnd, LacksOnly, Ran, Reads, Stops, StopsAt}
-use Rattle.vk_protocol.proofs.ProtocolLemmas.{only_each, only_ok}
-use Rattle.vk_protocol.proofs.RunLemmas.{reply_calm}
+use Rattle.vk_protocol.proofs.ProtocolLemmas.{only_each, only_more, only_ok}
+use Rattle.vk_protocol.proofs.RunLemmas.{end_calm, reply_calm}
 use Rattle.vk_walk.specs.Walks.{Limits}
 use Rattle.vk_walk.proofs.StepLemmas.{begins_longer}
 use Rattle.vk_walk.specs.WalkProtocol.{ListsIn, listed, walk_at, walk_of}
@@ -33,10 +33,6 @@ pub walk_lists : (most : Limits) (folder : Path) → AsksOnly (ListsIn folder) (
 unfolding walk_of
 walk_lists most folder = lists_below folder most.files (suc most.depth) folder true [] ([], sym (append-nil folder))
 
-only_more : {A : Type 0} (M N : Call → Type 0) (p : Protocol A) → ((call : Call) → M call → N call) → AsksOnly M p → AsksOnly N p
-only_more M N (ends x) more h = tt
-only_more M N (asks call k) more h = (more call h.0, λ reply. only_more M N (k reply) more (h.1 reply))
-
 pub walk_reads : (most : Limits) (folder : Path) → AsksOnly Reads (walk_of most folder)
 walk_reads most folder = only_more (ListsIn folder) Reads (walk_of most folder) (λ call h. ap is_reading h.2) (walk_lists most folder)
 
@@ -54,14 +50,6 @@ listed_stop folder call (Memory m) a b lists (inr made) = listed_call folder cal
 listed_stopped : {A : Type 0} (folder : Path) (call : Call) (result : Result A Outage) (a b : State) → ListsIn folder call → StopsAt call result a b → OnlyListed (was_out result) a b
 listed_stopped folder call (Ok x) a b lists h = absurd h
 listed_stopped folder call (Err e) a b lists h = listed_stop folder call e a b lists h
-
-lack_calm : (e : Outage) → LacksOnly e → is_outage e ≡ false
-lack_calm Failed h = absurd h
-lack_calm (Memory m) h = refl
-
-end_calm : {A : Type 0} (x : A) (result : Result A Outage) → IsEnd x result → was_out result ≡ false
-end_calm x (Ok y) h = refl
-end_calm x (Err e) h = lack_calm e h
 
 -- nothing but listing was done
 pub ran_lists : {A : Type 0} (folder : Path) (p : Protocol A) (result : Result A Outage) (a b : State) → AsksOnly (ListsIn folder) p → Ran p result a b → OnlyListed (was_out result) a b
