@@ -4,9 +4,13 @@
 #![tactic(auto)]
 
 mod compared;
+mod files;
 mod left;
+mod lists;
 mod looking;
 mod looks;
+mod texts;
+mod walks;
 
 pub use left::{FilesLeft, Left, Lines};
 pub use looking::{LookFor, LookNow, Looking};

@@ -3,7 +3,7 @@ use Rattle.vk_entry.specs.Answers.{IsTold}
 use Rattle.vk_entry.specs.ContentsIn.{contents_in}
 use Rattle.vk_entry.proofs.ContentsFound.{told_in}
 use Rattle.vk_looking.specs.LookMachine.{wanted_view}
-use Rattle.vk_looking.proofs.looking.list_next.Goals as goal
+use Rattle.vk_looking.proofs.lists.list_next.Goals as goal
 
 pub returns-in-Ok : goal.returns-in-Ok
 returns-in-Ok c = rw (told_in c.args.bytes.now (Ok c.in-Ok.lines) c.in-Ok.ensures, ← c.of.ensures) c.begin_walk.ensures
