@@ -11,7 +11,7 @@ use Rattle.vk_base.specs.Stops.{was_out, is_outage}
 use Rattle.vk_base.specs.declared.stops.Outage.{Outage}
 use Rattle.vk_base.specs.declared.stops.Outage.TheVariants.{Failed, Memory}
 use Rattle.vk_protocol.specs.Protocols.{answer_of, Protocol, ends, asks, each}
-use Rattle.vk_protocol.specs.Runs.{AsksOnly, IsEnd, LacksOnly, Ran, Reads, Stops, StopsAt}
+use Rattle.vk_protocol.specs.Runs.{AsksOnly, Ran, Reads, Stops, StopsAt}
 use Rattle.vk_protocol.proofs.ProtocolLemmas.{only_each, only_more, only_ok}
 use Rattle.vk_protocol.proofs.RunLemmas.{end_calm, reply_calm}
 use Rattle.vk_walk.specs.Walks.{Limits}
