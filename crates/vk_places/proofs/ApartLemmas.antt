@@ -23,8 +23,11 @@ tmp_not_entries e = let h : 116 ≡ 97 = ap (λ l. get_or l 0 0) e in absurd (om
 damaged_not_entries : codes "damaged" ≡ codes "abi2" → ⊥
 damaged_not_entries e = let h : 100 ≡ 97 = ap (λ l. get_or l 0 0) e in absurd (omega (arith, h))
 
+pub tmp_apart_name : (cache : Path) (agent name : List ℕ) (n : ℕ) (q r s : Path) → q ≡ tmp_at cache agent n ++ r → q ≡ place cache (codes "abi2") name ++ s → ⊥
+tmp_apart_name cache agent name n q r s one other = place_apart cache (codes "tmp") (agent_name agent n) (codes "abi2") name r s (λ f m. tmp_not_entries f) (sym one ∙ other)
+
 pub tmp_apart : (cache : Path) (agent digest : List ℕ) (n : ℕ) (q r s : Path) → q ≡ tmp_at cache agent n ++ r → q ≡ entry_at cache digest ++ s → ⊥
-tmp_apart cache agent digest n q r s one other = place_apart cache (codes "tmp") (agent_name agent n) (codes "abi2") _ r s (λ f m. tmp_not_entries f) (sym one ∙ other)
+tmp_apart cache agent digest n q r s one other = tmp_apart_name cache agent _ n q r s one other
 
 pub damaged_apart : (cache : Path) (agent digest : List ℕ) (n : ℕ) (q r s : Path) → q ≡ damaged_at cache agent n ++ r → q ≡ entry_at cache digest ++ s → ⊥
 damaged_apart cache agent digest n q r s one other = place_apart cache (codes "damaged") (agent_name agent n) (codes "abi2") _ r s (λ f m. damaged_not_entries f) (sym one ∙ other)

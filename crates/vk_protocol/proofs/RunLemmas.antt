@@ -1,18 +1,21 @@
 -- Running, step by step.
 use Rattle.std.proofs.Common.{◌≡◌, inl, inr, false, refl, ap, sym, subst}
 use Rattle.std.specs.Prelude.{Option, Some, None, IfSome, IfOk, Result, Ok, Err}
-use Rattle.vk_spec.specs.States.{Told, State, OnlyRead}
+use Rattle.vk_spec.specs.States.{Told, State, Ends, OnlyRead}
 use Rattle.vk_spec.specs.Standing.{Disk, disk_of, OnFiles}
 use Rattle.vk_spec.specs.Files.{Files, IsTree}
 use Rattle.vk_spec.specs.Calls.{Call, kind_of, read_of, piece_of, list_of, write_of, rename_of, remove_of, fails, Says, IsSmall, is_failed, CanMake, Content, ToldBecomes, noted_by}
 use Rattle.vk_spec.proofs.CallLemmas.{read_once, says_of}
-use Rattle.vk_spec.proofs.StateLemmas.{read_nothing, read_then}
+use Rattle.vk_spec.proofs.StateLemmas.{ends_then, read_nothing, read_then}
 use Rattle.vk_base.specs.declared.memory.Memory as memory
 use Rattle.vk_base.specs.declared.stops.Outage.{Outage}
 use Rattle.vk_base.specs.declared.stops.Outage.TheVariants.{Failed, Memory}
-use Rattle.vk_base.specs.Stops.{was_out, is_outage}
+use Rattle.vk_base.specs.declared.stops.Stop.{Stop}
+use Rattle.vk_base.specs.declared.stops.Stop.TheVariants as stop
+use Rattle.vk_base.specs.Stops.{has_failed, was_out, is_outage}
 use Rattle.vk_tree.proofs.OnFilesLemmas.{files_then, files_two, files_on, files_back}
 use Rattle.vk_tree.specs.Trees.{IsTreeDisk}
+use Rattle.vk_protocol.specs.Asking.{split}
 use Rattle.vk_protocol.specs.Protocols.{Reply, answer_of, Protocol, ends, asks, ◌>>=◌}
 use Rattle.vk_protocol.specs.Runs.{Stops, Asked, LacksOnly, Stepped, IsEnd, StopsAt, Ran, Leads, Replies, AsksOnly, Reads, Tells, CanAsk, CanRun, CanRunOn, IsAtEnd, CameTo, NextIs}
 
@@ -171,3 +174,30 @@ lacked_next call k means P r m a b asked = inr (answer_of call asked.0, asked.1,
 
 pub early_next : {A X : Type 0} (p : Protocol A) (means : X → Protocol A) (m : memory.Memory) (a : State) → NextIs p means (Err (Memory m)) a a
 early_next p means m a = stays p p (Memory m) a a tt refl
+
+-- ---- how the counts end
+
+stop_ends : (call : Call) (e : Outage) (a b : State) → Stops call e a b → Ends (is_outage e) a b
+stop_ends call Failed a b made = made.ends
+stop_ends call (Memory m) a b (inl same) = subst (λ s. Ends false a s) (sym same) (record { faults = refl; sure = refl; safe = λ s. refl })
+stop_ends call (Memory m) a b (inr made) = subst (λ f. Ends f a b) made.2 made.1.ends
+
+stopped_ends : {A : Type 0} (call : Call) (result : Result A Outage) (a b : State) → StopsAt call result a b → Ends (was_out result) a b
+stopped_ends call (Ok x) a b h = absurd h
+stopped_ends call (Err e) a b h = stop_ends call e a b h
+
+-- a run fails only where a call did
+pub ran_ends : {A : Type 0} (p : Protocol A) (result : Result A Outage) (a b : State) → Ran p result a b → Ends (was_out result) a b
+ran_ends (ends x) result a b ran = subst (λ s. Ends (was_out result) a s) (sym ran.1) (subst (λ f. Ends f a a) (sym (end_calm x result ran.0)) (record { faults = refl; sure = refl; safe = λ s. refl }))
+ran_ends (asks call k) result a b (inl stop) = stopped_ends call result a b stop
+ran_ends (asks call k) result a b (inr (reply, mid, made, more)) = ends_then (subst (λ f. Ends f a mid) (reply_calm call reply) made.ends) (ran_ends (k reply) result mid b more)
+
+-- the same of a call that tells its faults
+split_ends : {A F : Type 0} (p : Protocol (Result A F)) (result : Result A (Stop F)) (a b : State) → Ran p (split result) a b → Ends (has_failed result) a b
+split_ends p (Ok x) a b ran = ran_ends p (Ok (Ok x)) a b ran
+split_ends p (Err (stop.Fault fault)) a b ran = ran_ends p (Ok (Err fault)) a b ran
+split_ends p (Err stop.Failed) a b ran = ran_ends p (Err Failed) a b ran
+split_ends p (Err (stop.Memory m)) a b ran = ran_ends p (Err (Memory m)) a b ran
+
+pub joined_ends : {A F : Type 0} (p : Protocol (Result A F)) (result : Result A (Stop F)) (came : Result (Result A F) Outage) (a b : State) → split result ≡ came → Ran p came a b → Ends (has_failed result) a b
+joined_ends p result came a b same ran = split_ends p result a b (subst (λ r. Ran p r a b) (sym same) ran)

@@ -1,25 +1,25 @@
 -- A setting aside: its calls may be made, and what it leaves by its answer and wherever it stops.
-use Rattle.std.proofs.Common.{◌≡◌, inl, inr, ◌++◌, [], ◌∷◌, ℕ, List, refl, ap, sym, ◌∙◌, subst}
-use Rattle.std.specs.Prelude.{Option, Some, None, IsSome, IfSome, IfOk, Result, Ok, Err, codes}
+use Rattle.std.proofs.Common.{◌≡◌, inl, inr, ◌++◌, [], ℕ, List, refl, sym, subst}
+use Rattle.std.specs.Prelude.{Option, Some, None, IfSome, IfOk, Result, Ok, Err, codes}
 use Rattle.std.proofs.lemmas.List.{append-nil}
 use Rattle.vk_spec.specs.Paths.{Path}
 use Rattle.vk_spec.specs.Files.{Files}
 use Rattle.vk_spec.specs.States.{Told, State}
-use Rattle.vk_spec.specs.Standing.{Disk, disk_of, bare, under, Same, Stands, OnFiles}
+use Rattle.vk_spec.specs.Standing.{Disk, disk_of, Stands, OnFiles}
 use Rattle.vk_spec.specs.Calls.{list_of, rename_of, CanMake, missing, too_large, exists, many}
 use Rattle.vk_spec.proofs.FileLemmas.{none_some}
 use Rattle.vk_base.specs.declared.limits.Limit.{Limit}
 use Rattle.vk_base.specs.declared.limits.Limit.TheVariants as limit
 use Rattle.vk_base.specs.declared.stops.Outage.{Outage}
 use Rattle.vk_protocol.specs.Keeps.{Alone, Keeps}
-use Rattle.vk_protocol.specs.Protocols.{Reply, Protocol, ends, asks, on_ok}
+use Rattle.vk_protocol.specs.Protocols.{Reply, Protocol, ends, on_ok}
 use Rattle.vk_protocol.specs.Runs.{CanRun, CanRunOn, Does, Ran}
 use Rattle.vk_protocol.proofs.KeptRuns.{On, alone_terms, alone_ends, alone_asks, keeps_can, keeps_ran}
 use Rattle.vk_places.specs.Places.{agent_name, entry_at, damaged_of, damaged_at}
 use Rattle.vk_places.proofs.ApartLemmas.{damaged_apart, bare_above}
 use Rattle.vk_publish.specs.Names.{free_of}
 use Rattle.vk_publish.specs.Aside.{moved_by, move_out, aside_of}
-use Rattle.vk_publish.specs.Left.{Between, IsClear, IsAside, AsideSays, AsideKeeps}
+use Rattle.vk_publish.specs.Outcomes.{Between, IsClear, IsAside, AsideSays, AsideKeeps}
 use Rattle.vk_publish.specs.declared.answers.Moved.{Moved}
 use Rattle.vk_publish.specs.declared.answers.Moved.TheVariants as moved
 use Rattle.vk_publish.proofs.NewNames.{Picks, picks, list_left}

@@ -5,3 +5,5 @@ pub mod StepLemmas
 pub mod PublishKept
 pub mod AsideSteps
 pub mod AsideKept
+pub mod SharedLemmas
+pub mod SharedPublish

@@ -1,16 +1,13 @@
 -- What was listed says which names are new.
-use Rattle.std.proofs.Common.{◌≡◌, ◌<◌, ◌≤◌, ◌⊎◌, inl, inr, ◌+◌, ◌++◌, [], ◌∷◌, ℕ, List, true, false, length, refl, ap, sym, ◌∙◌, subst, append_assoc, arith}
-use Rattle.std.specs.Prelude.{Option, Some, None, IsSome, Result, Ok, Err, codes}
-use Rattle.std.specs.List.{Contains}
+use Rattle.std.proofs.Common.{◌≡◌, ◌≤◌, ◌⊎◌, inl, inr, ◌++◌, [], ◌∷◌, ℕ, List, true, false, length, refl, sym, subst, append_assoc, arith}
+use Rattle.std.specs.Prelude.{Option, Some, None, IsSome, Result, Ok, Err}
 use Rattle.std.specs.Prelude.{Bool}
 use Rattle.std.proofs.lemmas.List.{append-nil}
 use Rattle.vk_spec.specs.Paths.{Path}
 use Rattle.vk_spec.specs.Files.{Files}
-use Rattle.vk_spec.specs.Standing.{Disk, disk_of, bare, under, Same, Stands, IsFolder, IsAs, Entry, AreEntries, IsListing}
+use Rattle.vk_spec.specs.Standing.{Disk, disk_of, bare, under, Same, Stands, IsFolder, IsAs, Entry, IsListing}
 use Rattle.vk_spec.specs.Calls.{list_of, Says, IsSmall, most_entries, missing, too_large, exists, many}
-use Rattle.vk_spec.proofs.FileLemmas.{none_some}
 use Rattle.vk_base.specs.declared.limits.Limit.{Limit}
-use Rattle.vk_base.specs.declared.limits.Limit.TheVariants as limit
 use Rattle.vk_walk.proofs.EntryLemmas.{listings_within}
 use Rattle.vk_tree.proofs.ListingLemmas.{some_entry}
 use Rattle.vk_protocol.specs.Protocols.{Reply, answer_of}
@@ -18,7 +15,7 @@ use Rattle.vk_protocol.specs.Runs.{Does}
 use Rattle.vk_places.specs.Places.{place, agent_name}
 use Rattle.vk_places.proofs.ApartLemmas.{deeper}
 use Rattle.vk_publish.specs.Names.{names_most, is_taken, least_free, picked, free_of}
-use Rattle.vk_publish.specs.Left.{HasMany, IsLeastFree, AreAllTaken, HasNoName}
+use Rattle.vk_publish.specs.Outcomes.{HasMany, IsLeastFree, HasNoName}
 use Rattle.vk_publish.proofs.NameLemmas.{not_taken, some_taken, least_found, all_taken}
 
 pub is_some : {X : Type 0} (o : Option X) → (o ≡ None) ⊎ IsSome o

@@ -1,5 +1,5 @@
 -- A publishing: its calls may be made, and what it leaves by its answer and wherever it stops.
-use Rattle.std.proofs.Common.{◌≡◌, ◌<◌, ◌⊎◌, inl, inr, ◌+◌, ◌++◌, [], ◌∷◌, ℕ, List, length, length-append, refl, ap, sym, ◌∙◌, subst, append_assoc, arith}
+use Rattle.std.proofs.Common.{◌≡◌, inl, inr, ◌++◌, [], ◌∷◌, ℕ, List, length, length-append, refl, ap, sym, ◌∙◌, subst, append_assoc, arith}
 use Rattle.std.specs.Prelude.{Option, Some, None, IsSome, IfSome, IfOk, Result, Ok, Err, codes}
 use Rattle.std.specs.List.{Contains}
 use Rattle.std.proofs.lemmas.List.{append-nil}
@@ -7,16 +7,15 @@ use Rattle.std.proofs.lemmas.List.Elements.{Contains-append_left, Contains-appen
 use Rattle.vk_spec.specs.Paths.{Path, Begins}
 use Rattle.vk_spec.specs.Files.{Files}
 use Rattle.vk_spec.specs.States.{Told, State}
-use Rattle.vk_spec.specs.Standing.{Disk, disk_of, bare, under, put, Same, Else, Stands, IsFolder, OnFiles}
-use Rattle.vk_spec.specs.Calls.{list_of, write_of, rename_of, CanMake, IsBareAbove, LeavesFailed, missing, too_large, exists, many}
-use Rattle.vk_spec.proofs.FileLemmas.{none_some}
+use Rattle.vk_spec.specs.Standing.{Disk, disk_of, bare, under, put, Same, Else, Stands, OnFiles}
+use Rattle.vk_spec.specs.Calls.{list_of, write_of, rename_of, CanMake, IsBareAbove, missing, too_large, exists, many}
 use Rattle.vk_spec.proofs.ListLemmas.{contains_first}
 use Rattle.vk_base.specs.declared.limits.Limit.{Limit}
 use Rattle.vk_base.specs.declared.limits.Limit.TheVariants as limit
 use Rattle.vk_base.specs.declared.stops.Outage.{Outage}
 use Rattle.vk_entry.specs.Packages.{File}
 use Rattle.vk_protocol.specs.Keeps.{Alone, Keeps}
-use Rattle.vk_protocol.specs.Protocols.{Reply, Protocol, ends, asks, on_ok}
+use Rattle.vk_protocol.specs.Protocols.{Reply, Protocol, ends, on_ok}
 use Rattle.vk_protocol.specs.Runs.{CanRun, CanRunOn, Does, Ran}
 use Rattle.vk_protocol.proofs.KeptRuns.{On, alone_terms, alone_ends, alone_asks, keeps_can, keeps_ran}
 use Rattle.vk_places.specs.Places.{place, agent_name, entry_at, tmp_of, tmp_at}
@@ -24,7 +23,7 @@ use Rattle.vk_places.proofs.ApartLemmas.{tmp_apart, cut_at, bare_above}
 use Rattle.vk_publish.specs.Names.{free_of}
 use Rattle.vk_publish.specs.Entries.{Placed, entry_files, put_all, HoldsJust, AreApart}
 use Rattle.vk_publish.specs.Publish.{published_by, write_all, publish_of}
-use Rattle.vk_publish.specs.Left.{Between, IsClear, HasMany, IsLeastFree, IsPublished, IsLeftThere, PublishSays, Publishes, PublishKeeps}
+use Rattle.vk_publish.specs.Outcomes.{Between, IsClear, HasMany, IsLeastFree, IsPublished, IsLeftThere, PublishSays, Publishes, PublishKeeps}
 use Rattle.vk_publish.specs.declared.answers.Published.{Published}
 use Rattle.vk_publish.specs.declared.answers.Published.TheVariants as published
 use Rattle.vk_publish.proofs.NewNames.{is_some, Picks, picks, list_left}
@@ -37,6 +36,10 @@ pub record Wrote (cache : Path) (agent : List ℕ) (n : ℕ) (done : List Placed
   pub name : IsLeastFree (tmp_at cache agent) (disk_of f) n
   pub view : HoldsJust done (tmp_at cache agent n) (disk_of g)
   pub only : Else (Begins (tmp_at cache agent n)) (disk_of f) (disk_of g)
+
+-- what holds a file stands
+pub holds_stands : (files : List Placed) (at : Path) (d : Disk) (x : Placed) → Contains files x → HoldsJust files at d → Stands d at
+holds_stands files at d x has view = (x.0, subst (λ o. IsSome o) (sym (view x.0)) (put_has files x bare has))
 
 module _ (cache : Path) (agent digest : List ℕ) where
   -- ---- above the places
@@ -66,18 +69,23 @@ module _ (cache : Path) (agent digest : List ℕ) where
     | inr some ↦ (let y = put_bare done q some in absurd (none y.0 y.1 y.2))
   ]
 
-  can_write : (n : ℕ) (done : List Placed) (x : Placed) (f g : Files) → ((y : Placed) → Contains done y → (part : List ℕ) (rest : Path) → (y.0 ≡ x.0 ++ part ∷ rest → ⊥) × (x.0 ≡ y.0 ++ part ∷ rest → ⊥)) → Wrote cache agent n done f g
-      → CanMake (write_of (tmp_at cache agent n ++ x.0) x.1) (disk_of g)
-  can_write n done x f g apart w = (
+  pub can_write : (n : ℕ) (done : List Placed) (x : Placed) (d : Disk) → ((y : Placed) → Contains done y → (part : List ℕ) (rest : Path) → (y.0 ≡ x.0 ++ part ∷ rest → ⊥) × (x.0 ≡ y.0 ++ part ∷ rest → ⊥)) → IsBareAbove d (tmp_at cache agent n) → HoldsJust done (tmp_at cache agent n) d
+      → CanMake (write_of (tmp_at cache agent n ++ x.0) x.1) d
+  can_write n done x d apart above view = (
     (λ q part rest is. elim (cut_at (tmp_at cache agent n) x.0 q part rest is) [
-      | inl c ↦ above_tmp n done f g w q c.0 c.1 c.2
-      | inr c ↦ ap (disk_of g) c.1 ∙ w.view c.0 ∙ none_put done c.0 (λ y has same. (apart y has part rest).1 (c.2 ∙ ap (λ l. l ++ part ∷ rest) same))
+      | inl c ↦ above q c.0 c.1 c.2
+      | inr c ↦ ap d c.1 ∙ view c.0 ∙ none_put done c.0 (λ y has same. (apart y has part rest).1 (c.2 ∙ ap (λ l. l ++ part ∷ rest) same))
     ]),
     (λ folder.
-        (let some = subst (λ o. IsSome o) (w.view (x.0 ++ folder.0 ∷ folder.1)) (subst (λ p. IsSome (disk_of g p)) (append_assoc (tmp_at cache agent n) x.0 (folder.0 ∷ folder.1)) folder.2) in
+        (let some = subst (λ o. IsSome o) (view (x.0 ++ folder.0 ∷ folder.1)) (subst (λ p. IsSome (d p)) (append_assoc (tmp_at cache agent n) x.0 (folder.0 ∷ folder.1)) folder.2) in
         let y = put_bare done (x.0 ++ folder.0 ∷ folder.1) some in
         (apart y.0 y.1 folder.0 folder.1).0 (sym y.2))),
   )
+
+  -- what was put into a path that nothing stood at
+  pub view_more : (n : ℕ) (done : List Placed) (x : Placed) (d e : Disk) → Same (put (tmp_at cache agent n ++ x.0) x.1 d) e → HoldsJust done (tmp_at cache agent n) d → HoldsJust (done ++ x ∷ []) (tmp_at cache agent n) e
+  view_more n done x d e is view r =
+      is (tmp_at cache agent n ++ r) ∙ put_under (tmp_at cache agent n) x.0 x.1 d r ∙ put_all_same (x ∷ []) (put_all done bare) (under (tmp_at cache agent n) d) view r ∙ sym (put_split done (x ∷ []) bare r)
 
   else_then : (P : Path → Type 0) (d e h : Disk) → Else P d e → Else P e h → Else P d h
   else_then P d e h one two q other = two q other ∙ one q other
@@ -90,7 +98,7 @@ module _ (cache : Path) (agent digest : List ℕ) where
     clear = w.clear;
     few = w.few;
     name = w.name;
-    view = λ r. is (tmp_at cache agent n ++ r) ∙ put_under (tmp_at cache agent n) x.0 x.1 (disk_of g) r ∙ put_all_same (x ∷ []) (put_all done bare) (under (tmp_at cache agent n) (disk_of g)) w.view r ∙ sym (put_split done (x ∷ []) bare r);
+    view = view_more n done x (disk_of g) (disk_of h) is w.view;
     only = else_then (Begins (tmp_at cache agent n)) (disk_of f) (disk_of g) (disk_of h) w.only (put_only n x (disk_of g) (disk_of h) (put_else (tmp_at cache agent n ++ x.0) x.1 (disk_of g) (disk_of h) is));
   }
 
@@ -148,14 +156,10 @@ module _ (cache : Path) (agent digest : List ℕ) where
     left_there : (n : ℕ) (f g : Files) → Wrote cache agent n files f g → Stands (disk_of g) (entry_at cache digest) → IsLeftThere cache agent digest files (disk_of f) (disk_of g)
     left_there n f g w stands = record { few = w.few; number = n; name = w.name; was = stood_before (disk_of f) (disk_of g) (entry_at cache digest) (entry_same n (disk_of f) (disk_of g) w.only) stands; made = w.view; others = w.only }
 
-    -- what was written stands
-    made_stands : (n : ℕ) (f g : Files) (x : Placed) → Contains files x → Wrote cache agent n files f g → Stands (disk_of g) (tmp_at cache agent n)
-    made_stands n f g x has w = (x.0, subst (λ o. IsSome o) (sym (w.view x.0)) (put_has files x bare has))
-
     move_replied : (n : ℕ) (f g h : Files) (reply : Reply (rename_of (tmp_at cache agent n) (entry_at cache digest))) → (x : Placed) → Contains files x → Wrote cache agent n files f g → Does (rename_of (tmp_at cache agent n) (entry_at cache digest)) reply g h
         → Kept f h × IsKept f (ends (Ok (published_by reply))) h
     move_replied n f g h (Ok u) x has w does = (let is = moved n f g h w does in (inr (published_kept (disk_of f) (disk_of h) is), alone_ends (Kept f) (Said f) (Ok published.Now) h is))
-    move_replied n f g h (Err missing) x has w does = absurd (does.says (made_stands n f g x has w))
+    move_replied n f g h (Err missing) x has w does = absurd (does.says (holds_stands files (tmp_at cache agent n) (disk_of g) x has w.view))
     move_replied n f g h (Err too_large) x has w does = absurd does.says
     move_replied n f g h (Err exists) x has w does = (
       still f g h does.leaves (writing n f g w.name w.only),
@@ -181,7 +185,7 @@ module _ (cache : Path) (agent digest : List ℕ) where
     writes_kept done (y ∷ todo) n f g x has apart split w =
         let y_in : Contains files y = subst (λ l. Contains l y) (sym split) (Contains-append_right done (y ∷ todo) y (contains_first y todo)) in
         alone_asks (Kept f) (Said f) (write_of (tmp_at cache agent n ++ y.0) y.1) (λ reply. write_all (tmp_at cache agent n) todo (entry_at cache digest)) g
-        (can_write n done y f g (λ z z_done part rest. (let z_in : Contains files z = subst (λ l. Contains l z) (sym split) (Contains-append_left done (y ∷ todo) z z_done) in (apart y z y_in z_in part rest, apart z y z_in y_in part rest))) w)
+        (can_write n done y (disk_of g) (λ z z_done part rest. (let z_in : Contains files z = subst (λ l. Contains l z) (sym split) (Contains-append_left done (y ∷ todo) z z_done) in (apart y z y_in z_in part rest, apart z y z_in y_in part rest))) (above_tmp n done f g w) w.view)
         (λ h left. writing n f h w.name (else_then (Begins (tmp_at cache agent n)) (disk_of f) (disk_of g) (disk_of h) w.only (put_only n y (disk_of g) (disk_of h) left)))
         (λ reply h does. write_replied done todo y n f g h reply w does (λ wrote. writes_kept (done ++ y ∷ []) todo n f h x has apart (split ∙ sym (append_assoc done (y ∷ []) todo)) wrote))
 
@@ -233,15 +237,14 @@ module _ (cache : Path) (agent digest text : List ℕ) (built : List File) (apar
       (subst (λ (o : Option Told). On (λ g. Kept cache agent digest all t.files g × IsKept cache agent digest all t.files (publish_of cache agent digest all) g) o) (sym is) (inl refl, entry_kept t.files clear)) ran
 
   -- what a run leaves, wherever it stops, and by its answer
-  pub publish_ran : (r : Result (Result Published Limit) Outage) (a b : State) → OnFiles (IsClear cache) a → Ran (publish_of cache agent digest all) r a b
+  publish_ran : (r : Result (Result Published Limit) Outage) (a b : State) → OnFiles (IsClear cache) a → Ran (publish_of cache agent digest all) r a b
       → Between (λ f g. PublishKeeps cache agent digest all f g × IfOk r (λ x. PublishSays cache agent digest all x f g)) a b
   publish_ran r a b clear ran = ran_on r a b a.told refl clear ran
 
   pub publish_keeps : (r : Result (Result Published Limit) Outage) (a b : State) → OnFiles (IsClear cache) a → Ran (publish_of cache agent digest all) r a b → Between (PublishKeeps cache agent digest all) a b
   publish_keeps r a b clear ran = told_then (λ f g. PublishKeeps cache agent digest all f g × IfOk r (λ x. PublishSays cache agent digest all x f g)) (PublishKeeps cache agent digest all) a.told b.told (λ f g h. h.0) (publish_ran r a b clear ran)
 
-  pub publish_says : (r : Result (Result Published Limit) Outage) (a b : State) → OnFiles (IsClear cache) a → Ran (publish_of cache agent digest all) r a b → Between (λ f g. IfOk r (λ x. PublishSays cache agent digest all x f g)) a b
-  publish_says r a b clear ran = told_then (λ f g. PublishKeeps cache agent digest all f g × IfOk r (λ x. PublishSays cache agent digest all x f g)) (λ f g. IfOk r (λ x. PublishSays cache agent digest all x f g)) a.told b.told (λ f g h. h.1) (publish_ran r a b clear ran)
-
-  pub publish_says_by : (r s : Result (Result Published Limit) Outage) (a b : State) → s ≡ r → OnFiles (IsClear cache) a → Ran (publish_of cache agent digest all) r a b → Between (λ f g. IfOk s (λ x. PublishSays cache agent digest all x f g)) a b
-  publish_says_by r s a b same clear ran = subst (λ z. Between (λ f g. IfOk z (λ x. PublishSays cache agent digest all x f g)) a b) (sym same) (publish_says r a b clear ran)
+  pub publish_says : (r s : Result (Result Published Limit) Outage) (a b : State) → s ≡ r → OnFiles (IsClear cache) a → Ran (publish_of cache agent digest all) r a b → Between (λ f g. IfOk s (λ x. PublishSays cache agent digest all x f g)) a b
+  publish_says r s a b same clear ran =
+      subst (λ z. Between (λ f g. IfOk z (λ x. PublishSays cache agent digest all x f g)) a b) (sym same)
+      (told_then (λ f g. PublishKeeps cache agent digest all f g × IfOk r (λ x. PublishSays cache agent digest all x f g)) (λ f g. IfOk r (λ x. PublishSays cache agent digest all x f g)) a.told b.told (λ f g h. h.1) (publish_ran r a b clear ran))

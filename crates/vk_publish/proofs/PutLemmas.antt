@@ -1,10 +1,10 @@
 -- Files that are put one after the other, and those of an entry.
-use Rattle.std.proofs.Common.{◌≡◌, ◌<◌, ◌⊎◌, inl, inr, ◌+◌, ◌++◌, [], ◌∷◌, ℕ, List, length, map, get_or, cond, refl, ap, sym, ◌∙◌, subst, length-append, append_assoc, arith}
-use Rattle.std.specs.Prelude.{Option, Some, None, IsSome, codes}
+use Rattle.std.proofs.Common.{◌≡◌, ◌<◌, ◌⊎◌, inl, inr, ◌++◌, [], ◌∷◌, ℕ, List, length, map, get_or, cond, refl, ap, sym, ◌∙◌, subst, length-append, arith}
+use Rattle.std.specs.Prelude.{Some, IsSome, codes}
 use Rattle.std.specs.List.{Contains}
 use Rattle.std.proofs.lemmas.List.{append_cancel_left}
 use Rattle.std.proofs.lemmas.List.Elements.{Contains-append_cases, Contains-append_right}
-use Rattle.vk_spec.specs.Paths.{Path, Begins}
+use Rattle.vk_spec.specs.Paths.{Path}
 use Rattle.vk_spec.specs.Standing.{Disk, bare, under, put, Same, Else}
 use Rattle.vk_spec.proofs.FileLemmas.{same_or_other, ties_same, ties_other, none_some}
 use Rattle.vk_spec.proofs.ListLemmas.{contains_nothing, contains_first, contains_later, contains_cases}

@@ -1,11 +1,11 @@
 -- The steps of a publishing.
-use Rattle.std.proofs.Common.{◌≡◌, ◌≤◌, ◌<◌, ◌+◌, ◌++◌, [], ◌∷◌, ℕ, List, length, map, refl, ap, sym, ◌∙◌, subst, arith}
+use Rattle.std.proofs.Common.{◌≡◌, ◌<◌, ◌+◌, ◌++◌, [], ◌∷◌, ℕ, List, length, map, refl, ap, sym, ◌∙◌, subst}
 use Rattle.std.specs.Prelude.{drop, get_or, Result, Ok, Err}
 use Rattle.std.proofs.lemmas.List.{drop_more, drop-map}
 use Rattle.vk_spec.specs.Paths.{Path}
 use Rattle.vk_spec.specs.States.{State}
 use Rattle.vk_spec.specs.Standing.{OnFiles}
-use Rattle.vk_spec.specs.Calls.{Call, write_of, CanMake}
+use Rattle.vk_spec.specs.Calls.{CanMake}
 use Rattle.vk_base.specs.declared.stops.Outage.{Outage}
 use Rattle.vk_entry.specs.Packages.{File}
 use Rattle.vk_entry.specs.PackageViews.{file_view}

@@ -1,7 +1,7 @@
 -- What is left of a setting aside that has come so far.
 use Rattle.std.specs.Prelude.{ℕ, Result, Ok, Err}
 use Rattle.vk_base.specs.declared.limits.Limit.{Limit}
-use Rattle.vk_protocol.specs.Protocols.{Protocol, ends, on_ok}
+use Rattle.vk_protocol.specs.Protocols.{Protocol, ends}
 use Rattle.vk_places.specs.Places.{entry_at, damaged_at}
 use Rattle.vk_publish.specs.Aside.{move_out, aside_of}
 use Rattle.vk_publish.specs.declared.answers.Moved.{Moved}

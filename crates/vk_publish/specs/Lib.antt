@@ -3,7 +3,8 @@ pub mod Names
 pub mod Entries
 pub mod Publish
 pub mod Aside
-pub mod Left
+pub mod Outcomes
+pub mod Shared
 -- what functions say besides
 pub mod PublishMachine
 pub mod AsideMachine

@@ -2,7 +2,6 @@
 use Rattle.std.specs.Prelude.{◌++◌, [], ◌∷◌, ℕ, List, map, drop, Result, Ok, Err}
 use Rattle.vk_spec.specs.Calls.{Call, write_of}
 use Rattle.vk_base.specs.declared.limits.Limit.{Limit}
-use Rattle.vk_base.specs.declared.limits.Limit.TheVariants as limit
 use Rattle.vk_protocol.specs.Protocols.{Protocol, ends, on_ok}
 use Rattle.vk_places.specs.Places.{entry_at, tmp_at, text_at}
 use Rattle.vk_publish.specs.Entries.{Placed, placed_file, last_files, entry_files}

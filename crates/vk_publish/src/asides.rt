@@ -1,6 +1,8 @@
 //! The setting aside of an entry, one call after the other.
 ghost use Rattle.std.specs.Prelude.{◌≡◌, None, IfOk};
+ghost use Rattle.vk_spec.specs.States.{Ends};
 ghost use Rattle.vk_spec.specs.Standing.{OnFiles, Stands};
+ghost use Rattle.vk_base.specs.Stops.{has_failed};
 ghost use Rattle.vk_base.specs.Names.{name_fault, word_rule};
 ghost use Rattle.vk_base.specs.declared.limits.Limit.TheVariants as limit;
 ghost use Rattle.vk_tree.specs.Answers.{entries_of, list_refusal, move_refusal};
@@ -9,7 +11,7 @@ ghost use Rattle.vk_protocol.specs.Protocols.{ends, on_ok};
 ghost use Rattle.vk_protocol.specs.Runs.{CanAsk, CanRunOn, IsAtEnd, NextIs, Ran};
 ghost use Rattle.vk_places.specs.Places.{entry_at};
 ghost use Rattle.vk_publish.specs.Names.{free_of};
-ghost use Rattle.vk_publish.specs.Left.{AsideKeeps, AsideSays, Between, IsClear};
+ghost use Rattle.vk_publish.specs.Outcomes.{AsideKeeps, AsideSays, Between, IsClear};
 ghost use Rattle.vk_publish.specs.Aside.{aside_of, moved_by};
 ghost use Rattle.vk_publish.specs.AsideMachine.{move_left, aside_left, aside_whole};
 ghost use Rattle.vk_publish.specs.declared.asides.AsideNow.TheVariants as next;
@@ -168,8 +170,9 @@ fn aside_target<T: Tree>(target: Target<'_>, tree: &mut T) -> Result<Result<Move
 /// Sets an entry aside: one rename moves it to the least free name of the agent's in `damaged`.
 /// Something has to stand at the entry, where the tree tells its files; `Gone` and `Taken` never
 /// come then. `Entries` exactly where `damaged` has too many entries to list, and else `Damaged`
-/// where all names of the agent's are taken there; nothing was changed then. Wherever it stops, the
-/// entry is as it was, or stands whole at that name, and all else stays.
+/// where all names of the agent's are taken there; nothing was changed then. `Failed` only where the
+/// tree's count of faults may have increased. Wherever it stops, the entry is as it was, or stands
+/// whole at that name, and all else stays.
 pub fn set_aside<'a, T: Tree>(
     alloc: Global,
     tree: &mut T,
@@ -183,6 +186,7 @@ pub fn set_aside<'a, T: Tree>(
         (T.state tree.old) }
     ensures ran { Ran (aside_of cache.now agent.now digest.now.bytes) (split result)
         (T.state tree.old) (T.state tree.new) }
+    ensures counts { Ends (has_failed result) (T.state tree.old) (T.state tree.new) }
     ensures keeps { Between (AsideKeeps cache.now agent.now digest.now.bytes) (T.state tree.old)
         (T.state tree.new) }
     ensures says { Between (λ f g. IfOk (split result)

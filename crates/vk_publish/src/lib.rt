@@ -7,6 +7,7 @@
 mod answers;
 mod asides;
 mod jobs;
+pub mod laws;
 mod names;
 mod publishing;
 

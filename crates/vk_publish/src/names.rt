@@ -1,6 +1,6 @@
 //! The least number of an agent's folder that isn't taken.
-ghost use Rattle.std.specs.Prelude.{◌≡◌, IfOk};
-ghost use Rattle.std.specs.List.{list_any};
+ghost use Rattle.std.specs.Prelude.{◌≡◌, ◌≤◌, IfOk, IfSome, is_some, length};
+ghost use Rattle.std.specs.List.{position};
 ghost use Rattle.std.specs.Str.{bytes_eq};
 ghost use Rattle.vk_base.specs.Names.{IsName, word_rule};
 ghost use Rattle.vk_tree.specs.Answers.{entries_of, list_refusal};
@@ -29,27 +29,37 @@ fn is_named(listed: &Listed, name: &str) -> bool
     listed.name.as_str() == name
 }
 
-fn any_named(listed: &[Listed], name: &str) -> bool
-    ensures { result ≡ list_any (λ l. bytes_eq l.name name.now) listed.now }
+// The place of the first entry with this name.
+fn place_of(listed: &[Listed], name: &str) -> Option<usize>
+    ensures { result ≡ position (λ l. bytes_eq l.name name.now) listed.now }
 {
-    listed.iter().any(|one| is_named(one, name))
+    listed.iter().position(|one| is_named(one, name))
 }
 
-// Whether a name is listed.
-fn is_taken(listed: &[Listed], name: &str) -> bool
-    ensures { result ≡ is_taken (entries_of listed.now) name.now }
+// The place behind an entry with this name: one of those from a place on, or else one before it. So
+// names that stand in order are found by one walk.
+fn place_behind(listed: &[Listed], from: usize, name: &str) -> Option<usize>
+    requires { from ≤ length listed.now }
+    ensures taken { is_some result ≡ is_taken (entries_of listed.now) name.now }
+    ensures within { IfSome result (λ place. place ≤ length listed.now) }
 {
-    any_named(listed, name)
+    let (before, after) = listed.split_at(from);
+    match place_of(after, name) {
+        Some(place) => Some(from + place + 1),
+        None => place_of(before, name).map(|place| place + 1),
+    }
 }
 
 // The first of so many numbers whose name isn't listed.
 fn least_of(alloc: Global, agent: &str, listed: &[Listed], most: u32) -> Result<Option<u32>, Memory>
     ensures { IfOk result (λ n. n ≡ least_from agent.now (entries_of listed.now) most 0) }
 {
+    let mut behind = 0;
     for number in 0..most {
         let name = agent_folder(alloc, agent, number)?;
-        if !is_taken(listed, name.as_str()) {
-            return Ok(Some(number));
+        match place_behind(listed, behind, name.as_str()) {
+            Some(place) => behind = place,
+            None => return Ok(Some(number)),
         }
     }
     Ok(None)

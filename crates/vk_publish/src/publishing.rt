@@ -1,6 +1,8 @@
 //! The publishing of an entry, one call after the other.
 ghost use Rattle.std.specs.Prelude.{◌≡◌, ◌++◌, ◌∷◌, [], None, IfOk, drop, map};
+ghost use Rattle.vk_spec.specs.States.{Ends};
 ghost use Rattle.vk_spec.specs.Standing.{OnFiles};
+ghost use Rattle.vk_base.specs.Stops.{has_failed};
 ghost use Rattle.vk_spec.specs.Calls.{CanMake};
 ghost use Rattle.vk_base.specs.Names.{name_fault, word_rule};
 ghost use Rattle.vk_base.specs.declared.limits.Limit.TheVariants as limit;
@@ -10,12 +12,12 @@ ghost use Rattle.vk_entry.specs.Contents.{content_of, contents_text};
 ghost use Rattle.vk_protocol.specs.Asking.{DoneSays, split, reply_by};
 ghost use Rattle.vk_protocol.specs.Protocols.{ends};
 ghost use Rattle.vk_protocol.specs.Runs.{Asked, CanAsk, CanRunOn, IsAtEnd, NextIs, Ran};
-ghost use Rattle.vk_places.specs.Places.{tmp_at};
+ghost use Rattle.vk_places.specs.Places.{contents_at, file_at, text_at, tmp_at};
 ghost use Rattle.vk_publish.specs.Names.{free_of};
 ghost use Rattle.vk_publish.specs.declared.publishing.PublishNow.TheVariants as next;
 ghost use Rattle.vk_publish.specs.Entries.{AreApart, entry_files, last_files, placed_file};
 ghost use Rattle.vk_publish.specs.Publish.{publish_of, published_by};
-ghost use Rattle.vk_publish.specs.Left.{Between, IsClear, PublishKeeps, PublishSays};
+ghost use Rattle.vk_publish.specs.Outcomes.{Between, IsClear, PublishKeeps, PublishSays};
 ghost use Rattle.vk_publish.specs.PublishMachine.{whole_of, write_left, files_left, goes_on};
 ghost use Rattle.vk_publish.specs.PublishMachine.{publish_left, write_call};
 
@@ -88,6 +90,14 @@ fn made_in(target: &Target<'_>, number: u32) -> Result<TreePath, Memory>
     tmp_in(target.alloc, target.cache, target.agent, number)
 }
 
+fn file_place(target: &Target<'_>, number: u32, path: &TreePath) -> Result<TreePath, Memory>
+    ensures { IfOk result (λ p. p ≡ file_at (tmp_at target.now.cache.now target.now.agent.now number)
+        path.now) }
+{
+    let at = made_in(target, number)?;
+    file_in(target.alloc, &at, path)
+}
+
 // Writes one file of the package.
 fn write_file<T: Tree>(
     job: &PublishJob<'_>,
@@ -100,8 +110,7 @@ fn write_file<T: Tree>(
     ensures { Asked (write_call job.now number (placed_file (file_view file.now))) DoneSays result
         (T.state tree.old) (T.state tree.new) }
 {
-    let at = made_in(&job.target, number)?;
-    let place = file_in(job.target.alloc, &at, &file.path)?;
+    let place = file_place(&job.target, number, &file.path)?;
     ask_write(tree, &place, file.bytes.as_slice())
 }
 
@@ -111,6 +120,14 @@ fn list_text(alloc: Global, package: &Package) -> Result<List<u8>, Memory>
 {
     let lines = contents_of(alloc, package)?;
     write_contents(alloc, &lines)
+}
+
+fn list_place(target: &Target<'_>, number: u32) -> Result<TreePath, Memory>
+    ensures { IfOk result (λ p. p
+        ≡ contents_at (tmp_at target.now.cache.now target.now.agent.now number)) }
+{
+    let at = made_in(target, number)?;
+    contents_in(target.alloc, &at)
 }
 
 // Writes the list of what the package contains.
@@ -125,11 +142,18 @@ fn write_list<T: Tree>(
     ensures { NextIs (write_left job.now number (last_files job.now.text.now job.now.built.now))
         (publish_left job.now) result (T.state tree.old) (T.state tree.new) }
 {
-    let at = made_in(&job.target, number)?;
-    let place = contents_in(job.target.alloc, &at)?;
+    let place = list_place(&job.target, number)?;
     let bytes = list_text(job.target.alloc, job.built)?;
     ask_write(tree, &place, bytes.as_slice())?;
     Ok(PublishNow::Text { number })
+}
+
+fn text_place(target: &Target<'_>, number: u32) -> Result<TreePath, Memory>
+    ensures { IfOk result (λ p. p
+        ≡ text_at (tmp_at target.now.cache.now target.now.agent.now number)) }
+{
+    let at = made_in(target, number)?;
+    text_in(target.alloc, &at)
 }
 
 // Writes the text.
@@ -143,8 +167,7 @@ fn write_text<T: Tree>(
     ensures { NextIs (publish_left job.now (next.Text number)) (publish_left job.now) result
         (T.state tree.old) (T.state tree.new) }
 {
-    let at = made_in(&job.target, number)?;
-    let place = text_in(job.target.alloc, &at)?;
+    let place = text_place(&job.target, number)?;
     ask_write(tree, &place, job.text)?;
     Ok(PublishNow::Moves { number })
 }
@@ -280,8 +303,8 @@ fn publish_job<T: Tree>(
 /// which one rename moves to the entry. `Already` exactly where something stands at the entry's path
 /// or below it, and `Gone` never, where the tree tells its files. `Entries` exactly where `tmp` has
 /// too many entries to list, and else `Tmp` where all names of the agent's are taken there; nothing
-/// was changed then. Wherever it stops, the entry is as it was or whole, and all else stays but what
-/// is below that name.
+/// was changed then. `Failed` only where the tree's count of faults may have increased. Wherever it
+/// stops, the entry is as it was or whole, and all else stays but what is below that name.
 pub fn publish<'a, T: Tree>(
     alloc: Global,
     tree: &mut T,
@@ -296,6 +319,7 @@ pub fn publish<'a, T: Tree>(
     requires clear { OnFiles (IsClear cache.now) (T.state tree.old) }
     ensures ran { Ran (publish_of cache.now agent.now digest.now.bytes
         (entry_files text.now built.now)) (split result) (T.state tree.old) (T.state tree.new) }
+    ensures counts { Ends (has_failed result) (T.state tree.old) (T.state tree.new) }
     ensures keeps { Between (PublishKeeps cache.now agent.now digest.now.bytes
         (entry_files text.now built.now)) (T.state tree.old) (T.state tree.new) }
     ensures says { Between (λ f g. IfOk (split result) (λ x. PublishSays cache.now agent.now

@@ -13,7 +13,7 @@ use Rattle.vk_base.specs.Paths.{parts_of}
 use Rattle.vk_entry.specs.Packages.{File}
 use Rattle.vk_resolution.proofs.Members.{contains_single}
 use Rattle.vk_publish.specs.Entries.{AreApart}
-use Rattle.vk_publish.specs.Left.{IsClear}
+use Rattle.vk_publish.specs.Outcomes.{IsClear}
 
 -- no file stands above a place in a folder of the cache, so none stands at the cache or above it
 above_cache : (cache : Path) (folder name : List ℕ) (f : Files) → HasRoomFor ((cache ++ folder ∷ []) ++ name ∷ []) f → (front rest : Path) → cache ≡ front ++ rest → disk_of f front ≡ None

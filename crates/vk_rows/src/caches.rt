@@ -10,7 +10,7 @@ ghost use Rattle.vk_entry.specs.Packages.{File};
 ghost use Rattle.vk_entry.specs.PackageViews.{file_view};
 ghost use Rattle.vk_places.specs.Places.{entry_at};
 ghost use Rattle.vk_publish.specs.Entries.{AreApart};
-ghost use Rattle.vk_publish.specs.Left.{IsClear};
+ghost use Rattle.vk_publish.specs.Outcomes.{IsClear};
 
 use crate::changes::bytes_of;
 use std::alloc::Global;
