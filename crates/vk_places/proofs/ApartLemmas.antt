@@ -1,5 +1,5 @@
 -- Places in a cache that are apart, and what stands above them.
-use Rattle.std.proofs.Common.{◌≡◌, ◌⊎◌, inl, inr, ◌+◌, ◌++◌, [], ◌∷◌, ℕ, List, length, take, get_or, refl, ap, sym, ◌∙◌, length-append, append_assoc, arith}
+use Rattle.std.proofs.Common.{◌≡◌, ◌⊎◌, inl, inr, ◌++◌, [], ◌∷◌, ℕ, List, length, take, get_or, refl, ap, sym, ◌∙◌, length-append, append_assoc, arith}
 use Rattle.std.specs.Prelude.{codes, None}
 use Rattle.std.proofs.Math.Seq.{take-append_seam}
 use Rattle.std.proofs.lemmas.List.{append_cancel_left, append-nil}

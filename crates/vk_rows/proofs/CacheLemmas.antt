@@ -1,7 +1,6 @@
 -- Where a cache in memory may be written, and which packages may be put there.
 use Rattle.std.proofs.Common.{◌≡◌, ◌<◌, ◌≤◌, ◌+◌, ◌++◌, ◌∷◌, [], ℕ, List, length, map, take, get_or, refl, ap, sym, ◌∙◌, subst, inl, inr, append_assoc}
 use Rattle.std.specs.Prelude.{None, codes}
-use Rattle.std.specs.FinMap as map
 use Rattle.std.specs.List.{Contains}
 use Rattle.std.proofs.lemmas.List.{append-nil, map-append, take_all, take_more}
 use Rattle.std.proofs.lemmas.List.Elements.{Contains-append_cases}
