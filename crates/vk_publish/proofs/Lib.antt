@@ -7,3 +7,4 @@ pub mod AsideSteps
 pub mod AsideKept
 pub mod SharedLemmas
 pub mod SharedPublish
+pub mod Conditions
