@@ -1,5 +1,5 @@
 -- What is left of a look that has come so far.
-use Rattle.std.specs.Prelude.{ℕ, List, Option, Result, Ok}
+use Rattle.std.specs.Prelude.{Bool, true, false, ℕ, List, Option, Result, Ok}
 use Rattle.vk_spec.specs.Calls.{read_of, Refusal}
 use Rattle.vk_protocol.specs.Protocols.{Protocol, ends, asks, on_ok, each, ◌>>=◌}
 use Rattle.vk_walk.specs.WalkMachine.{walk_means}
@@ -47,6 +47,15 @@ now_means w (now.Contents kept) = look_contents w kept
 now_means w (now.Walks kept lines walk) = walk_left w kept lines walk
 now_means w (now.Files kept l) = at_file w kept l
 now_means w (now.Ended l) = ends l
+
+-- whether it may be to make a call
+abbrev pub may_ask : LookNow → Bool
+may_ask now.Kind = true
+may_ask now.Text = true
+may_ask (now.Contents kept) = true
+may_ask (now.Walks kept lines walk) = true
+may_ask (now.Files kept l) = true
+may_ask (now.Ended l) = false
 
 unfoldable pub look_means : Looking → Protocol Looked
 look_means l = now_means (wanted_view l.wanted) l.at

@@ -4,7 +4,7 @@ ghost use Rattle.vk_protocol.specs.Protocols.{ends};
 ghost use Rattle.vk_protocol.specs.Runs.{IsAtEnd, NextIs};
 ghost use Rattle.vk_look.specs.LookIs.{Wanted};
 ghost use Rattle.vk_look.specs.Looks.{damaged, look_of};
-ghost use Rattle.vk_looking.specs.LookMachine.{look_means, now_means, wanted_view};
+ghost use Rattle.vk_looking.specs.LookMachine.{look_means, may_ask, now_means, wanted_view};
 
 use crate::files::read_file;
 use crate::left::{FilesLeft, Lines};
@@ -76,7 +76,8 @@ pub(crate) fn damaged(harm: Harm) -> LookNow
 impl LookNow {
     /// Whether it may be to make a call; it has come to its end where not. Takes no memory.
     pub fn asks(&self) -> bool
-        ensures { result ≡ false → (w : Wanted) → IsAtEnd (now_means w self.now) }
+        ensures state { result ≡ may_ask self.now }
+        ensures end { result ≡ false → (w : Wanted) → IsAtEnd (now_means w self.now) }
     {
         match self {
             LookNow::Kind => true,
