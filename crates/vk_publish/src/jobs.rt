@@ -18,6 +18,7 @@ pub struct Target<'a> {
     pub agent: &'a str,
     /// The digest of the entry's text.
     pub digest: &'a Digest,
+    /// The agent's name has no fault.
     pub ghost named: { name_fault word_rule agent.now ≡ None },
 }
 
