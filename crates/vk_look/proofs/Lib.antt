@@ -5,3 +5,4 @@ pub mod OneAnswer
 pub mod OnceRuns
 pub mod CallLemmas
 pub mod OnceLemmas
+pub mod LimitLemmas

@@ -25,6 +25,11 @@ pub record AsksFirst {A : Type 0} (place : Path) (p : Protocol A) : Type 0 where
   pub nothing : IsAtEnd (next (Ok is_absent))
   pub refused : (r : Refusal) → IsAtEnd (next (Err r))
 
+-- whatever is replied, it comes to such an end
+abbrev pub ComesTo : {A : Type 0} → (A → Type 0) → Protocol A → Type 0
+ComesTo P (ends x) = P x
+ComesTo P (asks call k) = (reply : Reply call) → ComesTo P (k reply)
+
 -- ---- no path is read twice
 
 -- a call reads none of these paths

@@ -1,6 +1,6 @@
 -- A look at an entry of a cache, as a protocol: what stands at the entry; its text; its contents
 -- list; a walk of it; and each listed file, up to the first harm.
-use Rattle.std.specs.Prelude.{◌++◌, ◌==◌, ◌&&◌, [], ◌∷◌, ℕ, List, length, Bool, true, false}
+use Rattle.std.specs.Prelude.{◌≡◌, ◌++◌, ◌==◌, ◌&&◌, [], ◌∷◌, ℕ, List, length, Bool, true, false}
 use Rattle.std.specs.Prelude.{Option, Some, None, Result, Ok, Err, nat_le, if◌then◌else◌}
 use Rattle.std.specs.Str.{bytes_eq}
 use Rattle.sha2.specs.Sha256.{sha256}
@@ -28,6 +28,11 @@ use Rattle.vk_look.specs.declared.answers.Look.TheVariants.{Hit, Absent, Damaged
 -- a look, or the limit that is passed
 abbrev pub Looked : Type 0
 Looked = Result Look base.Limit
+
+-- no limit is passed but that of bytes
+abbrev pub IsByBytes : ℕ → Looked → Type 0
+IsByBytes most (Ok look) = Unit {0}
+IsByBytes most (Err limit) = limit ≡ Bytes most
 
 abbrev pub damaged : Harm → Protocol Looked
 damaged harm = ends (Ok (Damaged harm))

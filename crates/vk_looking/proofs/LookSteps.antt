@@ -11,7 +11,8 @@ use Rattle.vk_protocol.specs.Protocols.{Protocol, ends, asks}
 use Rattle.vk_protocol.specs.Runs.{AsksOnly, Reads, Ran, Tells, CanRunOn, CameTo, NextIs, Stepped}
 use Rattle.vk_protocol.proofs.RunLemmas.{ran_tells, reads_can_on, each_on, ran_to, lack_here}
 use Rattle.vk_look.specs.LookIs.{Wanted, LookIs}
-use Rattle.vk_look.specs.Looks.{Looked, look_of}
+use Rattle.vk_look.specs.Looks.{IsByBytes, Looked, look_of}
+use Rattle.vk_look.proofs.LimitLemmas.{ran_by_bytes}
 use Rattle.vk_look.proofs.LookTells.{look_tells}
 use Rattle.vk_look.specs.LookCalls.{ReadOnceBelow}
 use Rattle.vk_look.proofs.CallLemmas.{look_below, look_reads}
@@ -56,3 +57,7 @@ module _ (w : Wanted) where
 
   pub look_once : (r : Result Looked Outage) (a b : State) → Ran (look_of w) r a b → ReadOnceBelow w.entry (was_out r) a b
   look_once r a b ran = ran_once w.entry (look_of w) r a b (look_below w) (look_anew w) ran
+
+  pub look_limit : (r : Result Looked Outage) (a b : State) → Ran (look_of w) r a b → IfOk r (IsByBytes w.most)
+  look_limit (Ok l) a b ran = ran_by_bytes w l a b ran
+  look_limit (Err e) a b ran = tt

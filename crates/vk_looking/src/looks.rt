@@ -6,7 +6,7 @@ ghost use Rattle.vk_protocol.specs.Asking.{split};
 ghost use Rattle.vk_protocol.specs.Runs.{Ran};
 ghost use Rattle.vk_places.specs.Places.{entry_at};
 ghost use Rattle.vk_look.specs.LookIs.{LookIs, wanted_in};
-ghost use Rattle.vk_look.specs.Looks.{look_of};
+ghost use Rattle.vk_look.specs.Looks.{IsByBytes, look_of};
 ghost use Rattle.vk_look.specs.LookCalls.{ReadOnceBelow};
 ghost use Rattle.vk_looking.specs.LookMachine.{wanted_view};
 
@@ -87,6 +87,7 @@ pub fn look<T: Tree>(
         (λ l. LookIs (wanted_in cache.now hash.now.bytes text.now most) l d)) (T.state tree.old) }
     ensures ran { Ran (look_of (wanted_in cache.now hash.now.bytes text.now most)) (split result)
         (T.state tree.old) (T.state tree.new) }
+    ensures limit { IfOk (split result) (IsByBytes most) }
     ensures reads { ReadOnceBelow (entry_at cache.now hash.now.bytes) (was_out (split result))
         (T.state tree.old) (T.state tree.new) }
 {
