@@ -8,7 +8,7 @@ use Rattle.vk_entry.specs.Packages.{File, IsPackagePath}
 use Rattle.vk_publish.specs.Entries.{AreApart}
 
 -- a package's path is `.` and its parts
-package_key : (path : Path) → IsPath path → IsPackagePath path → path ≡ (46 ∷ []) ∷ parts_of path
+pub package_key : (path : Path) → IsPath path → IsPackagePath path → path ≡ (46 ∷ []) ∷ parts_of path
 package_key path is fits = sym (key_again path is) ∙ rw (fits.unrooted, fits.level) refl
 
 -- where no path begins another, no file lies below another

@@ -8,3 +8,4 @@ pub mod AsideKept
 pub mod SharedLemmas
 pub mod SharedPublish
 pub mod Conditions
+pub mod FoundLemmas

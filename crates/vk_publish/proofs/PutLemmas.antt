@@ -63,6 +63,16 @@ put_bare xs q some = elim (put_some xs bare q some) [
   | inr x ↦ x
 ]
 
+pub put_says : (xs : List Placed) (d : Disk) (q : Path) (bytes : List ℕ) → put_all xs d q ≡ Some bytes → (d q ≡ Some bytes) ⊎ ((x : Placed) × Contains xs x × (q ≡ x.0) × (bytes ≡ x.1))
+put_says [] d q bytes is = inl is
+put_says (x ∷ xs) d q bytes is = elim (put_says xs (put x.0 x.1 d) q bytes is) [
+  | inl old ↦ elim (same_or_other q x.0) [
+    | inl same ↦ inr (x, contains_first x xs, same, (let both : Some bytes ≡ Some x.1 = sym old ∙ put_here x.0 q x.1 d same in (cc)))
+    | inr other ↦ inl (sym (put_other x.0 q x.1 d other) ∙ old)
+  ]
+  | inr y ↦ inr (y.0, contains_later x y.0 xs y.1, y.2, y.3)
+]
+
 -- what stands goes on, and what was put stands
 put_keeps : (xs : List Placed) (d : Disk) (q : Path) → IsSome (d q) → IsSome (put_all xs d q)
 put_keeps [] d q some = some
@@ -84,7 +94,7 @@ put_has (y ∷ xs) x d has = elim (contains_cases y x xs has) [
 abbrev pub ArePlacedApart : List Placed → Type 0
 ArePlacedApart files = (x y : Placed) → Contains files x → Contains files y → (part : List ℕ) (rest : Path) → y.0 ≡ x.0 ++ part ∷ rest → ⊥
 
-placed_of : (files : List File) (x : Placed) → Contains (map placed_file files) x → (f : File) × Contains files f × (x ≡ placed_file f)
+pub placed_of : (files : List File) (x : Placed) → Contains (map placed_file files) x → (f : File) × Contains files f × (x ≡ placed_file f)
 placed_of [] x has = absurd (contains_nothing x has)
 placed_of (g ∷ files) x has = elim (contains_cases (placed_file g) x (map placed_file files) has) [
   | inl same ↦ (g, contains_first g files, sym same)
@@ -97,7 +107,7 @@ pub record IsLast (x : Placed) : Type 0 where
   pub path : x.0 ≡ part ∷ []
   pub other : part ≡ codes "files" → ⊥
 
-last_of : (text : List ℕ) (files : List File) (x : Placed) → Contains (last_files text files) x → IsLast x
+pub last_of : (text : List ℕ) (files : List File) (x : Placed) → Contains (last_files text files) x → IsLast x
 last_of text files x has = elim (contains_cases (contents_at [], contents_text (map content_of files)) x ((text_at [], text) ∷ []) has) [
   | inl same ↦ record { part = codes "contents.txt"; path = ap (λ y. y.0) (sym same); other = λ e. (let h : 99 ≡ 102 = ap (λ l. get_or l 0 0) e in absurd (omega (arith, h))) }
   | inr later ↦ elim (contains_cases (text_at [], text) x [] later) [

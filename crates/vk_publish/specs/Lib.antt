@@ -5,6 +5,7 @@ pub mod Publish
 pub mod Aside
 pub mod Outcomes
 pub mod Shared
+pub mod Found
 -- what functions say besides
 pub mod PublishMachine
 pub mod AsideMachine
