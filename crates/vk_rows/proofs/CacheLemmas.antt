@@ -7,10 +7,9 @@ use Rattle.std.proofs.lemmas.List.Elements.{Contains-append_cases}
 use Rattle.vk_spec.specs.Paths.{Path, Begins}
 use Rattle.vk_spec.specs.Files.{Files, HasRoomFor}
 use Rattle.vk_spec.specs.Standing.{disk_of}
-use Rattle.vk_spec.proofs.ListLemmas.{contains_nothing}
+use Rattle.vk_spec.proofs.ListLemmas.{contains_cases, contains_nothing}
 use Rattle.vk_base.specs.Paths.{parts_of}
 use Rattle.vk_entry.specs.Packages.{File}
-use Rattle.vk_resolution.proofs.Members.{contains_single}
 use Rattle.vk_publish.specs.Entries.{AreApart}
 use Rattle.vk_publish.specs.Outcomes.{IsClear}
 
@@ -40,7 +39,10 @@ module _ {A B : Type 0} (view : A → B) (P : B → Type 0) (xs : List A) (n : �
       let longer : take (n + 1) xs ≡ take n xs ++ x ∷ [] = take_more xs n x within ∙ ap (λ z. take n xs ++ z ∷ []) (sym is) in
       elim (Contains-append_cases (map view (take n xs)) (view x ∷ []) y (subst (λ l. Contains l y) (ap (map view) longer ∙ map-append view (take n xs) (x ∷ [])) h)) [
         | inl front ↦ before y front
-        | inr last ↦ subst P (contains_single (view x) y last) here
+        | inr last ↦ elim (contains_cases (view x) y [] last) [
+          | inl same ↦ subst P same here
+          | inr none ↦ absurd (contains_nothing y none)
+        ]
       ]
 
   pub all_done : length xs ≤ n → ((y : B) → Contains (map view (take n xs)) y → P y) → (y : B) → Contains (map view xs) y → P y
