@@ -16,7 +16,8 @@ use Rattle.vk_walk.proofs.WalkAsks.{walk_lists}
 use Rattle.vk_entry.specs.Contents.{Content}
 use Rattle.vk_look.specs.LookIs.{Wanted, places_of}
 use Rattle.vk_look.specs.Looks.{damaged, look_of, look_stands, look_kept, look_contents, look_listed, look_compared, look_found, look_files, list_told, look_file, keeps, no_files, looked}
-use Rattle.vk_look.specs.LookCalls.{ReadsBelow, AsksFirst}
+use Rattle.vk_protocol.specs.Below.{ReadsBelow}
+use Rattle.vk_look.specs.LookCalls.{AsksFirst}
 use Rattle.vk_entry.specs.Differences.{difference_of}
 use Rattle.vk_entry.specs.declared.differences.Difference.{Difference}
 use Rattle.vk_look.specs.declared.answers.Harm.TheVariants.{Text}

@@ -15,16 +15,9 @@ use Rattle.vk_base.specs.declared.stops.Outage.TheVariants.{Failed, Memory}
 use Rattle.vk_protocol.specs.Protocols.{Protocol, Reply, answer_of, ends, asks}
 use Rattle.vk_protocol.specs.Runs.{AsksOnly, Reads, Ran, Stops, StopsAt}
 use Rattle.vk_protocol.proofs.RunLemmas.{reply_calm, end_calm}
-use Rattle.vk_look.specs.LookCalls.{ReadsBelow, ReadsNone, with_read, ReadsAnew, ReadOnceBelow}
-
-pub reads_below : (place : Path) (call : Call) → ReadsBelow place call → Reads call
-reads_below place (kind_of p) h = refl
-reads_below place (read_of p limit) h = refl
-reads_below place (piece_of p at most) h = refl
-reads_below place (list_of p) h = refl
-reads_below place (write_of p bytes) h = absurd h
-reads_below place (rename_of a b) h = absurd h
-reads_below place (remove_of p) h = absurd h
+use Rattle.vk_protocol.specs.Below.{ReadsBelow}
+use Rattle.vk_protocol.proofs.BelowLemmas.{reads_below}
+use Rattle.vk_look.specs.LookCalls.{ReadsNone, with_read, ReadsAnew, ReadOnceBelow}
 
 module _ (place : Path) where
   -- paths at the place or below it, none twice, and none of those that were read before

@@ -8,16 +8,6 @@ use Rattle.vk_spec.specs.Calls.{Call, kind_of, read_of, piece_of, list_of, write
 use Rattle.vk_protocol.specs.Protocols.{Protocol, Reply, ends, asks}
 use Rattle.vk_protocol.specs.Runs.{IsAtEnd}
 
--- a call that reads at a path or below it
-abbrev pub ReadsBelow : Path → Call → Type 0
-ReadsBelow place (kind_of p) = Begins place p
-ReadsBelow place (read_of p limit) = Begins place p
-ReadsBelow place (piece_of p at most) = Begins place p
-ReadsBelow place (list_of p) = Begins place p
-ReadsBelow place (write_of p bytes) = ⊥
-ReadsBelow place (rename_of a b) = ⊥
-ReadsBelow place (remove_of p) = ⊥
-
 -- it is asked first what stands at the path, and nothing more where nothing does
 pub record AsksFirst {A : Type 0} (place : Path) (p : Protocol A) : Type 0 where
   pub next : Reply (kind_of place) → Protocol A

@@ -2,10 +2,11 @@
 ghost use Rattle.std.specs.Prelude.{◌≡◌, []};
 ghost use Rattle.vk_spec.specs.Standing.{Disk};
 ghost use Rattle.vk_tree.specs.Trees.{IsTreeDisk};
+ghost use Rattle.vk_protocol.specs.Below.{ReadsBelow};
 ghost use Rattle.vk_protocol.specs.Runs.{AsksOnly, Reads, Tells};
 ghost use Rattle.vk_look.specs.LookIs.{LookIs, Wanted};
 ghost use Rattle.vk_look.specs.Looks.{IsByBytes, Looked, look_of};
-ghost use Rattle.vk_look.specs.LookCalls.{AsksFirst, ComesTo, ReadsAnew, ReadsBelow};
+ghost use Rattle.vk_look.specs.LookCalls.{AsksFirst, ComesTo, ReadsAnew};
 
 /// What the calls of a look come to, over files that stay, is what these files say.
 pub fn a_look_tells_what_the_files_say()

@@ -16,7 +16,7 @@ use vk_base::{Limit, Outage, Stop, TreePath};
 use vk_digest::Digest;
 use vk_look::Look;
 use vk_places::entry_in;
-use vk_protocol::run;
+use vk_protocol::{joined, run};
 use vk_tree::Tree;
 
 // All calls of a look.
@@ -58,18 +58,6 @@ fn look_in<T: Tree>(
         most,
     };
     look_for(alloc, wanted, tree)
-}
-
-// A limit that was passed, beside why there is no answer.
-fn joined(found: Result<Result<Look, Limit>, Outage>) -> Result<Look, Stop<Limit>>
-    ensures { split result ≡ found }
-{
-    match found {
-        Ok(Ok(look)) => Ok(look),
-        Ok(Err(limit)) => Err(Stop::Fault(limit)),
-        Err(Outage::Failed) => Err(Stop::Failed),
-        Err(Outage::Memory(memory)) => Err(Stop::Memory(memory)),
-    }
 }
 
 /// What a cache has for a text with this digest. `Bytes` comes exactly where it is a valid entry

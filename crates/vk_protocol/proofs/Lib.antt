@@ -3,3 +3,4 @@ pub mod RunLemmas
 pub mod KeepLemmas
 pub mod TurnLemmas
 pub mod KeptRuns
+pub mod BelowLemmas

@@ -24,6 +24,18 @@ fn split<A, F>(found: Result<A, Stop<F>>) -> Result<Result<A, F>, Outage>
     }
 }
 
+/// What a run came to, as one answer.
+pub fn joined<A, F>(came: Result<Result<A, F>, Outage>) -> Result<A, Stop<F>>
+    ensures { split result ≡ came }
+{
+    match came {
+        Ok(Ok(answer)) => Ok(answer),
+        Ok(Err(fault)) => Err(Stop::Fault(fault)),
+        Err(Outage::Failed) => Err(Stop::Failed),
+        Err(Outage::Memory(memory)) => Err(Stop::Memory(memory)),
+    }
+}
+
 /// What stands at a path.
 pub fn ask_kind<T: Tree>(tree: &mut T, path: &TreePath) -> Result<Kind, Outage>
     ensures { Asked (kind_of path.now) KindSays result (T.state tree.old) (T.state tree.new) }

@@ -1,8 +1,4 @@
 //! What a publishing, and a setting aside, came to.
-ghost use Rattle.std.specs.Prelude.{◌≡◌};
-ghost use Rattle.vk_protocol.specs.Asking.{split};
-
-use vk_base::{Limit, Outage, Stop};
 
 /// What a publishing came to.
 #[derive(Clone, Copy, Debug, PartialEq, Eq)]
@@ -24,16 +20,4 @@ pub enum Moved {
     Gone,
     /// Something stood already where it was to be moved.
     Taken,
-}
-
-/// What a run came to, as one answer.
-pub(crate) fn joined<A>(came: Result<Result<A, Limit>, Outage>) -> Result<A, Stop<Limit>>
-    ensures { split result ≡ came }
-{
-    match came {
-        Ok(Ok(answer)) => Ok(answer),
-        Ok(Err(over)) => Err(Stop::Fault(over)),
-        Err(Outage::Failed) => Err(Stop::Failed),
-        Err(Outage::Memory(memory)) => Err(Stop::Memory(memory)),
-    }
 }

@@ -16,14 +16,14 @@ ghost use Rattle.vk_publish.specs.Aside.{aside_of, moved_by};
 ghost use Rattle.vk_publish.specs.AsideMachine.{move_left, aside_left, aside_whole};
 ghost use Rattle.vk_publish.specs.declared.asides.AsideNow.TheVariants as next;
 
-use crate::answers::{Moved, joined};
+use crate::answers::Moved;
 use crate::jobs::Target;
 use crate::names::{free_number, known};
 use std::alloc::Global;
 use vk_base::{Limit, List, Memory, Outage, Stop, TreePath};
 use vk_digest::Digest;
 use vk_places::{damaged_folder, damaged_in, entry_in};
-use vk_protocol::{Machine, ask_list, ask_rename, run};
+use vk_protocol::{Machine, ask_list, ask_rename, joined, run};
 use vk_tree::{ListFault, Listed, MoveFault, Tree};
 
 /// What a setting aside does next.

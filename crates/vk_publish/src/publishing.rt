@@ -21,7 +21,7 @@ ghost use Rattle.vk_publish.specs.Outcomes.{Between, IsClear, PublishKeeps, Publ
 ghost use Rattle.vk_publish.specs.PublishMachine.{whole_of, write_left, files_left, goes_on};
 ghost use Rattle.vk_publish.specs.PublishMachine.{publish_left, write_call};
 
-use crate::answers::{Published, joined};
+use crate::answers::Published;
 use crate::jobs::{PublishJob, Target};
 use crate::names::{free_number, known};
 use std::alloc::Global;
@@ -29,7 +29,7 @@ use vk_base::{Limit, List, Memory, Outage, Stop, TreePath};
 use vk_digest::Digest;
 use vk_entry::{Package, PackageFile, contents_of, write_contents};
 use vk_places::{contents_in, entry_in, file_in, text_in, tmp_folder, tmp_in};
-use vk_protocol::{Machine, ask_list, ask_rename, ask_write, run};
+use vk_protocol::{Machine, ask_list, ask_rename, ask_write, joined, run};
 use vk_tree::{ListFault, Listed, MoveFault, Tree};
 
 /// What a publishing does next.

@@ -8,5 +8,5 @@ mod walking;
 mod walks;
 
 pub use laws::{a_walk_only_lists, a_walk_tells_the_files};
-pub use walking::{WalkFault, walk};
+pub use walking::{WalkFault, in_order_of_texts, seen_from, walk};
 pub use walks::{Walk, WalkLimit, found_by};

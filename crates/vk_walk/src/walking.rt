@@ -50,8 +50,12 @@ pub fn walk<T: Tree>(
     Ok(in_order_of_texts(seen))
 }
 
-// Paths as they are seen from a folder, for those that it begins.
-fn seen_from(alloc: Global, folder: &TreePath, paths: &[TreePath]) -> Result<List<TreePath>, Memory>
+/// Paths as they are seen from a folder, for those that it begins.
+pub fn seen_from(
+    alloc: Global,
+    folder: &TreePath,
+    paths: &[TreePath],
+) -> Result<List<TreePath>, Memory>
     ensures { IfOk result (AreSeen folder.now paths.now) }
 {
     let mut seen = List::new(alloc);
@@ -63,7 +67,8 @@ fn seen_from(alloc: Global, folder: &TreePath, paths: &[TreePath]) -> Result<Lis
     Ok(seen)
 }
 
-fn in_order_of_texts(paths: List<TreePath>) -> List<TreePath>
+/// Paths in the order of their texts. Takes no memory.
+pub fn in_order_of_texts(paths: List<TreePath>) -> List<TreePath>
     ensures moved { IsPermutation paths result }
     ensures order { IsSorted text_order result }
 {
