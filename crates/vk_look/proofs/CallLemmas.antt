@@ -22,7 +22,7 @@ use Rattle.vk_entry.specs.Differences.{difference_of}
 use Rattle.vk_entry.specs.declared.differences.Difference.{Difference}
 use Rattle.vk_look.specs.declared.answers.Harm.TheVariants.{Text}
 use Rattle.vk_look.proofs.PlaceTests.{if_case}
-use Rattle.vk_look.proofs.OnceRuns.{reads_below}
+use Rattle.vk_protocol.proofs.BelowLemmas.{reads_below}
 
 -- listing is reading
 lists_below : (place : Path) (call : Call) → ListsIn place call → ReadsBelow place call

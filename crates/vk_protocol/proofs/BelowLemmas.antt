@@ -1,14 +1,13 @@
 -- What is only read in one place comes to the same over files that agree there.
 use Rattle.std.proofs.Common.{◌≡◌, ◌++◌, [], ◌∷◌, ℕ, List, true, false, refl, ap, sym, ◌∙◌, subst, append_assoc}
-use Rattle.std.specs.Prelude.{IsSome, Bool, Result, Ok, Err}
-use Rattle.std.specs.List.{Contains}
+use Rattle.std.specs.Prelude.{IsSome, Bool, Ok, Err}
 use Rattle.vk_spec.specs.Paths.{Path, Begins}
-use Rattle.vk_spec.specs.Standing.{Disk, under, Same, IsFile, IsFolder, Entry, IsAs, AreEntries, IsListing}
+use Rattle.vk_spec.specs.Standing.{Disk, under, Same, IsFolder, Entry, IsAs, AreEntries, IsListing}
 use Rattle.vk_spec.specs.Calls.{Call, Kind, is_file, is_folder, is_absent, kind_of, read_of, piece_of, list_of, write_of, rename_of, remove_of, missing, too_large, exists, many, Says}
 use Rattle.vk_tree.specs.Trees.{IsTreeDisk}
 use Rattle.vk_protocol.specs.Below.{ReadsBelow}
 use Rattle.vk_protocol.specs.Protocols.{Reply, answer_of, Protocol, ends, asks}
-use Rattle.vk_protocol.specs.Runs.{AsksOnly, Reads, Replies, Tells}
+use Rattle.vk_protocol.specs.Runs.{AsksOnly, Reads, Tells}
 
 pub reads_below : (place : Path) (call : Call) → ReadsBelow place call → Reads call
 reads_below place (kind_of p) h = refl

@@ -6,6 +6,7 @@
 mod asking;
 mod machines;
 
-pub use asking::{ask_kind, ask_list, ask_piece, ask_read, ask_remove, ask_rename, ask_write};
-pub use asking::joined;
+pub use asking::{
+    ask_kind, ask_list, ask_piece, ask_read, ask_remove, ask_rename, ask_write, joined,
+};
 pub use machines::{Machine, run};

@@ -1,0 +1,4 @@
+pub mod SeveralReads
+pub mod SeveralLooks
+pub mod SeveralItems
+pub mod SeveralLaw
