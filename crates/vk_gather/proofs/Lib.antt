@@ -1,1 +1,9 @@
 pub mod GatherAsks
+pub mod SeenInOrder
+pub mod FolderSeen
+pub mod GatherTells
+pub mod SeenLemmas
+pub mod SeenSteps
+pub mod GatherSteps
+pub mod GatherCan
+pub mod OneGathering
