@@ -2,3 +2,13 @@ pub mod SeveralReads
 pub mod SeveralLooks
 pub mod SeveralItems
 pub mod SeveralLaw
+pub mod AskedFirst
+pub mod FewFiles
+pub mod AloneReads
+pub mod AlonePlaces
+pub mod AloneKept
+pub mod AloneAside
+pub mod AloneItems
+pub mod AloneDone
+pub mod AloneLaw
+pub mod OneMaking

@@ -1,7 +1,8 @@
 -- All packages of an installer, and several of them, whatever the turns of their calls.
-use Rattle.std.proofs.Common.{◌≡◌, ◌≢◌, ◌++◌, [], ◌∷◌, ℕ, List, length, length-append, append_assoc, refl, ap, sym, ◌∙◌, subst, arith}
+use Rattle.std.proofs.Common.{◌≡◌, ◌≢◌, inl, inr, ◌++◌, [], ◌∷◌, ℕ, List, length, length-append, append_assoc, refl, ap, sym, ◌∙◌, subst, arith}
 use Rattle.std.specs.Prelude.{Bool, Option, Some, None, Result, Ok, Err, slice_get}
 use Rattle.std.specs.List.{Contains}
+use Rattle.std.proofs.lemmas.Bool.{cases_eq}
 use Rattle.std.proofs.lemmas.List.{append-nil}
 use Rattle.std.proofs.lemmas.List.Elements.{Contains-append_right}
 use Rattle.vk_spec.specs.Paths.{Path}
@@ -13,8 +14,9 @@ use Rattle.vk_walk.specs.Walks.{IsCalm}
 use Rattle.vk_walk.specs.Walked.{walk_limits}
 use Rattle.vk_entry.specs.Packages.{File}
 use Rattle.vk_protocol.specs.Keeps.{AreTerms}
-use Rattle.vk_protocol.specs.Protocols.{ends, each, on_ok}
-use Rattle.vk_protocol.specs.Turns.{Left, goes, AllKeep, GoTogether, LeftKeeps}
+use Rattle.vk_protocol.specs.Protocols.{Protocol, ends, asks, each, on_ok}
+use Rattle.vk_protocol.specs.Runs.{CanAsk}
+use Rattle.vk_protocol.specs.Turns.{Left, goes, stopped, AllKeep, GoTogether, LeftKeeps, Turns}
 use Rattle.vk_protocol.proofs.TurnLemmas.{turns_keep}
 use Rattle.vk_publish.specs.Entries.{entry_files, HoldsJust}
 use Rattle.vk_publish.specs.Shared.{Pair, Effect, IsSound, Later}
@@ -22,7 +24,7 @@ use Rattle.vk_publish.proofs.SharedLemmas.{effect_later, shared_terms, sound_kep
 use Rattle.vk_make.specs.declared.answers.MakeEnd.{MakeEnd}
 use Rattle.vk_make.specs.declared.answers.MakeItems.{MakeItems}
 use Rattle.vk_make.specs.Makes.{Task, Work, OneMade, Have, AllMade, next_item, add_item, make_one, make_of, Planned, has_digest, planned_after, none_yet, item_of, items_in}
-use Rattle.vk_make.specs.Several.{Installer, work_of, Agrees, IsMeant, IsPrepared, SeveralMake}
+use Rattle.vk_make.specs.Several.{Installer, work_of, Agrees, AreInstallers, AtStart, IsMeant, IsPrepared, SeveralMake, StaysWhole}
 use Rattle.vk_make.proofs.SeveralReads.{IsKept}
 use Rattle.vk_make.proofs.SeveralItems.{HasBuilt, IsMeantFor, then_kept, item_kept}
 
@@ -150,21 +152,64 @@ module _ (all : List Pair) (cache : Path) where
   done_of : (i : Installer) (o : Option Installer) (made : MakeItems) (g : Files) → o ≡ Some i → IsSound all cache (disk_of g) → LeftIs o (goes (ends (Ok made))) g → made.packages ≡ i.packages
   done_of i o made g is sound keeps = subst (λ p. LeftIs p (goes (ends (Ok made))) g) is keeps g ((terms_of (Some i)).nothing g sound)
 
+some_left : (m n : Left AllMade) (o : Option (Left AllMade)) → o ≡ Some m → o ≡ Some n → m ≡ n
+some_left m n o one other = (cc)
+
+-- so far: the cache is whole, and each keeps what it has to
+abbrev pub AreKept : List Pair → Path → List Installer → Files → List (Left AllMade) → Type 0
+AreKept all cache who f lefts = AllKeep (λ v. Meanwhile all cache (slice_get who v)) (λ v. Doing all cache (slice_get who v)) (λ f. IsSound all cache (disk_of f)) (λ v. Comes all cache (slice_get who v)) f lefts
+
+module _ (all : List Pair) (cache : Path) (who : List Installer) where
+  begun : ((text : List ℕ) (built : List File) → IsMeant built → (entry : Path) (d : Disk) → IsTreeDisk d → HoldsJust (entry_files text built) entry d → IsCalm walk_limits d entry) → Agrees all → AreInstallers all who
+      → (f : Files) → IsSound all cache (disk_of f) → (v : ℕ) (i : Installer) (left : Left AllMade) → slice_get who v ≡ Some i → left ≡ goes (make_of (work_of cache i) i.tasks) → LeftIs all cache (slice_get who v) left f
+  begun calm_by agrees are f sound v i left is left_is =
+      subst (λ o. LeftIs all cache o left f) (sym is)
+      (subst (λ l. LeftIs all cache (Some i) l f) (sym left_is) (make_kept calm_by all cache i agrees (are.each v i is) f sound))
+
+  together : AreInstallers all who → GoTogether (λ v. Meanwhile all cache (slice_get who v)) (λ v. Doing all cache (slice_get who v)) (λ f. IsSound all cache (disk_of f))
+  together are = record {
+    each = λ v. terms_of all cache (slice_get who v);
+    apart = λ v other not_v f g holds eff tree. apart_of all cache (slice_get who v) (slice_get who other) f g (λ i j i_is j_is. are.apart other v j i not_v j_is i_is) holds eff tree;
+  }
+
+  -- it is so at the start
+  pub kept_start : ((text : List ℕ) (built : List File) → IsMeant built → (entry : Path) (d : Disk) → IsTreeDisk d → HoldsJust (entry_files text built) entry d → IsCalm walk_limits d entry) → Agrees all → AreInstallers all who
+      → (f : Files) (before : List (Left AllMade)) → AtStart cache who before → IsSound all cache (disk_of f) → AreKept all cache who f before
+  kept_start calm_by agrees are f before starts sound = record {
+    holds = sound;
+    keep = λ v left is. (let at = starts v left is in begun calm_by agrees are f sound v at.0 left at.1 at.2);
+  }
+
+  -- and after any turns
+  pub kept_turns : AreInstallers all who → (turns : ℕ) (f g : Files) (before after : List (Left AllMade)) → AreKept all cache who f before → Turns turns f before g after → AreKept all cache who g after
+  kept_turns are turns f g before after kept ran = turns_keep AllMade (λ v. Meanwhile all cache (slice_get who v)) (λ v. Doing all cache (slice_get who v)) (λ f. IsSound all cache (disk_of f)) (λ v. Comes all cache (slice_get who v)) (together are) turns f g before after kept ran
+
+  -- and where one stops that has done nothing, and the others stay as they were
+  pub kept_stop : (g : Files) (before after : List (Left AllMade)) (w : ℕ) → slice_get after w ≡ Some stopped → ((other : ℕ) → other ≢ w → slice_get after other ≡ slice_get before other) → AreKept all cache who g before → AreKept all cache who g after
+  kept_stop g before after w is others kept = record {
+    holds = kept.holds;
+    keep = λ v left left_is. elim (cases_eq v w) [
+      | inl same ↦ (subst (λ l. LeftIs all cache (slice_get who v) l g) (some_left stopped left (slice_get after v) (ap (slice_get after) same ∙ is) left_is) tt)
+      | inr other ↦ (kept.keep v left (sym (others v other) ∙ left_is))
+    ];
+  }
+
+  -- and where nobody did anything
+  pub kept_same : (g : Files) (before after : List (Left AllMade)) → ((v : ℕ) → slice_get after v ≡ slice_get before v) → AreKept all cache who g before → AreKept all cache who g after
+  kept_same g before after same kept = record { holds = kept.holds; keep = λ v left is. kept.keep v left (sym (same v) ∙ is) }
+
+  -- so the law holds
+  pub kept_whole : (g : Files) (lefts : List (Left AllMade)) → AreKept all cache who g lefts → StaysWhole all cache who g lefts
+  kept_whole g lefts kept = record { whole = kept.holds; done = λ v i made is left. done_of all cache i (slice_get who v) made g is kept.holds (kept.keep v (goes (ends (Ok made))) left) }
+
+  keeps_can : (o : Option Installer) (p : Protocol AllMade) (g : Files) → IsSound all cache (disk_of g) → LeftIs all cache o (goes p) g → CanAsk p (disk_of g)
+  keeps_can o (ends x) g sound keeps = tt
+  keeps_can o (asks call k) g sound keeps = (keeps g ((terms_of all cache o).nothing g sound)).0
+
+  -- the next call of each may be made
+  pub kept_can : (g : Files) (lefts : List (Left AllMade)) (v : ℕ) (p : Protocol AllMade) → AreKept all cache who g lefts → slice_get lefts v ≡ Some (goes p) → CanAsk p (disk_of g)
+  kept_can g lefts v p kept is = keeps_can (slice_get who v) p g kept.holds (kept.keep v (goes p) is)
+
 pub several_make_by : ((text : List ℕ) (built : List File) → IsMeant built → (entry : Path) (d : Disk) → IsTreeDisk d → HoldsJust (entry_files text built) entry d → IsCalm walk_limits d entry) → SeveralMake
 several_make_by calm_by all cache who turns f g before after agrees are starts sound ran =
-    record { whole = kept.holds; done = λ v i made is left. done_of all cache i (slice_get who v) made g is kept.holds (kept.keep v (goes (ends (Ok made))) left) }
-  where
-    together : GoTogether (λ v. Meanwhile all cache (slice_get who v)) (λ v. Doing all cache (slice_get who v)) (λ f. IsSound all cache (disk_of f))
-    together = record {
-      each = λ v. terms_of all cache (slice_get who v);
-      apart = λ v other not_v f g holds eff tree. apart_of all cache (slice_get who v) (slice_get who other) f g (λ i j i_is j_is. are.apart other v j i not_v j_is i_is) holds eff tree;
-    }
-
-    begun : (v : ℕ) (i : Installer) (left : Left AllMade) → slice_get who v ≡ Some i → left ≡ goes (make_of (work_of cache i) i.tasks) → LeftIs all cache (slice_get who v) left f
-    begun v i left is left_is =
-        subst (λ o. LeftIs all cache o left f) (sym is)
-        (subst (λ l. LeftIs all cache (Some i) l f) (sym left_is) (make_kept calm_by all cache i agrees (are.each v i is) f sound))
-
-    kept : AllKeep (λ v. Meanwhile all cache (slice_get who v)) (λ v. Doing all cache (slice_get who v)) (λ f. IsSound all cache (disk_of f)) (λ v. Comes all cache (slice_get who v)) g after
-    kept = turns_keep AllMade (λ v. Meanwhile all cache (slice_get who v)) (λ v. Doing all cache (slice_get who v)) (λ f. IsSound all cache (disk_of f)) (λ v. Comes all cache (slice_get who v)) together turns f g before after
-        (record { holds = sound; keep = λ v left is. (let at = starts v left is in begun v at.0 left at.1 at.2) }) ran
+    kept_whole all cache who g after (kept_turns all cache who are turns f g before after (kept_start all cache who calm_by agrees are f before starts sound) ran)

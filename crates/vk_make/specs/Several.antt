@@ -1,16 +1,14 @@
 -- Several installers on one cache, whatever the turns of their calls.
-use Rattle.std.specs.Prelude.{◌≡◌, ◌≢◌, ℕ, List, length, Some, Ok, slice_get}
+use Rattle.std.specs.Prelude.{◌≡◌, ◌≢◌, ◌≤◌, ℕ, List, length, Some, Ok, slice_get}
 use Rattle.std.specs.List.{Contains}
 use Rattle.sha2.specs.Sha256.{sha256}
 use Rattle.vk_spec.specs.Paths.{Path}
 use Rattle.vk_spec.specs.Files.{Files}
-use Rattle.vk_spec.specs.Standing.{Disk, disk_of}
+use Rattle.vk_spec.specs.Standing.{disk_of}
 use Rattle.vk_entry.specs.Packages.{File}
 use Rattle.vk_protocol.specs.Protocols.{ends}
 use Rattle.vk_protocol.specs.Turns.{Left, goes, Turns}
-use Rattle.vk_walk.specs.Walks.{IsCalm}
-use Rattle.vk_walk.specs.Walked.{walk_limits}
-use Rattle.vk_publish.specs.Entries.{AreApart, HoldsJust, entry_files}
+use Rattle.vk_publish.specs.Entries.{AreApart}
 use Rattle.vk_publish.specs.Found.{IsTellable}
 use Rattle.vk_publish.specs.Shared.{Pair, IsSound}
 use Rattle.vk_make.specs.declared.answers.MakeItems.{MakeItems}
@@ -34,11 +32,11 @@ work_of cache i = record { cache = cache; agent = i.agent; most = i.most; suppli
 abbrev pub Agrees : List Pair → Type 0
 Agrees all = (one other : Pair) → Contains all one → Contains all other → sha256 one.0 ≡ sha256 other.0 → one ≡ other
 
--- a package whose entry a look takes for whole: a contents list can tell it, none of its files lies below another, and a walk of its entry passes no limit
+-- a package whose entry a look takes for whole: a contents list can tell it, none of its files lies below another, and there are at most 50,000
 pub record IsMeant (built : List File) : Type 0 where
   pub tellable : IsTellable built
   pub apart : AreApart built
-  pub calm : (text : List ℕ) (entry : Path) (d : Disk) → HoldsJust (entry_files text built) entry d → IsCalm walk_limits d entry
+  pub few : length built ≤ 50000
 
 -- each task has the digest of its text, and a package is meant for it; the two are one of these pairs
 pub record IsPrepared (all : List Pair) (i : Installer) : Type 0 where
