@@ -12,7 +12,7 @@ ghost use Rattle.vk_make.specs.declared.answers.MakeEnd.TheVariants.{Refused};
 ghost use Rattle.vk_make.specs.Makes.{Planned, Supplies, Work, make_from, make_of, next_item};
 ghost use Rattle.vk_make.specs.Makes.{none_yet, supplied, with_item};
 ghost use Rattle.vk_shared.specs.Tasks.{task_view};
-ghost use Rattle.vk_shared.specs.Stocks.{made_view};
+ghost use Rattle.vk_shared.specs.Stocks.{GrowsTo, made_view};
 ghost use Rattle.vk_shared.specs.ItemMachine.{IsNoEarlier, after_waiting, item_left, next_left};
 ghost use Rattle.vk_shared.specs.ItemMachine.{job_item, job_work, next_waits};
 ghost use Rattle.vk_shared.specs.MakeMachine.{CanGo, GoesOn, GoesTo, IsWaiting, MakesOn};
@@ -180,7 +180,7 @@ fn take(later: &mut Tasks, have: &mut Stock, made: MadePackage) -> Result<MakeNo
         ≡ goes (make_from w later.old (with_item have.old (made_view made)))) }
     ensures waits { IfOk result (λ at. length have.old.items.packages + 1
         ≤ waits_from_at (length have.new.items.packages) at) }
-    ensures grows { length have.old.items.packages ≤ length have.new.items.packages }
+    ensures grows { GrowsTo have.old.items.packages have.new.items.packages }
 {
     have.add(made)?;
     Ok(begin_next(later, have))
@@ -197,7 +197,7 @@ fn follow(
         ≡ goes (then_later w later.old have.old (next_left w (next_item (task_view task) have.old) next))) }
     ensures waits { IfOk result (λ at. next_waits (length have.old.items.packages) next
         ≤ waits_from_at (length have.new.items.packages) at) }
-    ensures grows { length have.old.items.packages ≤ length have.new.items.packages }
+    ensures grows { GrowsTo have.old.items.packages have.new.items.packages }
 {
     match next {
         ItemNext::Goes(at) => Ok(MakeNow::Makes { task, at }),
@@ -230,7 +230,7 @@ fn make_call<T: Tree>(
         (T.state tree.new) }
     ensures waits { IfOk result (λ next. after_waiting (length have.old.items.packages) at
         ≤ waits_from_at (length have.new.items.packages) next) }
-    ensures grows { length have.old.items.packages ≤ length have.new.items.packages }
+    ensures grows { GrowsTo have.old.items.packages have.new.items.packages }
 {
     match item_call(shop, have, &task, at, tree) {
         Ok(next) => Ok(follow(later, have, task, next)?),
@@ -288,7 +288,8 @@ impl Making {
         ensures fewer { IfOk result (λ next. self.new.left + 1 ≡ calls_left self.old) }
         ensures waits { IfOk result (λ next. waits_from self.old
             ≤ waits_from_at (place_of self.new) next) }
-        ensures grows { waits_from self.old ≤ place_of self.new + 1 }
+        ensures within { waits_from self.old ≤ place_of self.new + 1 }
+        ensures grows { GrowsTo (packages_of self.old) (packages_of self.new) }
     {
         match mem::replace(&mut self.at, MakeNow::Done) {
             MakeNow::Makes { task, at } => {
@@ -317,6 +318,7 @@ impl Making {
             (make_left s self.new) (T.state tree.old) (T.state tree.new) }
         ensures fewer { IfOk result (λ u. calls_left self.new + 1 ≡ calls_left self.old) }
         ensures waits { waits_from self.old ≤ waits_from self.new }
+        ensures packages { GrowsTo (packages_of self.old) (packages_of self.new) }
         ensures end { IfErr result (λ e. end_of self.new ≡ Some (stop_of e)) }
     {
         match self.go_on(tree) {

@@ -2,7 +2,7 @@
 ghost use Rattle.std.specs.Prelude.{◌≡◌, ◌≤◌, ◌<◌, OnOk, Some, length, map, slice_get};
 ghost use Rattle.vk_entry.specs.PackageViews.{file_view};
 ghost use Rattle.vk_make.specs.Makes.{none_yet, with_item};
-ghost use Rattle.vk_shared.specs.Stocks.{made_view, room_for};
+ghost use Rattle.vk_shared.specs.Stocks.{GrowsTo, made_view, room_for};
 
 use std::alloc::Global;
 use std::marker::Model;
@@ -97,7 +97,7 @@ impl Stock {
     // One more.
     pub(crate) fn add(&mut self, item: MadePackage) -> Result<(), Memory>
         ensures more { OnOk result (self.new ≡ with_item self.old (made_view item)) }
-        ensures grows { length self.old.items.packages ≤ length self.new.items.packages }
+        ensures grows { GrowsTo self.old.items.packages self.new.items.packages }
     {
         let Some(place) = self.place.checked_add(1) else {
             drop(item);
