@@ -1,0 +1,2 @@
+pub mod WalkBelow
+pub mod SyncBelow
